@@ -1,0 +1,16 @@
+//! The one refusal of a stream.
+
+use std::error::Error;
+use std::fmt;
+
+/// The stream failed; its count of faults rose in this call.
+#[derive(Clone, Copy, Debug, PartialEq, Eq, Hash)]
+pub struct Failed;
+
+impl fmt::Display for Failed {
+    fn fmt<W: fmt::Write>(&self, f: &mut fmt::Formatter<W>) -> fmt::Result {
+        write!(f, "the stream failed")
+    }
+}
+
+impl Error for Failed {}
