@@ -2,6 +2,7 @@
 use Rattle.std.proofs.Common.{◌≡◌, ◌≢◌, ℕ, ◌^◌, ◌<◌, ◌≤◌, Bool, true, false, List, [], ◌∷◌, ◌++◌, length, refl, sym, ap, ◌∙◌, append_assoc, append-nil, length-append, subst, inl, inr, lit<, arith}
 use Rattle.std.proofs.lemmas.Bool.{cases_lt}
 use Rattle.std.proofs.lemmas.List.{nil_from_length}
+use Rattle.urp_model.specs.Blocks.{IsBlock}
 use Rattle.urp_model.proofs.BlockLaws.{spell_block-front}
 use Rattle.urp_message.specs.Tag.{IsTag}
 use Rattle.urp_message.specs.First.{IsBuilt, request_body}
@@ -44,11 +45,14 @@ length-request_body tag (Query tid) is built =
 length-request_body tag (Twice a) is built =
     rw (request_body-twice tag a) (omega (arith, length-append tag (twice_after_tag a), is.short))
 
+-- a request is the one message of a block
+pub request_block : (tag : List ℕ) (m : First) → IsTag tag → IsBuilt m → IsBlock 1 (request_body tag m)
+request_block tag m is built = record { count_fits = lit< tt; size_fits = length-request_body tag m is built }
+
 -- one request stands at the front of bytes
 front_request : (tag : List ℕ) (m n : First) (r t : List ℕ) → IsTag tag → IsBuilt m → IsBuilt n → request tag m ++ r ≡ request tag n ++ t → (m ≡ n) × (r ≡ t)
 front_request tag m n r t is p q e =
-    let one = spell_block-front 1 1 (request_body tag m) (request_body tag n) r t
-    (record { count_fits = lit< tt; size_fits = length-request_body tag m is p }) (record { count_fits = lit< tt; size_fits = length-request_body tag n is q }) e in
+    let one = spell_block-front 1 1 (request_body tag m) (request_body tag n) r t (request_block tag m is p) (request_block tag n is q) e in
     (one_request tag m n p q one.1, one.2)
 
 -- of two talks at the front of the same bytes the longer goes on from the shorter

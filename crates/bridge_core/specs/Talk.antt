@@ -59,3 +59,9 @@ pub record Begins (tag bytes : List ℕ) (ms : List First) (rest : List ℕ) : T
 pub record IsLongest (tag bytes : List ℕ) (ms : List First) (rest : List ℕ) : Type 0 where
   pub begins : Begins tag bytes ms rest
   pub longest : (more : List First) (behind : List ℕ) → Begins tag bytes more behind → length more ≤ length ms
+
+-- some talk is the longest there
+pub record HasLongest (tag bytes : List ℕ) : Type 0 where
+  pub talk : List First
+  pub rest : List ℕ
+  pub longest : IsLongest tag bytes talk rest

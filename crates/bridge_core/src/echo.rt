@@ -1,5 +1,5 @@
 //! The end that answers on the first path: it gives its one object to who asks for it, and doubles numbers.
-ghost use Rattle.std.specs.Prelude.{◌≡◌, ◌≢◌, ◌↔◌, false, IfOk, OnOk, OnErr, IsTrue};
+ghost use Rattle.std.specs.Prelude.{◌≡◌, ◌≢◌, ◌↔◌, false, IfOk, OnErr, IsTrue};
 ghost use Rattle.urp_message.specs.Tag.{IsTag};
 ghost use Rattle.urp_message.specs.First.{IsBuilt, request_body};
 ghost use Rattle.urp_message.specs.declared.first.message.First.{First};
@@ -34,7 +34,7 @@ impl Echo {
     /// The end with this tag, to which nobody spoke yet.
     pub fn new(alloc: Global, tag: &Tag) -> Result<Echo, NoMemory>
         ensures fresh { IfOk result (λ echo. (echo.tag ≡ tag.now) × (echo.begun ≡ false)) }
-        ensures is { OnOk result (IsTag tag.now) }
+        ensures is { IsTag tag.now }
     {
         let tag = tag.copy(alloc)?;
         Ok(Echo {

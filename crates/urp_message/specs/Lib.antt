@@ -1,2 +1,3 @@
+pub mod ErrorTexts
 pub mod First
 pub mod Tag

@@ -4,6 +4,9 @@
 pub mod first;
 mod reason;
 mod tag;
+#[cfg(test)]
+mod tests;
+mod threads;
 mod tid;
 
 pub use first::{

@@ -18,6 +18,11 @@ pub enum TagError {
 }
 
 impl fmt::Display for TagError {
+    ghost use Rattle.std.specs.Prelude.{Some};
+    ghost use Rattle.urp_message.specs.ErrorTexts.{tag_error_text};
+
+    ghost output = { λ e. Some (tag_error_text e) };
+
     fn fmt<W: fmt::Write>(&self, f: &mut fmt::Formatter<W>) -> fmt::Result {
         match self {
             TagError::NoMemory => write!(f, "no memory"),
@@ -84,7 +89,8 @@ impl Tag {
 
     /// An equal tag.
     pub fn copy(&self, alloc: Global) -> Result<Tag, NoMemory>
-        ensures { IfOk result (λ tag. tag ≡ self.now) }
+        ensures same { IfOk result (λ tag. tag ≡ self.now) }
+        ensures is { IsTag self.now }
     {
         let text = String::from_str(alloc, self.text.as_str())?;
         Ok(Tag { text })

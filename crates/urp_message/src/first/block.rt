@@ -4,6 +4,7 @@ ghost use Rattle.std.specs.Int.{w32, from_be_bytes};
 ghost use Rattle.urp_model.specs.Blocks.{spell_block, IsBlock, BeginsWhole};
 
 /// The block at the front of bytes, and what stands behind it.
+#[derive(Clone, Copy, Debug)]
 pub struct FrontBlock<'a> {
     /// How many messages the block says it has.
     pub count: u32,

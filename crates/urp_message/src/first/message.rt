@@ -24,6 +24,11 @@ pub enum FirstError {
 }
 
 impl fmt::Display for FirstError {
+    ghost use Rattle.std.specs.Prelude.{Some};
+    ghost use Rattle.urp_message.specs.ErrorTexts.{first_error_text};
+
+    ghost output = { λ e. Some (first_error_text e) };
+
     fn fmt<W: fmt::Write>(&self, f: &mut fmt::Formatter<W>) -> fmt::Result {
         match self {
             FirstError::NoMemory => write!(f, "no memory"),

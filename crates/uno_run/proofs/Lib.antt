@@ -1,0 +1,4 @@
+pub mod Judging
+pub mod Running
+pub mod Serving
+pub mod WordLemmas

@@ -1,0 +1,36 @@
+//! How a run ended.
+ghost use Rattle.std.specs.Prelude.{◌≡◌};
+ghost use Rattle.uno_run.specs.Lines.{code_of};
+
+use urp_message::Reason;
+
+/// How a run ended; one line on `errors` says so, but after `Done`.
+#[derive(Clone, Copy, Debug, PartialEq, Eq, Hash)]
+pub enum Status {
+    Done,
+    /// The words are in none of the forms.
+    Words,
+    /// The input failed.
+    ReadFault,
+    /// The output failed.
+    WriteFault,
+    /// The bytes at this place of the input break the protocol.
+    Broken(Reason, u64),
+    NoMemory,
+}
+
+impl Status {
+    /// The number with which the process ends.
+    pub fn code(&self) -> u8
+        ensures { result ≡ code_of self.now }
+    {
+        match self {
+            Status::Done => 0,
+            Status::Words => 1,
+            Status::ReadFault => 4,
+            Status::WriteFault => 5,
+            Status::Broken(..) => 6,
+            Status::NoMemory => 70,
+        }
+    }
+}

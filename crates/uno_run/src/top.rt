@@ -1,0 +1,121 @@
+//! The top call.
+ghost use Rattle.std.specs.Prelude.{◌≡◌, ◌≢◌, ◌↔◌, ◌⊎◌, ◌<◌, ◌≤◌, ℕ, List, [], length};
+ghost use Rattle.std.specs.Io.KnownBytes.{Appends, IsAtEnd};
+ghost use Rattle.urp_model.specs.Blocks.{BeginsWhole};
+ghost use Rattle.urp_message.specs.declared.first.message.First.{First};
+ghost use Rattle.bridge_core.specs.Talk.{asked, answered, IsLongest, HasLongest};
+ghost use Rattle.uno_base.specs.Causes.{Rose};
+ghost use Rattle.uno_io.specs.Fronts.{AppendsFront};
+ghost use Rattle.uno_run.specs.Lines.{line_of, Printed};
+ghost use Rattle.uno_run.specs.Reading.{WasRead};
+ghost use Rattle.uno_run.specs.Run.{Heard, Unhindered, EndsBy, broken_at, settled, Judged};
+ghost use Rattle.uno_run.specs.Words.{IsAnswer};
+
+use crate::answering::{Behind, Stopped, Verdict, answer_all};
+use crate::lines::report;
+use crate::reading::{Reading, Stop, read_all};
+use crate::status::Status;
+use crate::words::is_answer;
+use std::alloc::Global;
+use uno_io::{Sink, Source};
+use urp_message::{Reason, Tag};
+
+/// Does what the words ask, and says on `errors` in one line why it did no more. `rt` is what `main` is given.
+pub fn run<R, I: Source, O: Sink, E: Sink>(
+    rt: &R,
+    alloc: Global,
+    words: &[String],
+    tag: &Tag,
+    input: &mut I,
+    output: &mut O,
+    errors: &mut E,
+) -> Status
+    ensures words { (result ≡ Status.Words) ↔ (IsAnswer words.now → ⊥) }
+    ensures idle { result ≡ Status.Words → (input.new ≡ input.old) × (output.new ≡ output.old) }
+
+    // It reads on until the end, a fault, or 65,537 bytes, whatever it read.
+    ensures limit { (s : List ℕ) → WasRead (I.left input.old) (I.left input.new) s → length s ≤ 65537 }
+    ensures reads_on { (s : List ℕ) → IsAnswer words.now → WasRead (I.left input.old) (I.left input.new) s → result ≢ Status.NoMemory → length s < 65537
+        → IsAtEnd (I.left input.new) ⊎ Rose (I.faults input.old) (I.faults input.new) }
+
+    // With 65,537 bytes nothing is written, and the bridge is broken at the last of them.
+    ensures silent { (s : List ℕ) → WasRead (I.left input.old) (I.left input.new) s → length s ≡ 65537 → output.new ≡ output.old }
+    ensures too_long { (s : List ℕ) → WasRead (I.left input.old) (I.left input.new) s → length s ≡ 65537 → result ≢ Status.NoMemory → result ≡ broken_at 65536 }
+
+    // Otherwise the answers to the longest talk are written; a front of them, where the output or memory failed.
+    ensures written { (s : List ℕ) (ms : List First) (rest : List ℕ) → Heard words.now (I.left input.old) (I.left input.new) tag.now s ms rest → Unhindered result
+        → Appends (O.taken output.old) (O.taken output.new) (answered tag.now ms) }
+    ensures front { (s : List ℕ) (ms : List First) (rest : List ℕ) → Heard words.now (I.left input.old) (I.left input.new) tag.now s ms rest
+        → AppendsFront (O.taken output.old) (O.taken output.new) (answered tag.now ms) }
+    ensures write_fault { result ≡ Status.WriteFault → Rose (O.faults output.old) (O.faults output.new) }
+    ensures no_write_fault { result ≢ Status.WriteFault → O.faults output.new ≡ O.faults output.old }
+
+    ensures talk { (s : List ℕ) → IsAnswer words.now → WasRead (I.left input.old) (I.left input.new) s → length s < 65537 → Unhindered result → HasLongest tag.now s }
+
+    // Nothing stands behind the talk, or a whole block, or a part of one.
+    ensures nothing { (s : List ℕ) (ms : List First) (rest : List ℕ) → Heard words.now (I.left input.old) (I.left input.new) tag.now s ms rest → Unhindered result
+        → rest ≡ [] → EndsBy (I.faults input.old) (I.faults input.new) (I.left input.new) Status.Done result }
+    ensures whole { (s : List ℕ) (ms : List First) (rest : List ℕ) → Heard words.now (I.left input.old) (I.left input.new) tag.now s ms rest → Unhindered result
+        → BeginsWhole rest → result ≡ broken_at (length (asked tag.now ms)) }
+    ensures part { (s : List ℕ) (ms : List First) (rest : List ℕ) → Heard words.now (I.left input.old) (I.left input.new) tag.now s ms rest → Unhindered result
+        → rest ≢ [] → (BeginsWhole rest → ⊥) → EndsBy (I.faults input.old) (I.faults input.new) (I.left input.new) (broken_at (length (asked tag.now ms))) result }
+    ensures read_fault { result ≡ Status.ReadFault → Rose (I.faults input.old) (I.faults input.new) }
+
+    ensures line { Printed (E.faults errors.old) (E.faults errors.new) (E.taken errors.old) (E.taken errors.new) (line_of result) }
+{
+    if !is_answer(words) {
+        return report(alloc, Status::Words, errors);
+    }
+    match read_all(alloc, input) {
+        Ok(reading) => {
+            let status = answer(alloc, tag, &reading, output);
+            report(alloc, status, errors)
+        }
+        Err(_) => report(alloc, Status::NoMemory, errors),
+    }
+}
+
+/// The place of the first byte past the most that may be read.
+const LAST_PLACE: u64 = 65_536;
+
+/// Answers what was read.
+fn answer<O: Sink>(alloc: Global, tag: &Tag, reading: &Reading, output: &mut O) -> Status
+    requires { length reading.now.bytes.items ≤ 65537 }
+    ensures silent { reading.now.stop ≡ Stop.Limit → (result ≡ broken_at 65536) × (output.new ≡ output.old) }
+    ensures written { (ms : List First) (rest : List ℕ) → reading.now.stop ≢ Stop.Limit → IsLongest tag.now reading.now.bytes.items ms rest → Unhindered result
+        → Appends (O.taken output.old) (O.taken output.new) (answered tag.now ms) }
+    ensures front { (ms : List First) (rest : List ℕ) → IsLongest tag.now reading.now.bytes.items ms rest
+        → AppendsFront (O.taken output.old) (O.taken output.new) (answered tag.now ms) }
+    ensures talk { reading.now.stop ≢ Stop.Limit → Unhindered result → HasLongest tag.now reading.now.bytes.items }
+    ensures judged { (ms : List First) (rest : List ℕ) → reading.now.stop ≢ Stop.Limit → IsLongest tag.now reading.now.bytes.items ms rest → Unhindered result
+        → Judged reading.now.stop (length (asked tag.now ms)) rest result }
+    ensures write_fault { result ≡ Status.WriteFault → Rose (O.faults output.old) (O.faults output.new) }
+    ensures no_write_fault { result ≢ Status.WriteFault → O.faults output.new ≡ O.faults output.old }
+    ensures no_words { result ≢ Status.Words }
+    ensures read_fault { result ≡ Status.ReadFault → reading.now.stop ≡ Stop.Fault }
+{
+    if reading.stop == Stop::Limit {
+        return Status::Broken(Reason::NotBuilt, LAST_PLACE);
+    }
+    match answer_all(alloc, tag, reading.bytes.as_slice(), output) {
+        Ok(verdict) => judge(verdict, reading.stop),
+        Err(Stopped::Failed) => Status::WriteFault,
+        Err(Stopped::NoMemory) => Status::NoMemory,
+    }
+}
+
+/// The status where so much was answered, and reading stopped so.
+fn judge(verdict: Verdict, stop: Stop) -> Status
+    requires { stop ≢ Stop.Limit }
+    ensures nothing { verdict.behind ≡ Behind.Nothing → result ≡ settled stop Status.Done }
+    ensures whole { verdict.behind ≡ Behind.Block → result ≡ broken_at verdict.place }
+    ensures part { verdict.behind ≡ Behind.Part → result ≡ settled stop (broken_at verdict.place) }
+{
+    let broken = Status::Broken(Reason::NotBuilt, verdict.place as u64);
+    match (verdict.behind, stop) {
+        (Behind::Block, _) => broken,
+        (_, Stop::Fault) => Status::ReadFault,
+        (Behind::Nothing, _) => Status::Done,
+        (Behind::Part, _) => broken,
+    }
+}
