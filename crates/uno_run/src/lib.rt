@@ -8,5 +8,6 @@ mod status;
 mod top;
 mod words;
 
+pub use lines::report;
 pub use status::Status;
 pub use top::run;
