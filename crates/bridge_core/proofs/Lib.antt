@@ -1,1 +1,2 @@
+pub mod LongestLaws
 pub mod TalkLaws

@@ -1,7 +1,7 @@
 -- Blocks say where they end, so two talks at the front of the same bytes go on from one another.
 use Rattle.std.proofs.Common.{◌≡◌, ◌≢◌, ℕ, ◌^◌, ◌<◌, ◌≤◌, Bool, true, false, List, [], ◌∷◌, ◌++◌, length, refl, sym, ap, ◌∙◌, append_assoc, append-nil, length-append, subst, inl, inr, lit<, arith}
 use Rattle.std.proofs.lemmas.Bool.{cases_lt}
-use Rattle.std.proofs.lemmas.List.{nil_from_length}
+use Rattle.std.proofs.lemmas.List.{nil_from_length, flat_map_more}
 use Rattle.urp_model.specs.Blocks.{IsBlock}
 use Rattle.urp_model.proofs.BlockLaws.{spell_block-front}
 use Rattle.urp_message.specs.Tag.{IsTag}
@@ -91,6 +91,19 @@ talk_more (n ∷ ns) m talk next = (talk.0, calls_more ns m talk.1 next)
     calls_more : (ms : List First) (m : First) → AreCalls ms → IsCall m → AreCalls (ms ++ m ∷ [])
     calls_more [] m calls call = (call, tt)
     calls_more (n ∷ ns) m calls call = (calls.0, calls_more ns m calls.1 call)
+
+-- what was asked grows by one request
+asked_more : (tag : List ℕ) (ms : List First) (m : First) → asked tag ms ++ request tag m ≡ asked tag (ms ++ m ∷ [])
+asked_more tag ms m = flat_map_more (request tag) [] ms m
+
+-- a talk goes on with the request that stands behind it
+pub begins_more : (tag bytes rest behind : List ℕ) (ms : List First) (m : First) (begun : Bool) → Begins tag bytes ms rest → begun ≡ has_begun ms → IsNext begun m → rest ≡ request tag m ++ behind
+    → Begins tag bytes (ms ++ m ∷ []) behind
+begins_more tag bytes rest behind ms m begun begins same next e =
+    record {
+      talk = talk_more ms m begins.talk (subst (λ b. IsNext b m) same next);
+      split = begins.split ∙ ap (λ x. asked tag ms ++ x) e ∙ sym (append_assoc (asked tag ms) (request tag m) behind) ∙ ap (λ x. x ++ behind) (asked_more tag ms m);
+    }
 
 -- what comes next in a talk may come next
 pub talk_next : (ms : List First) (m : First) (more : List First) → IsTalk (ms ++ m ∷ more) → IsNext (has_begun ms) m

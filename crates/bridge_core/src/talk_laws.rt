@@ -2,7 +2,7 @@
 ghost use Rattle.std.specs.Prelude.{◌≡◌, ℕ, List, ◌++◌};
 ghost use Rattle.urp_message.specs.Tag.{IsTag};
 ghost use Rattle.urp_message.specs.declared.first.message.First.{First};
-ghost use Rattle.bridge_core.specs.Talk.{Begins, IsLongest};
+ghost use Rattle.bridge_core.specs.Talk.{Begins, IsLongest, HasLongest};
 
 /// One talk is the longest at the front of bytes, and one rest stands behind it.
 pub fn one_talk_is_the_longest()
@@ -14,4 +14,9 @@ pub fn one_talk_is_the_longest()
 pub fn a_talk_is_a_front_of_the_longest()
     ensures { (tag bytes : List ℕ) (ms ns : List First) (r t : List ℕ) → IsTag tag
         → Begins tag bytes ms r → IsLongest tag bytes ns t → (more : List First) × (ns ≡ ms ++ more) }
+{}
+
+/// Some talk is the longest at the front of bytes, be it the empty one.
+pub fn some_talk_is_the_longest()
+    ensures { (tag bytes : List ℕ) → IsTag tag → HasLongest tag bytes }
 {}

@@ -20,7 +20,7 @@ fn main(rt: HostRuntime) -> ExitCode {
     ExitCode::from(status.code())
 }
 
-/// The words behind the program's name; a word that is no text is refused as one in no form.
+/// The words behind the program's name. Where one of them, or the name, is no text, they are words in no form.
 fn words(rt: &HostRuntime) -> Result<Vec<String>, Status> {
     let mut words = Vec::new(rt.alloc());
     let args = env::args(rt).map_err(refused)?;

@@ -10,7 +10,7 @@ use Rattle.urp_message.specs.Tag.{IsTag}
 use Rattle.urp_message.specs.declared.first.message.First.{First}
 use Rattle.bridge_core.specs.Answering.{Answering}
 use Rattle.bridge_core.specs.Talk.{IsNext, has_begun, request, answer, asked, answered, Begins}
-use Rattle.bridge_core.proofs.TalkLaws.{talk_more, longest_here, request_block, IsNext-built}
+use Rattle.bridge_core.proofs.TalkLaws.{begins_more, longest_here, request_block, IsNext-built}
 use Rattle.uno_io.specs.Fronts.{AppendsFront}
 use Rattle.uno_run.specs.Answering.{Asks, AnsweredOne, AnsweredFront, AnsweredAll, AnsweredPart, StandsBehind}
 use Rattle.uno_run.specs.declared.answering.Behind.{Behind}
@@ -36,25 +36,13 @@ asks_request : (tag : List ℕ) (end : Answering) (count : ℕ) (body rest behin
 asks_request tag end count body rest behind m same asks e =
     e ∙ ap (λ n. spell_block n body ++ behind) asks.one ∙ ap (λ b. spell_block 1 b ++ behind) (asks.read ∙ ap (λ t. request_body t m) same)
 
--- what was asked and answered grows by one request and its answer
-asked_more : (tag : List ℕ) (ms : List First) (m : First) → asked tag ms ++ request tag m ≡ asked tag (ms ++ m ∷ [])
-asked_more tag ms m = flat_map_more (request tag) [] ms m
-
+-- what was answered grows by one answer
 answered_more : (tag : List ℕ) (ms : List First) (m : First) → answered tag ms ++ answer tag m ≡ answered tag (ms ++ m ∷ [])
 answered_more tag ms m = flat_map_more (answer tag) [] ms m
 
 has_begun_more : (ms : List First) (m : First) → has_begun (ms ++ m ∷ []) ≡ true
 has_begun_more [] m = refl
 has_begun_more (n ∷ ns) m = refl
-
--- a talk goes on with the request that stands behind it
-begins_more : (tag bytes rest behind : List ℕ) (ms : List First) (m : First) (begun : Bool) → Begins tag bytes ms rest → begun ≡ has_begun ms → IsNext begun m → rest ≡ request tag m ++ behind
-    → Begins tag bytes (ms ++ m ∷ []) behind
-begins_more tag bytes rest behind ms m begun begins same next e =
-    record {
-      talk = talk_more ms m begins.talk (subst (λ b. IsNext b m) same next);
-      split = begins.split ∙ ap (λ x. asked tag ms ++ x) e ∙ sym (append_assoc (asked tag ms) (request tag m) behind) ∙ ap (λ x. x ++ behind) (asked_more tag ms m);
-    }
 
 -- a block that was answered is one more
 pub serves_more : (tag bytes rest behind body : List ℕ) (count : ℕ) (end next : Answering) (old mid new : Option (List ℕ)) → Serves tag bytes rest end old mid

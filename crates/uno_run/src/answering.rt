@@ -73,6 +73,7 @@ fn answer_block<S: Sink>(
     ensures failed { result ≡ Err Stopped.Failed → AnsweredFront echo.old count body.now (S.taken sink.old) (S.taken sink.new) × Rose (S.faults sink.old) (S.faults sink.new) }
     ensures no_memory { result ≡ Err Stopped.NoMemory → sink.new ≡ sink.old }
     ensures no_fault { OnOk result (S.faults sink.new ≡ S.faults sink.old) }
+    ensures stays { S.closed sink.new ≡ S.closed sink.old }
 {
     if count != 1 {
         return Ok(Heard::Refused);
@@ -98,6 +99,7 @@ pub fn answer_all<S: Sink>(
     ensures part { OnErr result (AnsweredPart tag.now bytes.now (S.taken sink.old) (S.taken sink.new)) }
     ensures failed { result ≡ Err Stopped.Failed → Rose (S.faults sink.old) (S.faults sink.new) }
     ensures no_fault { result ≢ Err Stopped.Failed → S.faults sink.new ≡ S.faults sink.old }
+    ensures stays { S.closed sink.new ≡ S.closed sink.old }
     ensures is { IsTag tag.now }
 {
     let mut echo = Echo::new(alloc, tag)?;

@@ -13,6 +13,7 @@ use urp_message::Reason;
 pub fn report<E: Sink>(alloc: Global, status: Status, errors: &mut E) -> Status
     ensures kept { (result ≡ status) ⊎ ((result ≡ Status.NoMemory) × IsBroken status) }
     ensures line { Printed (E.faults errors.old) (E.faults errors.new) (E.taken errors.old) (E.taken errors.new) (line_of result) }
+    ensures stays { E.closed errors.new ≡ E.closed errors.old }
 {
     let Status::Broken(reason, place) = status else {
         print(plain_line(status), errors);
@@ -32,7 +33,8 @@ pub fn report<E: Sink>(alloc: Global, status: Status, errors: &mut E) -> Status
 
 /// Writes a line; a sink that fails changes nothing here.
 fn print<E: Sink>(line: &str, errors: &mut E)
-    ensures { Printed (E.faults errors.old) (E.faults errors.new) (E.taken errors.old) (E.taken errors.new) line.now }
+    ensures line { Printed (E.faults errors.old) (E.faults errors.new) (E.taken errors.old) (E.taken errors.new) line.now }
+    ensures stays { E.closed errors.new ≡ E.closed errors.old }
 {
     match write_all(errors, line.as_bytes()) {
         Ok(()) => {}

@@ -3,7 +3,7 @@ ghost use Rattle.std.specs.Prelude.{◌≡◌, ◌≢◌, ◌↔◌, ◌⊎◌, 
 ghost use Rattle.std.specs.Io.KnownBytes.{Appends, IsAtEnd};
 ghost use Rattle.urp_model.specs.Blocks.{BeginsWhole};
 ghost use Rattle.urp_message.specs.declared.first.message.First.{First};
-ghost use Rattle.bridge_core.specs.Talk.{asked, answered, IsLongest, HasLongest};
+ghost use Rattle.bridge_core.specs.Talk.{asked, answered, IsLongest};
 ghost use Rattle.uno_base.specs.Causes.{Rose};
 ghost use Rattle.uno_io.specs.Fronts.{AppendsFront};
 ghost use Rattle.uno_run.specs.Lines.{line_of, Printed};
@@ -35,8 +35,8 @@ pub fn run<R, I: Source, O: Sink, E: Sink>(
 
     // It reads on until the end, a fault, or 65,537 bytes, whatever it read.
     ensures limit { (s : List ℕ) → WasRead (I.left input.old) (I.left input.new) s → length s ≤ 65537 }
-    ensures reads_on { (s : List ℕ) → IsAnswer words.now → WasRead (I.left input.old) (I.left input.new) s → result ≢ Status.NoMemory → length s < 65537
-        → IsAtEnd (I.left input.new) ⊎ Rose (I.faults input.old) (I.faults input.new) }
+    ensures reads_on { (s : List ℕ) → IsAnswer words.now → WasRead (I.left input.old) (I.left input.new) s → length s < 65537
+        → (IsAtEnd (I.left input.new) ⊎ Rose (I.faults input.old) (I.faults input.new)) ⊎ ((result ≡ Status.NoMemory) × (input.new ≡ input.old)) }
 
     // With 65,537 bytes nothing is written, and the bridge is broken at the last of them.
     ensures silent { (s : List ℕ) → WasRead (I.left input.old) (I.left input.new) s → length s ≡ 65537 → output.new ≡ output.old }
@@ -50,8 +50,6 @@ pub fn run<R, I: Source, O: Sink, E: Sink>(
     ensures write_fault { result ≡ Status.WriteFault → Rose (O.faults output.old) (O.faults output.new) }
     ensures no_write_fault { result ≢ Status.WriteFault → O.faults output.new ≡ O.faults output.old }
 
-    ensures talk { (s : List ℕ) → IsAnswer words.now → WasRead (I.left input.old) (I.left input.new) s → length s < 65537 → Unhindered result → HasLongest tag.now s }
-
     // Nothing stands behind the talk, or a whole block, or a part of one.
     ensures nothing { (s : List ℕ) (ms : List First) (rest : List ℕ) → Heard words.now (I.left input.old) (I.left input.new) tag.now s ms rest → Unhindered result
         → rest ≡ [] → EndsBy (I.faults input.old) (I.faults input.new) (I.left input.new) Status.Done result }
@@ -60,7 +58,9 @@ pub fn run<R, I: Source, O: Sink, E: Sink>(
     ensures part { (s : List ℕ) (ms : List First) (rest : List ℕ) → Heard words.now (I.left input.old) (I.left input.new) tag.now s ms rest → Unhindered result
         → rest ≢ [] → (BeginsWhole rest → ⊥) → EndsBy (I.faults input.old) (I.faults input.new) (I.left input.new) (broken_at (length (asked tag.now ms))) result }
     ensures read_fault { result ≡ Status.ReadFault → Rose (I.faults input.old) (I.faults input.new) }
+    ensures no_read_fault { result ≡ Status.Done → I.faults input.new ≡ I.faults input.old }
 
+    ensures stays { (O.closed output.new ≡ O.closed output.old) × (E.closed errors.new ≡ E.closed errors.old) }
     ensures line { Printed (E.faults errors.old) (E.faults errors.new) (E.taken errors.old) (E.taken errors.new) (line_of result) }
 {
     if !is_answer(words) {
@@ -86,13 +86,14 @@ fn answer<O: Sink>(alloc: Global, tag: &Tag, reading: &Reading, output: &mut O) 
         → Appends (O.taken output.old) (O.taken output.new) (answered tag.now ms) }
     ensures front { (ms : List First) (rest : List ℕ) → IsLongest tag.now reading.now.bytes.items ms rest
         → AppendsFront (O.taken output.old) (O.taken output.new) (answered tag.now ms) }
-    ensures talk { reading.now.stop ≢ Stop.Limit → Unhindered result → HasLongest tag.now reading.now.bytes.items }
     ensures judged { (ms : List First) (rest : List ℕ) → reading.now.stop ≢ Stop.Limit → IsLongest tag.now reading.now.bytes.items ms rest → Unhindered result
         → Judged reading.now.stop (length (asked tag.now ms)) rest result }
     ensures write_fault { result ≡ Status.WriteFault → Rose (O.faults output.old) (O.faults output.new) }
     ensures no_write_fault { result ≢ Status.WriteFault → O.faults output.new ≡ O.faults output.old }
     ensures no_words { result ≢ Status.Words }
     ensures read_fault { result ≡ Status.ReadFault → reading.now.stop ≡ Stop.Fault }
+    ensures no_read_fault { result ≡ Status.Done → reading.now.stop ≡ Stop.End }
+    ensures stays { O.closed output.new ≡ O.closed output.old }
 {
     if reading.stop == Stop::Limit {
         return Status::Broken(Reason::NotBuilt, LAST_PLACE);
@@ -110,6 +111,7 @@ fn judge(verdict: Verdict, stop: Stop) -> Status
     ensures nothing { verdict.behind ≡ Behind.Nothing → result ≡ settled stop Status.Done }
     ensures whole { verdict.behind ≡ Behind.Block → result ≡ broken_at verdict.place }
     ensures part { verdict.behind ≡ Behind.Part → result ≡ settled stop (broken_at verdict.place) }
+    ensures done { result ≡ Status.Done → stop ≡ Stop.End }
 {
     let broken = Status::Broken(Reason::NotBuilt, verdict.place as u64);
     match (verdict.behind, stop) {

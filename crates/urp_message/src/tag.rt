@@ -41,7 +41,7 @@ impl From<AllocError> for TagError {
     }
 }
 
-/// The tag of one end of a bridge; the two ends have different ones.
+/// The tag of one end of a bridge; who makes the two ends gives them different ones.
 #[derive(Drop)]
 pub struct Tag {
     text: String,

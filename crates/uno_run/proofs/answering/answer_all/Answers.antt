@@ -27,6 +27,7 @@ loop-block-preserved g c =
       serves = serves_more _ _ _ _ _ _ _ _ _ _ _ c.loop-block.invariant.serves one.0 one.1 c.in-Some.ensures.spelled;
       within = omega (arith, shorter _ _ _ _ c.in-Some.ensures.spelled);
       same = c.in_ok-answer_block.ensures.no_fault ∙ c.loop-block.invariant.same;
+      stays = c.in_ok-answer_block.ensures.stays ∙ c.loop-block.invariant.stays;
     }
 
 pub returns-in-Refused-clause-all : goal.returns-in-Refused-clause-all

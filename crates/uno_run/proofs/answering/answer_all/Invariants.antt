@@ -10,6 +10,7 @@ invariant-loop-block g l =
       serves : Serves l.tag l.bytes l.rest l.echo (taken l.fn.sink) (taken l.sink);
       within : length l.rest ≤ length l.bytes;
       same : faults l.sink ≡ faults l.fn.sink;
+      stays : g.S.Sink.closed l.sink ≡ g.S.Sink.closed l.fn.sink;
     }
 
 abbrev pub decreases-loop-block : goal.decreases-loop-block

@@ -5,4 +5,4 @@ use Rattle.uno_run.proofs.lines.report.Goals as goal
 pub returns-in-Ok-clause-line : goal.returns-in-Ok-clause-line
 returns-in-Ok-clause-line g c =
     subst (λ (line : List ℕ). Printed (g.E.Sink.faults c.args.errors.now) (g.E.Sink.faults c.print-in-Ok.new.errors) (g.E.Sink.taken c.args.errors.now) (g.E.Sink.taken c.print-in-Ok.new.errors) line)
-    (c.as_str.ensures.value ∙ c.in-Ok.ensures) c.print-in-Ok.ensures
+    (c.as_str.ensures.value ∙ c.in-Ok.ensures) c.print-in-Ok.ensures.line

@@ -1,5 +1,4 @@
-use Rattle.std.proofs.Common.{◌<◌, ℕ, List, length, ap, sym, subst, ◌∙◌, arith}
-use Rattle.bridge_core.specs.Talk.{HasLongest}
+use Rattle.std.proofs.Common.{◌<◌, ℕ, List, length, ap, sym, subst, ◌∙◌, inl, arith}
 use Rattle.uno_run.proofs.Running.{only_read, nothing_read, within_limit, at_limit, below_limit, end_or_fault, ends_by, heard_here, kept_status, kept_unhindered}
 use Rattle.uno_run.proofs.top.run.Goals as goal
 
@@ -16,8 +15,8 @@ pub returns-in-Ok-clause-limit : goal.returns-in-Ok-clause-limit
 returns-in-Ok-clause-limit g c = λ s read. rw (only_read _ _ s _ read c.in-Ok.ensures.read) (within_limit _ _ _ _ _ c.in-Ok.ensures.stopped)
 
 pub returns-in-Ok-clause-reads_on : goal.returns-in-Ok-clause-reads_on
-returns-in-Ok-clause-reads_on g c = λ s form read enough below.
-    end_or_fault _ _ _ _ _ c.in-Ok.ensures.stopped (subst (λ (b : List ℕ). length b < 65537) (only_read _ _ s _ read c.in-Ok.ensures.read) below)
+returns-in-Ok-clause-reads_on g c = λ s form read below.
+    inl (end_or_fault _ _ _ _ _ c.in-Ok.ensures.stopped (subst (λ (b : List ℕ). length b < 65537) (only_read _ _ s _ read c.in-Ok.ensures.read) below))
 
 pub returns-in-Ok-clause-silent : goal.returns-in-Ok-clause-silent
 returns-in-Ok-clause-silent g c = λ s read full.
@@ -55,10 +54,3 @@ returns-in-Ok-clause-part g c = λ s ms rest heard free some short.
     let here = heard_here _ _ _ _ s _ ms rest heard c.in-Ok.ensures.read in
     let judged = c.answer-status.ensures.judged ms rest (below_limit _ _ _ _ _ c.in-Ok.ensures.stopped here.0) here.1 (kept_unhindered _ _ c.report-in-Ok.ensures.kept free) in
     ends_by _ _ _ _ _ _ _ c.in-Ok.ensures.stopped here.0 (kept_status _ _ c.report-in-Ok.ensures.kept free.0 ∙ judged.part some short)
-
-pub returns-in-Ok-clause-talk : goal.returns-in-Ok-clause-talk
-returns-in-Ok-clause-talk g c = λ s form read below free.
-    let same = only_read _ _ s _ read c.in-Ok.ensures.read in
-    let here = subst (λ (b : List ℕ). length b < 65537) same below in
-    subst (HasLongest c.args.tag.now) (sym same)
-    (c.answer-status.ensures.talk (below_limit _ _ _ _ _ c.in-Ok.ensures.stopped here) (kept_unhindered _ _ c.report-in-Ok.ensures.kept free))
