@@ -11,3 +11,6 @@ mod words;
 pub use lines::report;
 pub use status::Status;
 pub use top::run;
+
+#[cfg(test)]
+mod tests;
