@@ -1,3 +1,2 @@
 pub mod ErrorTexts
 pub mod First
-pub mod Tag

@@ -1,17 +1,13 @@
-//! The messages of the URP: who speaks (`Tag`), on which chain of calls (`Tid`), and what is said.
+//! The messages of the URP: what is said, to whom, and on which chain of calls.
 #![tactic(auto)]
 
 pub mod first;
 mod reason;
-mod tag;
 #[cfg(test)]
 mod tests;
-mod threads;
-mod tid;
 
 pub use first::{
     First, FirstError, FrontBlock, a_body_is_one_request, front_block, read_first, write_answer,
 };
 pub use reason::Reason;
-pub use tag::{Tag, TagError};
-pub use tid::Tid;
+pub use uno_types::{Tag, TagError, Tid};

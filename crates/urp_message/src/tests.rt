@@ -1,6 +1,6 @@
 //! Worked bytes of the first path; each call is seen to succeed where memory is ample.
 
-use crate::{First, FirstError, Tag, TagError, Tid, front_block, read_first, write_answer};
+use crate::{First, FirstError, Tag, Tid, front_block, read_first, write_answer};
 use std::alloc::{AllocError, Global};
 use std::process::Abort;
 use std::test::Fail;
@@ -25,21 +25,6 @@ const QUERY_ANSWER: &[u8] =
 const ANSWER_42: &[u8] = b"\x00\x00\x00\x05\x00\x00\x00\x01\x80\x00\x00\x00\x2A";
 
 const ANSWER_MINUS_2: &[u8] = b"\x00\x00\x00\x05\x00\x00\x00\x01\x80\xFF\xFF\xFF\xFE";
-
-#[test]
-fn a_tag_is_1_to_32_letters_and_digits(rt: HostRuntime) -> Result<(), Fail> {
-    for text in ["S", "abcdefghijklmnopqrstuvwxyz012345"] {
-        let tag = Tag::read(rt.alloc(), text)?;
-        let copy = tag.copy(rt.alloc())?;
-        assert_eq!(rt; tag.as_str(), text);
-        assert_eq!(rt; copy.as_str(), text);
-    }
-    for text in ["", "a;b", "abcdefghijklmnopqrstuvwxyz0123456", "ä"] {
-        let read = Tag::read(rt.alloc(), text);
-        assert!(rt; matches!(read, Err(TagError::BadTag)), "at {text}");
-    }
-    Ok(())
-}
 
 #[test]
 fn a_query_is_read_and_answered(rt: HostRuntime) -> Result<(), Fail> {

@@ -1,7 +1,7 @@
 //! A tag, which tells the ends of a bridge apart: the OIDs of an end's own objects begin with it.
 ghost use Rattle.std.specs.Prelude.{◌≡◌, ◌↔◌, IfOk, IsTrue};
-ghost use Rattle.urp_message.specs.Tag.{IsTag};
-ghost use Rattle.urp_message.specs.declared.tag.TagError.TheVariants.{NoMemory};
+ghost use Rattle.uno_types.specs.Tag.{IsTag};
+ghost use Rattle.uno_types.specs.declared.tag.TagError.TheVariants.{NoMemory};
 
 use std::alloc::{AllocError, Global};
 use std::error::Error;
@@ -19,7 +19,7 @@ pub enum TagError {
 
 impl fmt::Display for TagError {
     ghost use Rattle.std.specs.Prelude.{Some};
-    ghost use Rattle.urp_message.specs.ErrorTexts.{tag_error_text};
+    ghost use Rattle.uno_types.specs.ErrorTexts.{tag_error_text};
 
     ghost output = { λ e. Some (tag_error_text e) };
 
@@ -49,7 +49,7 @@ pub struct Tag {
 
 impl Model for Tag {
     ghost use Rattle.std.specs.Prelude.{ℕ, List, string_bytes};
-    ghost use Rattle.urp_message.specs.Tag.{IsTag};
+    ghost use Rattle.uno_types.specs.Tag.{IsTag};
 
     ghost Value = { List ℕ };
 

@@ -1,0 +1,12 @@
+pub mod BuiltIn
+pub mod Circles
+pub mod Codes
+pub mod Entities
+pub mod Kinds
+pub mod Marks
+pub mod Names
+pub mod Places
+pub mod Reaches
+pub mod Registry
+pub mod Sound
+pub mod TypeClasses

@@ -1,0 +1,10 @@
+pub mod AssignableLemmas
+pub mod Different
+pub mod FindingLemmas
+pub mod FunctionLemmas
+pub mod GraphLemmas
+pub mod MemberLemmas
+pub mod NameParts
+pub mod NearMemberLemmas
+pub mod SoundLemmas
+pub mod SpreadLemmas

@@ -1,0 +1,215 @@
+//! Whether a value of one type may stand where another is asked.
+ghost use Rattle.std.specs.Prelude.{◌≡◌, ◌↔◌, Some, map, IsTrue};
+ghost use Rattle.std.specs.List.{list_any};
+ghost use Rattle.uno_model.specs.Kinds as kd;
+ghost use Rattle.uno_model.specs.Reaches.{reaches_within};
+ghost use Rattle.uno_model.specs.Registry.{IsBaseOf, Assignable, stands_on_body, required, at_most_one};
+ghost use Rattle.uno_model.specs.Sound.{IsSound};
+ghost use Rattle.uno_types.specs.Entities.{entity_of, base_of};
+ghost use Rattle.uno_types.specs.TypeNames.{kind_of};
+
+use crate::bases::bases_of;
+use crate::registry::place_in;
+use crate::{Base, Body, Entity, Name, Registry, TypeName};
+use std::alloc::Global;
+
+impl Registry {
+    /// Whether a value of the one type may stand where the other is asked.
+    pub fn assignable(&self, to: &TypeName, from: &TypeName) -> bool
+        requires { IsSound self.now }
+        ensures { IsTrue result ↔ Assignable self.now (kind_of to.now) (kind_of from.now) }
+    {
+        is_assignable(self.allocator(), self, to, from)
+    }
+}
+
+/// Takes a mark for each entity from the allocator; where there is no room for them, the answer is the same, but may take long.
+pub(crate) fn is_assignable(
+    alloc: Global,
+    registry: &Registry,
+    to: &TypeName,
+    from: &TypeName,
+) -> bool
+    requires { IsSound registry.now }
+    ensures { IsTrue result ↔ Assignable registry.now (kind_of to.now) (kind_of from.now) }
+{
+    match to {
+        TypeName::Interface(base) => interface_assignable(alloc, registry, base, from),
+        TypeName::Struct(base) => struct_assignable(alloc, registry, base, from),
+        TypeName::Exception(base) => exception_assignable(alloc, registry, base, from),
+        TypeName::Void
+        | TypeName::Char
+        | TypeName::Boolean
+        | TypeName::Byte
+        | TypeName::Short
+        | TypeName::UnsignedShort
+        | TypeName::Long
+        | TypeName::UnsignedLong
+        | TypeName::Hyper
+        | TypeName::UnsignedHyper
+        | TypeName::Str
+        | TypeName::Kind
+        | TypeName::Any
+        | TypeName::Enum(_)
+        | TypeName::Sequence(_) => from.is(to),
+    }
+}
+
+/// Where an interface is asked, one that stands on it may stand.
+fn interface_assignable(alloc: Global, registry: &Registry, base: &Name, from: &TypeName) -> bool
+    requires { IsSound registry.now }
+    ensures { IsTrue result ↔ Assignable registry.now (kd.interface base.now) (kind_of from.now) }
+{
+    match from {
+        TypeName::Interface(name) => is_base_of(alloc, registry, base.as_str(), name.as_str()),
+        TypeName::Void
+        | TypeName::Char
+        | TypeName::Boolean
+        | TypeName::Byte
+        | TypeName::Short
+        | TypeName::UnsignedShort
+        | TypeName::Long
+        | TypeName::UnsignedLong
+        | TypeName::Hyper
+        | TypeName::UnsignedHyper
+        | TypeName::Str
+        | TypeName::Kind
+        | TypeName::Any
+        | TypeName::Enum(_)
+        | TypeName::Struct(_)
+        | TypeName::Exception(_)
+        | TypeName::Sequence(_) => false,
+    }
+}
+
+/// Where a struct is asked, one that stands on it may stand.
+fn struct_assignable(alloc: Global, registry: &Registry, base: &Name, from: &TypeName) -> bool
+    requires { IsSound registry.now }
+    ensures { IsTrue result ↔ Assignable registry.now (kd.struct base.now) (kind_of from.now) }
+{
+    match from {
+        TypeName::Struct(name) => is_base_of(alloc, registry, base.as_str(), name.as_str()),
+        TypeName::Void
+        | TypeName::Char
+        | TypeName::Boolean
+        | TypeName::Byte
+        | TypeName::Short
+        | TypeName::UnsignedShort
+        | TypeName::Long
+        | TypeName::UnsignedLong
+        | TypeName::Hyper
+        | TypeName::UnsignedHyper
+        | TypeName::Str
+        | TypeName::Kind
+        | TypeName::Any
+        | TypeName::Enum(_)
+        | TypeName::Exception(_)
+        | TypeName::Interface(_)
+        | TypeName::Sequence(_) => false,
+    }
+}
+
+/// Where an exception is asked, one that stands on it may stand.
+fn exception_assignable(alloc: Global, registry: &Registry, base: &Name, from: &TypeName) -> bool
+    requires { IsSound registry.now }
+    ensures { IsTrue result ↔ Assignable registry.now (kd.exception base.now) (kind_of from.now) }
+{
+    match from {
+        TypeName::Exception(name) => is_base_of(alloc, registry, base.as_str(), name.as_str()),
+        TypeName::Void
+        | TypeName::Char
+        | TypeName::Boolean
+        | TypeName::Byte
+        | TypeName::Short
+        | TypeName::UnsignedShort
+        | TypeName::Long
+        | TypeName::UnsignedLong
+        | TypeName::Hyper
+        | TypeName::UnsignedHyper
+        | TypeName::Str
+        | TypeName::Kind
+        | TypeName::Any
+        | TypeName::Enum(_)
+        | TypeName::Struct(_)
+        | TypeName::Interface(_)
+        | TypeName::Sequence(_) => false,
+    }
+}
+
+/// By marks at all bases; without room for them, by a walk that takes none. A name that is not there is a base of itself alone.
+fn is_base_of(alloc: Global, registry: &Registry, to: &str, from: &str) -> bool
+    requires { IsSound registry.now }
+    ensures { IsTrue result ↔ IsBaseOf registry.now to.now from.now }
+{
+    let entities = registry.entities();
+    let Ok(source) = place_in(entities, from) else {
+        return from == to;
+    };
+    let Ok(target) = place_in(entities, to) else {
+        return from == to;
+    };
+    match bases_of(alloc, entities, source) {
+        Ok(marks) => marks[target],
+        Err(_) => reaches(registry, to, from, entities.len()),
+    }
+}
+
+/// Keeps nothing of where it was: it goes each way over bases anew, and as deep as the longest of them.
+#[cycle(reach)]
+#[tactic(auto, using(crate::proofs::AssignableLemmas::levels))]
+fn reaches(registry: &Registry, to: &str, from: &str, levels: usize) -> bool
+    ensures { result ≡ reaches_within levels registry.now to.now from.now }
+{
+    if from == to {
+        return true;
+    }
+    if levels == 0 {
+        return false;
+    }
+    match registry.find(from) {
+        Some(entity) => bases_reach(registry, to, entity, levels - 1),
+        None => false,
+    }
+}
+
+/// Whether something on which the entity stands reaches it.
+#[cycle(reach)]
+fn bases_reach(registry: &Registry, to: &str, entity: &Entity, levels: usize) -> bool
+    ensures { result ≡ list_any (reaches_within levels registry.now to.now) (stands_on_body (Some (entity_of entity.now))) }
+{
+    match &entity.body {
+        Body::Interface { bases, .. } => required_reach(registry, to, bases, levels),
+        Body::Struct { base, .. } | Body::Exception { base, .. } => {
+            base_reaches(registry, to, base, levels)
+        }
+        Body::Enum { .. }
+        | Body::Constants { .. }
+        | Body::Typedef { .. }
+        | Body::Service(_)
+        | Body::Singleton(_) => false,
+    }
+}
+
+/// Whether a base of an interface that is not optional reaches it.
+#[cycle(reach)]
+fn required_reach(registry: &Registry, to: &str, bases: &[Base], levels: usize) -> bool
+    ensures { result ≡ list_any (reaches_within levels registry.now to.now) (required (map base_of bases.now)) }
+{
+    for base in bases {
+        if !base.optional && reaches(registry, to, base.name.as_str(), levels) {
+            return true;
+        }
+    }
+    false
+}
+
+/// Whether the base of a struct or an exception reaches it.
+#[cycle(reach)]
+fn base_reaches(registry: &Registry, to: &str, base: &Option<Name>, levels: usize) -> bool
+    ensures { result ≡ list_any (reaches_within levels registry.now to.now) (at_most_one base.now) }
+{
+    match base {
+        Some(name) => reaches(registry, to, name.as_str(), levels),
+        None => false,
+    }
+}

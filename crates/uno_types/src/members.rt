@@ -1,0 +1,157 @@
+//! The members of structs and exceptions, those of their bases before their own.
+ghost use Rattle.std.specs.Prelude.{◌≡◌, ◌≤◌, ◌<◌, ◌^◌, ◌↔◌, length, map, IfSome, IsNone, MatchOption, Some, slice_get};
+ghost use Rattle.std.specs.List.{list_all};
+ghost use Rattle.uno_model.specs.Circles.{HasNoCircle};
+ghost use Rattle.uno_model.specs.Registry.{find_entity, leads_to, at_most_one, members_within, all_members};
+ghost use Rattle.uno_model.specs.Sound.{has_member};
+ghost use Rattle.uno_types.specs.Entities.{field_of, body_of, entity_of, entities_of};
+ghost use Rattle.uno_types.specs.Members.{IsLevel, base_named, carries, member_near};
+
+use crate::{Body, Entity, Field, Name, Registry};
+
+/// One level of bases: the members that are declared there, and the name of the next level.
+struct Level<'a> {
+    own: &'a [Field],
+    base: Option<&'a str>,
+}
+
+impl Registry {
+    /// The member of a struct or an exception at a place; a name that is neither has none.
+    pub fn member(&self, name: &str, place: u32) -> Option<&Field>
+        ensures absent { IsNone result ↔ (length (all_members self.now name.now) ≤ place) }
+        ensures found { IfSome result (λ f. slice_get (all_members self.now name.now) place ≡ Some (field_of f.now)) }
+    {
+        let levels = self.entities().len() as u128 + 1;
+        let count = count_within(self, name, levels);
+        if count <= place as u128 {
+            return None;
+        }
+        member_within(self, name, levels, count, place)
+    }
+}
+
+/// Whether each struct and each exception has a member, those of its bases counted; it looks at each once, and walks up no bases.
+pub(crate) fn all_have_members(registry: &Registry) -> bool
+    requires { HasNoCircle (leads_to registry.now) }
+    ensures { result ≡ list_all (has_member registry.now) registry.now }
+{
+    all_have_near(registry, registry.entities())
+}
+
+/// How many members a name has over so many levels of bases.
+fn count_within(registry: &Registry, name: &str, levels: u128) -> u128
+    requires { levels ≤ 2 ^ 64 }
+    ensures { result ≡ length (members_within levels registry.now name.now) }
+{
+    let mut at = name;
+    let mut left = levels;
+    let mut count: u128 = 0;
+    while left > 0 {
+        let Level { own, base } = level_at(registry, at);
+        count += own.len() as u128;
+        let Some(base) = base else { return count };
+        at = base;
+        left -= 1;
+    }
+    count
+}
+
+/// The member at a place, where there are so many over so many levels of bases.
+fn member_within<'a>(
+    registry: &'a Registry,
+    name: &str,
+    levels: u128,
+    count: u128,
+    place: u32,
+) -> Option<&'a Field>
+    requires all { count ≡ length (members_within levels registry.now name.now) }
+    requires within { place < count }
+    ensures { MatchOption result ⊥ (λ f. slice_get (members_within levels registry.now name.now) place ≡ Some (field_of f.now)) }
+{
+    let mut at = name;
+    let mut left = levels;
+    let mut end = count;
+    while left > 0 {
+        let Level { own, base } = level_at(registry, at);
+        let before = end - own.len() as u128;
+        if before <= place as u128 {
+            return own.get((place as u128 - before) as usize);
+        }
+        at = base?;
+        end = before;
+        left -= 1;
+    }
+    None
+}
+
+/// The level of bases that a name stands at.
+fn level_at<'a>(registry: &'a Registry, name: &str) -> Level<'a>
+    ensures { IsLevel result (find_entity name.now registry.now) }
+{
+    match registry.find(name) {
+        Some(entity) => level_of(entity),
+        None => Level {
+            own: &[],
+            base: None,
+        },
+    }
+}
+
+/// What a struct or an exception declares, and the name that it has more members from.
+fn level_of(entity: &Entity) -> Level<'_>
+    ensures { IsLevel result (Some (entity_of entity.now)) }
+{
+    match &entity.body {
+        Body::Struct { base, members } | Body::Exception { base, members } => Level {
+            own: members.as_slice(),
+            base: text_of(base),
+        },
+        _ => Level {
+            own: &[],
+            base: None,
+        },
+    }
+}
+
+fn text_of(name: &Option<Name>) -> Option<&str>
+    ensures { base_named result ≡ at_most_one name.now }
+{
+    Some(name.as_ref()?.as_str())
+}
+
+/// Whether each struct and each exception has a member near; without a circle, each then has one.
+fn all_have_near(registry: &Registry, entities: &[Entity]) -> bool
+    ensures { result ≡ list_all (member_near registry.now) (entities_of entities.now) }
+{
+    for entity in entities {
+        if !has_near(registry, entity) {
+            return false;
+        }
+    }
+    true
+}
+
+/// Whether a struct or an exception has a member of its own, or a base that is one too.
+fn has_near(registry: &Registry, entity: &Entity) -> bool
+    ensures { result ≡ member_near registry.now (entity_of entity.now) }
+{
+    let Level { own, base } = level_of(entity);
+    if !carries(&entity.body) || !own.is_empty() {
+        return true;
+    }
+    let Some(base) = base else { return false };
+    let Some(base) = registry.find(base) else {
+        return false
+    };
+    carries(&base.body)
+}
+
+/// Whether it is a struct or an exception.
+fn carries(body: &Body) -> bool
+    ensures { result ≡ carries (body_of body.now) }
+{
+    match body {
+        Body::Struct { .. } | Body::Exception { .. } => true,
+        _ => false,
+    }
+}

@@ -1,0 +1,113 @@
+//! A registry: the entities of a type system, each under its name.
+ghost use Rattle.std.specs.Prelude.{◌≡◌, ◌≢◌, ◌+◌, ◌<◌, ◌≤◌, ◌↔◌, length, take, drop, IfOk, OnOk, OnErr, IfErr, IfSome, IsNone, MatchOption, MatchResult, Some, None, slice_get};
+ghost use Rattle.uno_model.specs.BuiltIn.{built_in};
+ghost use Rattle.uno_model.specs.Registry.{find_entity, Adds, IsRising};
+ghost use Rattle.uno_types.specs.Entities.{entity_of, entities_of};
+ghost use Rattle.uno_types.specs.Finding.{IsPlaceOf, IsGapOf};
+ghost use Rattle.uno_types.specs.declared.registry.AddError.TheVariants.{NoMemory, Twice};
+
+use crate::Entity;
+use crate::built_in::built_in_entities;
+use std::alloc::{AllocFailed, Global};
+use std::marker::Model;
+use uno_base::NoMemory;
+
+/// Why an entity was not added.
+#[derive(Clone, Copy, Debug, PartialEq, Eq, Hash)]
+pub enum AddError {
+    NoMemory,
+    /// The name is there already.
+    Twice,
+}
+
+impl<T: Drop> From<AllocFailed<T>> for AddError {
+    ghost from_gives = { λ _ e. e ≡ NoMemory };
+
+    fn from(_: AllocFailed<T>) -> AddError {
+        AddError::NoMemory
+    }
+}
+
+/// The entities that two ends, or a program and its plans, agree on.
+#[derive(Drop)]
+pub struct Registry {
+    alloc: Global,
+    entities: Vec<Entity>,
+}
+
+impl Model for Registry {
+    ghost use Rattle.std.specs.Prelude.{List};
+    ghost use Rattle.uno_model.specs.Entities.{Entity as Plain};
+
+    ghost Value = { List Plain };
+
+    ghost use Rattle.std.specs.Coded.{codes};
+    ghost use Rattle.uno_model.specs.Codes.{kind_code};
+
+    ghost coded = { Prim.hlevel (codes, kind_code) };
+
+    ghost use Rattle.uno_types.specs.Entities.{entities_of};
+    ghost use Rattle.uno_model.specs.Registry.{IsRising};
+
+    ghost view = { λ r. entities_of r.entities.items };
+
+    ghost invariant = { λ r. IsRising (entities_of r.entities.items) };
+}
+
+impl Registry {
+    /// The registry that has the built-in entities alone.
+    pub fn new(alloc: Global) -> Result<Registry, NoMemory>
+        ensures { IfOk result (λ registry. registry ≡ built_in) }
+    {
+        let entities = built_in_entities(alloc)?;
+        Ok(Registry { alloc, entities })
+    }
+
+    /// Where its memory comes from.
+    pub(crate) fn allocator(&self) -> Global {
+        self.alloc
+    }
+
+    /// Adds an entity under its name; a name that is there keeps what it has.
+    pub fn add(&mut self, entity: Entity) -> Result<(), AddError>
+        ensures added { OnOk result (Adds self.old self.new (entity_of entity)) }
+        ensures twice { (result ≡ Err AddError.Twice) ↔ (find_entity entity.name self.old ≢ None) }
+        ensures refused { OnErr result (self.new ≡ self.old) }
+    {
+        match place_in(self.entities.as_slice(), entity.name.as_str()) {
+            Ok(_) => Err(AddError::Twice),
+            Err(gap) => {
+                self.entities.insert(gap, entity)?;
+                Ok(())
+            }
+        }
+    }
+
+    /// The entity of this name.
+    pub fn find(&self, name: &str) -> Option<&Entity>
+        ensures absent { IsNone result ↔ (find_entity name.now self.now ≡ None) }
+        ensures found { IfSome result (λ e. find_entity name.now self.now ≡ Some (entity_of e.now)) }
+    {
+        match place_in(self.entities.as_slice(), name) {
+            Ok(place) => Some(&self.entities[place]),
+            Err(_) => None,
+        }
+    }
+
+    /// All entities, in rising order of their names' bytes.
+    pub fn entities(&self) -> &[Entity]
+        ensures all { entities_of result.now ≡ self.now }
+        ensures rising { IsRising self.now }
+    {
+        self.entities.as_slice()
+    }
+}
+
+/// The place of the entity of this name, or the gap where one would go.
+pub(crate) fn place_in(entities: &[Entity], name: &str) -> Result<usize, usize>
+    requires { IsRising (entities_of entities.now) }
+    ensures place { IfOk result (λ i. IsPlaceOf name.now (entities_of entities.now) i) }
+    ensures gap { IfErr result (λ i. IsGapOf name.now (entities_of entities.now) i) }
+{
+    entities.binary_search_by(|entity| entity.name.as_str().cmp(name))
+}

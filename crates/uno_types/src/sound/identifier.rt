@@ -1,0 +1,131 @@
+//! Names as texts: which are identifiers, which are identifiers joined by points, and how many parts they have.
+ghost use Rattle.std.specs.Prelude.{◌≡◌, ◌+◌, length};
+ghost use Rattle.std.specs.List.{list_all, list_any};
+ghost use Rattle.std.specs.Str.{bytes_eq};
+ghost use Rattle.uno_model.specs.Names.{is_identifier, is_entity_name, begins_identifier, goes_on_identifier, reserved_words, parts_of};
+ghost use Rattle.uno_model.specs.Sound.{few_modules};
+
+/// The words of the grammar, of the simple types and of the two truths.
+const RESERVED_WORDS: [&str; 47] = [
+    "FALSE",
+    "False",
+    "TRUE",
+    "True",
+    "any",
+    "attribute",
+    "boolean",
+    "bound",
+    "byte",
+    "char",
+    "const",
+    "constants",
+    "constrained",
+    "double",
+    "enum",
+    "exception",
+    "float",
+    "get",
+    "hyper",
+    "in",
+    "inout",
+    "interface",
+    "long",
+    "maybeambiguous",
+    "maybedefault",
+    "maybevoid",
+    "module",
+    "oneway",
+    "optional",
+    "out",
+    "property",
+    "published",
+    "raises",
+    "readonly",
+    "removable",
+    "sequence",
+    "service",
+    "set",
+    "short",
+    "singleton",
+    "string",
+    "struct",
+    "transient",
+    "type",
+    "typedef",
+    "unsigned",
+    "void",
+];
+
+/// Whether it is a letter or `_`, then letters, digits and `_`, and no reserved word.
+pub fn is_identifier(name: &str) -> bool
+    ensures { result ≡ is_identifier name.now }
+{
+    let [first, rest @ ..] = name.as_bytes() else {
+        return false;
+    };
+    begins_identifier(*first) && go_on_identifier(rest) && !is_reserved(name)
+}
+
+fn begins_identifier(byte: u8) -> bool
+    ensures { result ≡ begins_identifier byte }
+{
+    byte.is_ascii_alphabetic() || byte == b'_'
+}
+
+fn goes_on_identifier(byte: u8) -> bool
+    ensures { result ≡ goes_on_identifier byte }
+{
+    byte.is_ascii_alphanumeric() || byte == b'_'
+}
+
+fn go_on_identifier(bytes: &[u8]) -> bool
+    ensures { result ≡ list_all goes_on_identifier bytes.now }
+{
+    bytes.iter().all(|byte| goes_on_identifier(*byte))
+}
+
+fn is_among(name: &str, words: &[&str]) -> bool
+    ensures { result ≡ list_any (λ word. bytes_eq name.now word.now) words.now }
+{
+    words.iter().any(|word| name == *word)
+}
+
+fn is_reserved(name: &str) -> bool
+    ensures { result ≡ list_any (bytes_eq name.now) reserved_words }
+{
+    is_among(name, &RESERVED_WORDS)
+}
+
+/// Whether it is identifiers joined by points.
+pub fn is_entity_name(name: &str) -> bool
+    ensures { result ≡ is_entity_name name.now }
+{
+    let mut rest = name;
+    while let Some((part, behind)) = rest.split_once('.') {
+        if !is_identifier(part) {
+            return false;
+        }
+        rest = behind;
+    }
+    is_identifier(rest)
+}
+
+/// How many points stand in it.
+fn points(name: &str) -> usize
+    ensures { length (parts_of name.now) ≡ result + 1 }
+{
+    let mut count = 0;
+    for byte in name.as_bytes() {
+        if *byte == b'.' {
+            count += 1;
+        }
+    }
+    count
+}
+
+/// Whether it stands in at most 64 modules.
+pub(crate) fn few_modules(name: &str) -> bool
+    ensures { result ≡ few_modules name.now }
+{
+    points(name) <= 64
+}
