@@ -3,8 +3,10 @@ pub mod Different
 pub mod FindingLemmas
 pub mod FunctionLemmas
 pub mod GraphLemmas
+pub mod LevelLemmas
 pub mod MemberLemmas
 pub mod NameParts
 pub mod NearMemberLemmas
 pub mod SoundLemmas
 pub mod SpreadLemmas
+pub mod TypeTextLemmas

@@ -1,11 +1,12 @@
 -- The levels of bases that members come from.
-use Rattle.std.specs.Prelude.{◌≡◌, ℕ, Bool, not, ◌||◌, List, [], ◌∷◌, map, Option, None, Some}
+use Rattle.std.specs.Prelude.{◌≡◌, ℕ, Bool, not, ◌||◌, List, [], ◌∷◌, ◌++◌, map, Option, None, Some}
 use Rattle.std.specs.Borrow.{Bor}
 use Rattle.std.specs.List.{list_any}
 use Rattle.uno_model.specs.Entities as plain
 use Rattle.uno_model.specs.Registry.{own_members, member_bases}
 use Rattle.uno_model.specs.Sound.{is_struct, is_exception, is_there, is_some_list}
 use Rattle.uno_types.specs.declared.members.Level.{Level}
+use Rattle.uno_types.specs.declared.entity.Field.{Field}
 use Rattle.uno_types.specs.Entities.{field_of}
 
 -- the base's name, as a list of at most one
@@ -25,3 +26,11 @@ carries body = is_struct body || is_exception body
 -- if it is a struct or an exception, it has a member of its own, or a base that is one too
 abbrev pub member_near : List plain.Entity → plain.Entity → Bool
 member_near reg e = not (carries e.body) || (is_some_list (own_members (Some e)) || list_any (is_there reg carries) (member_bases (Some e)))
+
+-- members that are borrowed, and those of levels of which the last is the base of all others
+abbrev pub fields_at : List (Bor Field) → List plain.Field
+fields_at = map (λ f. field_of f.now)
+
+unfoldable pub stacked : List (Bor (List Field)) → List plain.Field
+stacked [] = []
+stacked (own ∷ levels) = stacked levels ++ map field_of own.now

@@ -21,6 +21,15 @@ impl Registry {
     {
         is_assignable(self.allocator(), self, to, from)
     }
+
+    /// Whether the one entity is the other, or the other stands on it by any number of bases that are not optional. A name that
+    /// is not there is a base of itself alone.
+    pub fn has_base(&self, base: &str, name: &str) -> bool
+        requires { IsSound self.now }
+        ensures { IsTrue result ↔ IsBaseOf self.now base.now name.now }
+    {
+        is_base_of(self.allocator(), self, base, name)
+    }
 }
 
 /// Takes a mark for each entity from the allocator; where there is no room for them, the answer is the same, but may take long.

@@ -11,7 +11,7 @@ mod there;
 
 use crate::{Base, Body, Constant, Name, Registry, Service, Singleton};
 use inside::{constructors_known, fields_known, members_known, parts_known};
-use there::{Wanted, is_there, kind_known};
+pub(crate) use there::{Wanted, is_there, kind_known};
 
 /// Asks for the kinds of entities alone: which types may stand at a place is another fact of soundness.
 pub(crate) fn all_known(registry: &Registry) -> bool

@@ -10,9 +10,9 @@ ghost use Rattle.uno_types.specs.Members.{IsLevel, base_named, carries, member_n
 use crate::{Body, Entity, Field, Name, Registry};
 
 /// One level of bases: the members that are declared there, and the name of the next level.
-struct Level<'a> {
-    own: &'a [Field],
-    base: Option<&'a str>,
+pub struct Level<'a> {
+    pub own: &'a [Field],
+    pub base: Option<&'a str>,
 }
 
 impl Registry {
@@ -27,6 +27,20 @@ impl Registry {
             return None;
         }
         member_within(self, name, levels, count, place)
+    }
+
+    /// The level of bases that a name stands at: what it declares itself, and its base. A name that is neither a struct nor an
+    /// exception has neither.
+    pub fn level(&self, name: &str) -> Level<'_>
+        ensures { IsLevel result (find_entity name.now self.now) }
+    {
+        match self.find(name) {
+            Some(entity) => level_of(entity),
+            None => Level {
+                own: &[],
+                base: None,
+            },
+        }
     }
 }
 
@@ -47,7 +61,7 @@ fn count_within(registry: &Registry, name: &str, levels: u128) -> u128
     let mut left = levels;
     let mut count: u128 = 0;
     while left > 0 {
-        let Level { own, base } = level_at(registry, at);
+        let Level { own, base } = registry.level(at);
         count += own.len() as u128;
         let Some(base) = base else { return count };
         at = base;
@@ -72,7 +86,7 @@ fn member_within<'a>(
     let mut left = levels;
     let mut end = count;
     while left > 0 {
-        let Level { own, base } = level_at(registry, at);
+        let Level { own, base } = registry.level(at);
         let before = end - own.len() as u128;
         if before <= place as u128 {
             return own.get((place as u128 - before) as usize);
@@ -82,19 +96,6 @@ fn member_within<'a>(
         left -= 1;
     }
     None
-}
-
-/// The level of bases that a name stands at.
-fn level_at<'a>(registry: &'a Registry, name: &str) -> Level<'a>
-    ensures { IsLevel result (find_entity name.now registry.now) }
-{
-    match registry.find(name) {
-        Some(entity) => level_of(entity),
-        None => Level {
-            own: &[],
-            base: None,
-        },
-    }
 }
 
 /// What a struct or an exception declares, and the name that it has more members from.

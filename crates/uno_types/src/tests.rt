@@ -1,10 +1,12 @@
 //! That registries are what they are said to be, where memory is ample and where it is not.
 
 mod assignable;
-mod demo;
-mod kinds;
-mod large;
-mod make;
+mod many;
+mod members;
 mod memory;
 mod order;
+mod sound;
+mod texts;
+mod types;
 mod values;
+mod words;

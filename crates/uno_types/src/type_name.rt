@@ -118,7 +118,7 @@ impl TypeName {
     }
 
     /// Whether it is the enum of that name.
-    fn is_enum(&self, of: &Name) -> bool
+    pub fn is_enum(&self, of: &Name) -> bool
         ensures { IsTrue result ↔ (kind_of self.now ≡ kd.enum of.now) }
     {
         match self {
@@ -144,7 +144,7 @@ impl TypeName {
     }
 
     /// Whether it is the struct of that name.
-    fn is_struct(&self, of: &Name) -> bool
+    pub fn is_struct(&self, of: &Name) -> bool
         ensures { IsTrue result ↔ (kind_of self.now ≡ kd.struct of.now) }
     {
         match self {
@@ -170,7 +170,7 @@ impl TypeName {
     }
 
     /// Whether it is the exception of that name.
-    fn is_exception(&self, of: &Name) -> bool
+    pub fn is_exception(&self, of: &Name) -> bool
         ensures { IsTrue result ↔ (kind_of self.now ≡ kd.exception of.now) }
     {
         match self {
@@ -196,7 +196,7 @@ impl TypeName {
     }
 
     /// Whether it is the interface of that name.
-    fn is_interface(&self, of: &Name) -> bool
+    pub fn is_interface(&self, of: &Name) -> bool
         ensures { IsTrue result ↔ (kind_of self.now ≡ kd.interface of.now) }
     {
         match self {

@@ -6,7 +6,7 @@ ghost use Rattle.uno_types.specs.TypeNames.{kind_of};
 use crate::TypeName;
 
 /// Whether it is neither void nor an exception.
-fn is_plain(kind: &TypeName) -> bool
+pub(crate) fn is_plain(kind: &TypeName) -> bool
     ensures { result ≡ is_plain (kind_of kind.now) }
 {
     match kind {
@@ -31,7 +31,7 @@ fn is_plain(kind: &TypeName) -> bool
 }
 
 /// Whether the elements of each sequence in it are plain.
-fn elements_plain(kind: &TypeName) -> bool
+pub(crate) fn elements_plain(kind: &TypeName) -> bool
     ensures { result ≡ elements_plain (kind_of kind.now) }
 {
     match kind {

@@ -1,97 +1,106 @@
 //! Names, texts, identities and tags.
+use super::types::type_of;
 use crate::{Name, Tag, TagError, Text, Tid, is_entity_name, is_identifier};
-use std::test::Fail;
+use std::alloc::Global;
+use uno_base::NoMemory;
 
-#[test]
-fn copies_are_equal(rt: HostRuntime) -> Result<(), Fail> {
-    let alloc = rt.alloc();
-    for text in ["", "demo.XEcho", "z\u{e9}\u{0}\u{1F600}"] {
-        let name = Name::of(alloc, text)?;
-        let copy = name.copy(alloc)?;
-        assert!(rt; copy.is(&name));
-        assert_eq!(rt; copy.as_str(), text);
-        assert_eq!(rt; Text::of(alloc, text)?.copy(alloc)?.as_str(), text);
-        assert_eq!(rt;
-            Tid::of(alloc, text.as_bytes())?.copy(alloc)?.as_bytes(),
-            text.as_bytes()
-        );
-    }
-    assert_eq!(rt;
-        Tid::of(alloc, b"\x00\xFF")?.copy(alloc)?.as_bytes(),
-        b"\x00\xFF".as_slice()
-    );
-    Ok(())
+fn name_copy(alloc: Global, text: &str) -> Result<bool, NoMemory> {
+    let name = Name::of(alloc, text)?;
+    let copy = name.copy(alloc)?;
+    Ok(copy.is(&name) && copy.as_str() == text)
 }
 
-#[test]
-fn a_name_is_no_other_name(rt: HostRuntime) -> Result<(), Fail> {
-    let alloc = rt.alloc();
-    let name = Name::of(alloc, "ab")?;
-    for other in ["", "a", "abc", "aB", "ba", "ac"] {
-        assert!(rt; !name.is(&Name::of(alloc, other)?), "at {other}");
-    }
-    Ok(())
+fn text_copy(alloc: Global, text: &str) -> Result<bool, NoMemory> {
+    let copy = Text::of(alloc, text)?.copy(alloc)?;
+    Ok(copy.as_str() == text)
 }
 
-#[test]
-fn a_tag_is_1_to_32_letters_and_digits(rt: HostRuntime) -> Result<(), Fail> {
-    let alloc = rt.alloc();
-    for text in ["S", "0", "abcdefghijklmnopqrstuvwxyzABC789"] {
-        let tag = Tag::read(alloc, text)?;
-        let copy = tag.copy(alloc)?;
-        assert_eq!(rt; tag.as_str(), text);
-        assert_eq!(rt; copy.as_str(), text);
-        assert_eq!(rt; tag.as_bytes(), text.as_bytes());
-    }
-    for text in [
-        "",
-        "a;b",
-        " S",
-        "a_b",
-        "\u{e9}",
-        "abcdefghijklmnopqrstuvwxyzABC7890",
-    ] {
-        let read = Tag::read(alloc, text);
-        assert!(rt; matches!(read, Err(TagError::BadTag)), "at {text}");
-    }
-    Ok(())
+fn tid_copy(alloc: Global, text: &str) -> Result<bool, NoMemory> {
+    let copy = Tid::of(alloc, text.as_bytes())?.copy(alloc)?;
+    Ok(copy.as_bytes() == text.as_bytes())
 }
 
-#[test]
-fn a_tag_error_says_why(rt: HostRuntime) -> Result<(), Fail> {
-    let alloc = rt.alloc();
-    let none = format!(in alloc; "{}", TagError::NoMemory)?;
-    let bad = format!(in alloc; "{}", TagError::BadTag)?;
-    assert_eq!(rt; none.as_str(), "no memory");
-    assert_eq!(rt; bad.as_str(), "a tag is 1 to 32 letters and digits");
-    Ok(())
+/// A copy of the type of that word.
+fn type_copy(alloc: Global, word: &str) -> Result<bool, NoMemory> {
+    let kind = type_of(alloc, word)?;
+    let copy = kind.copy(alloc)?;
+    Ok(copy.is(&kind))
 }
 
-/// The quoted words of the grammar (04 section 2.2), the words of the simple types, and the truths.
-const WORDS: &str =
-    "module published interface struct exception enum constants const typedef service singleton optional oneway get raises set attribute readonly bound in out inout property constrained maybeambiguous maybedefault maybevoid removable transient void boolean byte short long hyper unsigned float double char string type any sequence TRUE True FALSE False";
+/// Whether a copy of each has what it was copied from.
+pub(crate) fn copies(alloc: Global, text: &str) -> Result<bool, NoMemory> {
+    let names = name_copy(alloc, text)? && text_copy(alloc, text)?;
+    let others = tid_copy(alloc, text)? && type_copy(alloc, text)?;
+    Ok(names && others)
+}
 
-#[test]
-fn words_of_the_grammar_are_no_identifiers(rt: HostRuntime) {
-    for word in WORDS.split(' ') {
-        assert!(rt; !is_identifier(word), "at {word}");
-    }
-    for word in ["", "1a", "a-b", "a b", "a.b", "\u{e9}", "a\u{e9}", "-"] {
-        assert!(rt; !is_identifier(word), "at {word}");
-    }
-    for word in ["a", "_", "_1", "Void", "INOUT", "true", "intern", "A9_z"] {
-        assert!(rt; is_identifier(word), "at {word}");
+/// Whether the text is a tag, which then has just its letters, and so has a copy.
+pub(crate) fn is_tag(alloc: Global, text: &str) -> Result<bool, NoMemory> {
+    match Tag::read(alloc, text) {
+        Ok(tag) => {
+            let copy = tag.copy(alloc)?;
+            Ok(copy.as_str() == text && tag.as_bytes() == text.as_bytes())
+        }
+        Err(TagError::NoMemory) => Err(NoMemory),
+        Err(TagError::BadTag) => Ok(false),
     }
 }
 
+const COPIED: &[&str] = &[
+    "",
+    "demo.XEcho",
+    "z\u{e9}\u{0}\u{1F600}",
+    "[][]interface/t.X",
+    "enum/t.E",
+    "struct/t.S",
+    "exception/t.F",
+    "any",
+];
+
+/// Texts, and whether they are tags.
+const TAGS: &[(&str, bool)] = &[
+    ("S", true),
+    ("0", true),
+    ("abcdefghijklmnopqrstuvwxyzABC789", true),
+    ("", false),
+    ("a;b", false),
+    (" S", false),
+    ("a_b", false),
+    ("\u{e9}", false),
+    ("abcdefghijklmnopqrstuvwxyzABC7890", false),
+];
+
 #[test]
-fn the_name_of_an_entity_is_identifiers_joined_by_points(rt: HostRuntime) {
-    for name in ["a", "a.b", "com.sun.star.uno.XInterface", "_._"] {
-        assert!(rt; is_entity_name(name), "at {name}");
+fn copies_are_equal_and_a_tag_is_1_to_32_letters_and_digits(rt: HostRuntime) {
+    for text in COPIED {
+        assert!(rt; copies(rt.alloc(), text) == Ok(true), "at {text}");
     }
-    for name in [
-        "", ".", "a.", ".a", "a..b", "a.long", "in.b", "a::b", "a.b-c", "a.1",
-    ] {
-        assert!(rt; !is_entity_name(name), "at {name}");
+    for (text, wanted) in TAGS {
+        assert!(rt; is_tag(rt.alloc(), text) == Ok(*wanted), "at {text}");
+    }
+}
+
+/// Texts, and whether they are identifiers, and names of entities. The first are the quoted words of the grammar, the words
+/// of the simple types, and the truths.
+const NAMES: &[(&str, bool, bool)] = &[
+    (
+        "module published interface struct exception enum constants const typedef service singleton optional oneway get raises set attribute readonly bound in out inout property constrained maybeambiguous maybedefault maybevoid removable transient void boolean byte short long hyper unsigned float double char string type any sequence TRUE True FALSE False",
+        false,
+        false,
+    ),
+    ("", false, false),
+    ("1a a-b \u{e9} a\u{e9} -", false, false),
+    ("a _ _1 Void INOUT true intern A9_z", true, true),
+    ("a.b com.sun.star.uno.XInterface _._", false, true),
+    (". a. .a a..b a.long in.b a::b a.b-c a.1", false, false),
+];
+
+#[test]
+fn words_of_the_grammar_are_no_identifiers_and_points_join_these(rt: HostRuntime) {
+    for (words, identifier, entity) in NAMES {
+        for word in words.split(' ') {
+            assert!(rt; is_identifier(word) == *identifier, "at {word}");
+            assert!(rt; is_entity_name(word) == *entity, "at {word}");
+        }
     }
 }

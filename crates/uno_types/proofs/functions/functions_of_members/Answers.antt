@@ -5,7 +5,8 @@ use Rattle.uno_types.proofs.functions.functions_of_members.Goals as goal
 -- src/functions.rt:72:5
 pub loop-member-preserved : goal.loop-member-preserved
 loop-member-preserved c = (
-  member_step c.args.members.now c.loop-member.member-index c.member-item.result c.loop-member.total _ _ _ _ c.loop-member-test.true c.member-item.is c.loop-member.invariant.0 c.functions_of_one.ensures
+  member_step c.args.members.now c.loop-member.member-index c.member-item.result c.loop-member.total _ _ _ _ c.loop-member-test.true c.member-item.is
+      c.loop-member.invariant.0 c.functions_of_one.ensures
       omega arith c.saturating_add-total.ensures,
   omega (arith, c.saturating_add-total.ensures),
 )
