@@ -1,0 +1,3 @@
+pub mod DefaultLemmas
+pub mod FitLemmas
+pub mod Parts

@@ -1,0 +1,172 @@
+//! The default of a type.
+ghost use Rattle.std.specs.Prelude.{◌≡◌, [], IfOk, IsTrue, MatchOption};
+ghost use Rattle.std.specs.List.{list_all};
+ghost use Rattle.uno_model.specs.Defaults.{IsDefault, EachDefault, IsFirst, items_of, items_in};
+ghost use Rattle.uno_model.specs.Kinds as kd;
+ghost use Rattle.uno_model.specs.Registry.{find_entity};
+ghost use Rattle.uno_model.specs.Sound.{IsSound, is_there, is_enum};
+ghost use Rattle.uno_model.specs.Types.{is_formed};
+ghost use Rattle.uno_model.specs.Values.{any, void};
+ghost use Rattle.uno_types.specs.Entities.{body_of};
+ghost use Rattle.uno_types.specs.TypeNames.{kind_of};
+ghost use Rattle.uno_values.specs.Fitting.{kinds_at};
+ghost use Rattle.uno_values.specs.Values.{plain_of, plains_of};
+
+use crate::{AnyValue, Reference, Value};
+use std::alloc::Global;
+use uno_base::NoMemory;
+use uno_types::{Body, Field, Item, Name, Registry, Text, TypeName};
+
+/// How deep a default may be nested: the stack that it takes, also to let it go, is memory too.
+const DEEPEST: u32 = 1024;
+
+/// The default of a type of the registry, the limits of its name apart: 0, false, the empty text, the type void, an any of void,
+/// no elements, null, the first member of an enum, and of a struct or an exception the defaults of all members. A default
+/// that is nested more than 1,024 deep is `NoMemory`.
+pub fn default_of(alloc: Global, registry: &Registry, kind: &TypeName) -> Result<Value, NoMemory>
+    requires sound { IsSound registry.now }
+    requires formed { IsTrue (is_formed registry.now (kind_of kind.now)) }
+    ensures { IfOk result (λ v. IsDefault registry.now (plain_of v) (kind_of kind.now)) }
+{
+    default_within(alloc, registry, kind, DEEPEST)
+}
+
+/// The same, at most so deep.
+#[cycle(default)]
+#[tactic(auto, unfolding(uno_model::specs::Defaults::IsDefault))]
+fn default_within(
+    alloc: Global,
+    registry: &Registry,
+    kind: &TypeName,
+    depth: u32,
+) -> Result<Value, NoMemory>
+    requires sound { IsSound registry.now }
+    requires formed { IsTrue (is_formed registry.now (kind_of kind.now)) }
+    ensures { IfOk result (λ v. IsDefault registry.now (plain_of v) (kind_of kind.now)) }
+{
+    match kind {
+        TypeName::Void => Ok(Value::Void),
+        TypeName::Char => Ok(Value::Char(0)),
+        TypeName::Boolean => Ok(Value::Boolean(false)),
+        TypeName::Byte => Ok(Value::Byte(0)),
+        TypeName::Short => Ok(Value::Short(0)),
+        TypeName::UnsignedShort => Ok(Value::UnsignedShort(0)),
+        TypeName::Long => Ok(Value::Long(0)),
+        TypeName::UnsignedLong => Ok(Value::UnsignedLong(0)),
+        TypeName::Hyper => Ok(Value::Hyper(0)),
+        TypeName::UnsignedHyper => Ok(Value::UnsignedHyper(0)),
+        TypeName::Str => Ok(Value::Str(Text::of(alloc, "")?)),
+        TypeName::Kind => Ok(Value::Kind(TypeName::Void)),
+        TypeName::Any => default_any(alloc),
+        TypeName::Enum(name) => default_item(alloc, registry, name),
+        TypeName::Struct(name) => default_tuple(alloc, registry, name, depth),
+        TypeName::Exception(name) => default_tuple(alloc, registry, name, depth),
+        TypeName::Interface(_) => Ok(Value::Ref(Reference::Null)),
+        TypeName::Sequence(inner) => default_sequence(alloc, registry, inner),
+    }
+}
+
+/// An any of void.
+fn default_any(alloc: Global) -> Result<Value, NoMemory>
+    ensures { IfOk result (λ v. plain_of v ≡ any kd.void void) }
+{
+    let any = AnyValue {
+        kind: TypeName::Void,
+        value: Value::Void,
+    };
+    Ok(Value::Any(Box::new(alloc, any)?))
+}
+
+/// A sequence of no elements.
+#[tactic(auto, unfolding(uno_model::specs::Defaults::IsDefault))]
+fn default_sequence(alloc: Global, registry: &Registry, inner: &TypeName) -> Result<Value, NoMemory>
+    ensures { IfOk result (λ v. IsDefault registry.now (plain_of v) (kd.sequence (kind_of inner.now))) }
+{
+    if matches!(inner, TypeName::Byte) {
+        return Ok(Value::Bytes(Vec::new(alloc)));
+    }
+    let element = inner.copy(alloc)?;
+    Ok(Value::List(element, Vec::new(alloc)))
+}
+
+/// The first item of an enum.
+#[tactic(auto, unfolding(uno_model::specs::Defaults::IsDefault))]
+fn default_item(alloc: Global, registry: &Registry, name: &Name) -> Result<Value, NoMemory>
+    requires sound { IsSound registry.now }
+    requires there { IsTrue (is_there registry.now is_enum name.now) }
+    ensures { IfOk result (λ v. IsDefault registry.now (plain_of v) (kd.enum name.now)) }
+{
+    let Some(item) = first_item(registry, name.as_str()) else {
+        unreachable!()
+    };
+    let number = item.number;
+    let name = name.copy(alloc)?;
+    Ok(Value::Enum(name, number))
+}
+
+/// The first item that the enum of this name has.
+fn first_item<'a>(registry: &'a Registry, name: &str) -> Option<&'a Item>
+    ensures { MatchOption result (items_of (find_entity name.now registry.now) ≡ []) (λ item. IsFirst (items_of (find_entity name.now registry.now)) item.now.number) }
+{
+    match registry.find(name) {
+        Some(entity) => first_of(&entity.body),
+        None => None,
+    }
+}
+
+fn first_of(body: &Body) -> Option<&Item>
+    ensures { MatchOption result (items_in (body_of body.now) ≡ []) (λ item. IsFirst (items_in (body_of body.now)) item.now.number) }
+{
+    match body {
+        Body::Enum { items } => items.first(),
+        Body::Interface { .. }
+        | Body::Struct { .. }
+        | Body::Exception { .. }
+        | Body::Constants { .. }
+        | Body::Typedef { .. }
+        | Body::Service(_)
+        | Body::Singleton(_) => None,
+    }
+}
+
+/// A struct or an exception of the defaults of its members.
+#[cycle(default)]
+#[tactic(auto, unfolding(uno_model::specs::Defaults::IsDefault))]
+fn default_tuple(
+    alloc: Global,
+    registry: &Registry,
+    name: &Name,
+    depth: u32,
+) -> Result<Value, NoMemory>
+    requires sound { IsSound registry.now }
+    ensures structs { IfOk result (λ v. IsDefault registry.now (plain_of v) (kd.struct name.now)) }
+    ensures exceptions { IfOk result (λ v. IsDefault registry.now (plain_of v) (kd.exception name.now)) }
+{
+    let Some(inner) = depth.checked_sub(1) else {
+        return Err(NoMemory)
+    };
+    let fields = registry.members(alloc, name.as_str())?;
+    let members = defaults_of(alloc, registry, &fields, inner)?;
+    let name = name.copy(alloc)?;
+    Ok(Value::Tuple(name, members))
+}
+
+/// The default of each member.
+#[cycle(default)]
+#[tactic(auto, unfolding(uno_model::specs::Defaults::EachDefault))]
+fn defaults_of(
+    alloc: Global,
+    registry: &Registry,
+    fields: &[&Field],
+    depth: u32,
+) -> Result<Vec<Value>, NoMemory>
+    requires sound { IsSound registry.now }
+    requires formed { IsTrue (list_all (is_formed registry.now) (kinds_at fields.now)) }
+    ensures { IfOk result (λ vs. EachDefault registry.now (plains_of vs.items) (kinds_at fields.now)) }
+{
+    let mut values = Vec::new(alloc);
+    for field in fields {
+        values.push(default_within(alloc, registry, &field.kind, depth)?)?;
+    }
+    Ok(values)
+}

@@ -1,0 +1,22 @@
+//! The values of UNO: what fits a type, its default, the references in a value, and its weight on the wire.
+#![tactic(auto)]
+
+mod copy;
+mod default;
+mod depth;
+mod fitting;
+mod reference;
+mod references;
+#[cfg(test)]
+mod tests;
+mod threads;
+mod value;
+mod weigh;
+
+pub use default::default_of;
+pub use depth::depth_of;
+pub use fitting::fits;
+pub use reference::Reference;
+pub use references::refs_of;
+pub use value::{AnyValue, Value};
+pub use weigh::weight;

@@ -1,0 +1,38 @@
+//! A reference to an object, under one of its interfaces.
+ghost use Rattle.std.specs.Prelude.{◌≡◌, IfOk};
+ghost use Rattle.uno_values.specs.References.{ref_of};
+
+use std::alloc::Global;
+use uno_base::NoMemory;
+use uno_types::{Name, Text};
+
+/// Null, or an object by its identity (`oid`) and the interface under which it is held (`face`).
+#[derive(Debug, Drop)]
+pub enum Reference {
+    Null,
+    /// An object of the own side.
+    Local { oid: Text, face: Name },
+    /// An object of the peer's.
+    Remote { oid: Text, face: Name },
+}
+
+impl Reference {
+    /// An equal reference.
+    pub fn copy(&self, alloc: Global) -> Result<Reference, NoMemory>
+        ensures { IfOk result (λ copy. ref_of copy ≡ ref_of self.now) }
+    {
+        match self {
+            Reference::Null => Ok(Reference::Null),
+            Reference::Local { oid, face } => {
+                let oid = oid.copy(alloc)?;
+                let face = face.copy(alloc)?;
+                Ok(Reference::Local { oid, face })
+            }
+            Reference::Remote { oid, face } => {
+                let oid = oid.copy(alloc)?;
+                let face = face.copy(alloc)?;
+                Ok(Reference::Remote { oid, face })
+            }
+        }
+    }
+}

@@ -1,0 +1,30 @@
+//! Where memory runs out: `rt try --test --fail-alloc N` makes the Nth request fail, and this test passes for each N.
+use super::defaults::is_right;
+use super::parts::parts_are_right;
+use super::words::sound;
+use std::alloc::Global;
+use uno_base::NoMemory;
+use uno_types::Registry;
+
+/// Whether the default of an exception is right, and the references and the copy of an any of one.
+fn are_right(alloc: Global) -> Result<bool, NoMemory> {
+    let registry = sound(Registry::new(alloc)?)?;
+    if is_right(
+        alloc,
+        &registry,
+        "exception/com.sun.star.uno.Exception",
+        "string= null tuple=2:com.sun.star.uno.Exception",
+    )? {
+        return parts_are_right(
+            alloc,
+            "string=no peer=t.XBase:a tuple=2:t.Bad any=exception/t.Bad",
+            "-a",
+        );
+    }
+    Ok(false)
+}
+
+#[test]
+fn answers_are_right_or_there_is_no_memory(rt: HostRuntime) {
+    assert!(rt; matches!(are_right(rt.alloc()), Ok(true) | Err(NoMemory)));
+}
