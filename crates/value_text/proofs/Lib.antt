@@ -1,0 +1,5 @@
+pub mod OrderLemmas
+pub mod PrintLemmas
+pub mod ReadLemmas
+pub mod ScanLemmas
+pub mod TypedLemmas

@@ -1,0 +1,4 @@
+pub mod Printing
+pub mod Reading
+pub mod Scanning
+pub mod Typing

@@ -1,0 +1,187 @@
+//! Values of one token.
+ghost use Rattle.std.specs.Prelude.{◌≡◌, IfOk, codes, option_map};
+ghost use Rattle.uno_model.specs.Defaults.{items_of};
+ghost use Rattle.uno_model.specs.Readings.{single, number_in, word_in, string_in, named_in, cast_in, and_then, some_as, unsigned_of, signed_of, truth_of, word_as, number_named, item_of_word, item_of_number, item_in, byte_in};
+ghost use Rattle.uno_model.specs.Registry.{find_entity};
+ghost use Rattle.uno_model.specs.Values as plain;
+ghost use Rattle.uno_types.specs.Entities.{item_of};
+ghost use Rattle.uno_types.specs.TypeNames.{kind_of};
+ghost use Rattle.uno_values.specs.Values.{plain_of};
+ghost use Rattle.value_text.specs.Scanning.{token_of};
+
+mod item;
+mod range;
+
+use crate::token::Token;
+use item::item_in;
+use range::{to_i8, to_i16, to_i32, to_i64, to_u16, to_u32, to_u64};
+use std::alloc::Global;
+use uno_base::NoMemory;
+use uno_types::{Name, Registry, TypeName};
+use uno_values::{Reference, Value};
+
+/// The value of a token at a type; sequences, structs, exceptions and any have more than one.
+pub(crate) fn single(
+    alloc: Global,
+    registry: &Registry,
+    kind: &TypeName,
+    token: &Token,
+) -> Result<Option<Value>, NoMemory>
+    ensures { IfOk result (λ found. option_map plain_of found ≡ single registry.now (kind_of kind.now) (token_of token.now)) }
+{
+    match kind {
+        TypeName::Void => Ok(void_in(token)),
+        TypeName::Char => Ok(char_in(token)),
+        TypeName::Boolean => Ok(boolean_in(token)),
+        TypeName::Byte => Ok(byte_in(token)),
+        TypeName::Short => Ok(short_in(token)),
+        TypeName::UnsignedShort => Ok(unsigned_short_in(token)),
+        TypeName::Long => Ok(long_in(token)),
+        TypeName::UnsignedLong => Ok(unsigned_long_in(token)),
+        TypeName::Hyper => Ok(hyper_in(token)),
+        TypeName::UnsignedHyper => Ok(unsigned_hyper_in(token)),
+        TypeName::Str => string_in(alloc, token),
+        TypeName::Kind => kind_in(alloc, token),
+        TypeName::Enum(name) => enum_in(alloc, registry, name, token),
+        TypeName::Interface(_) => Ok(null_in(token)),
+        TypeName::Any | TypeName::Struct(_) | TypeName::Exception(_) | TypeName::Sequence(_) => Ok(
+            None,
+        ),
+    }
+}
+
+pub(crate) fn number_in(token: &Token) -> Option<i128>
+    ensures { result ≡ number_in (token_of token.now) }
+{
+    match token {
+        Token::Number(number) => Some(*number),
+        _ => None,
+    }
+}
+
+pub(crate) fn word_in(token: &Token) -> Option<&str>
+    ensures { option_map (λ word. word.now) result ≡ word_in (token_of token.now) }
+{
+    match token {
+        Token::Word(word) => Some(word.as_str()),
+        _ => None,
+    }
+}
+
+fn void_in(token: &Token) -> Option<Value>
+    ensures { option_map plain_of result ≡ and_then (word_in (token_of token.now)) (word_as (codes "void") plain.void) }
+{
+    if word_in(token)? == "void" {
+        return Some(Value::Void);
+    }
+    None
+}
+
+fn null_in(token: &Token) -> Option<Value>
+    ensures { option_map plain_of result ≡ and_then (word_in (token_of token.now)) (word_as (codes "null") (plain.ref plain.null)) }
+{
+    if word_in(token)? == "null" {
+        return Some(Value::Ref(Reference::Null));
+    }
+    None
+}
+
+fn boolean_in(token: &Token) -> Option<Value>
+    ensures { option_map plain_of result ≡ some_as plain.boolean (and_then (word_in (token_of token.now)) truth_of) }
+{
+    let word = word_in(token)?;
+    if word == "true" {
+        return Some(Value::Boolean(true));
+    }
+    if word == "false" {
+        return Some(Value::Boolean(false));
+    }
+    None
+}
+
+fn char_in(token: &Token) -> Option<Value>
+    ensures { option_map plain_of result ≡ some_as plain.char (and_then (number_in (token_of token.now)) (unsigned_of 16)) }
+{
+    Some(Value::Char(to_u16(number_in(token)?)?))
+}
+
+fn byte_in(token: &Token) -> Option<Value>
+    ensures { option_map plain_of result ≡ some_as plain.byte (and_then (number_in (token_of token.now)) (signed_of 7)) }
+{
+    Some(Value::Byte(to_i8(number_in(token)?)?))
+}
+
+fn short_in(token: &Token) -> Option<Value>
+    ensures { option_map plain_of result ≡ some_as plain.short (and_then (number_in (token_of token.now)) (signed_of 15)) }
+{
+    Some(Value::Short(to_i16(number_in(token)?)?))
+}
+
+fn unsigned_short_in(token: &Token) -> Option<Value>
+    ensures { option_map plain_of result ≡ some_as plain.unsigned_short (and_then (number_in (token_of token.now)) (unsigned_of 16)) }
+{
+    Some(Value::UnsignedShort(to_u16(number_in(token)?)?))
+}
+
+fn long_in(token: &Token) -> Option<Value>
+    ensures { option_map plain_of result ≡ some_as plain.long (and_then (number_in (token_of token.now)) (signed_of 31)) }
+{
+    Some(Value::Long(to_i32(number_in(token)?)?))
+}
+
+fn unsigned_long_in(token: &Token) -> Option<Value>
+    ensures { option_map plain_of result ≡ some_as plain.unsigned_long (and_then (number_in (token_of token.now)) (unsigned_of 32)) }
+{
+    Some(Value::UnsignedLong(to_u32(number_in(token)?)?))
+}
+
+fn hyper_in(token: &Token) -> Option<Value>
+    ensures { option_map plain_of result ≡ some_as plain.hyper (and_then (number_in (token_of token.now)) (signed_of 63)) }
+{
+    Some(Value::Hyper(to_i64(number_in(token)?)?))
+}
+
+fn unsigned_hyper_in(token: &Token) -> Option<Value>
+    ensures { option_map plain_of result ≡ some_as plain.unsigned_hyper (and_then (number_in (token_of token.now)) (unsigned_of 64)) }
+{
+    Some(Value::UnsignedHyper(to_u64(number_in(token)?)?))
+}
+
+fn string_in(alloc: Global, token: &Token) -> Result<Option<Value>, NoMemory>
+    ensures { IfOk result (λ found. option_map plain_of found ≡ some_as plain.str (string_in (token_of token.now))) }
+{
+    match token {
+        Token::String(text) => Ok(Some(Value::Str(text.copy(alloc)?))),
+        _ => Ok(None),
+    }
+}
+
+fn kind_in(alloc: Global, token: &Token) -> Result<Option<Value>, NoMemory>
+    ensures { IfOk result (λ found. option_map plain_of found ≡ some_as plain.kind (named_in (token_of token.now))) }
+{
+    match token {
+        Token::Named(kind) => Ok(Some(Value::Kind(kind.copy(alloc)?))),
+        _ => Ok(None),
+    }
+}
+
+fn enum_in(
+    alloc: Global,
+    registry: &Registry,
+    name: &Name,
+    token: &Token,
+) -> Result<Option<Value>, NoMemory>
+    ensures { IfOk result (λ found. option_map plain_of found ≡ some_as (plain.enum name.now) (item_in (items_of (find_entity name.now registry.now)) (token_of token.now))) }
+{
+    match item_in(registry, name.as_str(), token) {
+        Some(number) => Ok(Some(Value::Enum(name.copy(alloc)?, number))),
+        None => Ok(None),
+    }
+}
+
+/// The bits of a byte that is written as a signed number.
+pub(crate) fn bits_in(token: &Token) -> Option<u8>
+    ensures { result ≡ byte_in (token_of token.now) }
+{
+    Some(to_i8(number_in(token)?)?.cast_unsigned())
+}

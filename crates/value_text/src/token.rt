@@ -1,0 +1,30 @@
+//! The tokens of a literal, each with the bytes that are left from its front on.
+
+use uno_types::{Name, Text, TypeName};
+
+/// The brackets of a sequence, and those of a struct or an exception.
+#[derive(Clone, Copy, Debug, PartialEq, Eq, Hash)]
+pub(crate) enum Bracket {
+    Square,
+    Curly,
+}
+
+/// A bracket, a comma, or a value that is one token; `Cast` is a type that stands before a value of it.
+#[derive(Debug, Drop)]
+pub(crate) enum Token {
+    Opens(Bracket),
+    Closes(Bracket),
+    Comma,
+    Number(i128),
+    Word(Name),
+    String(Text),
+    Named(TypeName),
+    Cast(TypeName),
+}
+
+/// A token, and how many bytes of the text are left from its front on.
+#[derive(Debug, Drop)]
+pub(crate) struct Placed {
+    pub(crate) left: usize,
+    pub(crate) token: Token,
+}
