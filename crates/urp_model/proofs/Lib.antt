@@ -1,1 +1,26 @@
+pub mod Agreeing
+pub mod ArrivedLaws
 pub mod BlockLaws
+pub mod ChoiceLaws
+pub mod ClassLaws
+pub mod CorrespondLaws
+pub mod Entries
+pub mod FittingLaws
+pub mod FrontLaws
+pub mod HeldBounds
+pub mod KeptUses
+pub mod KindLaws
+pub mod Levels
+pub mod NamesInSlots
+pub mod OidReadingLaws
+pub mod PartLaws
+pub mod PieceLaws
+mod Rows
+pub mod SentLaws
+pub mod SizeLaws
+pub mod TableLaws
+pub mod TypeReadingLaws
+pub mod UseByUse
+pub mod Utf8Laws
+pub mod ValueLaws
+pub mod WeightLaws

@@ -1,1 +1,12 @@
+pub mod Agreement
 pub mod Blocks
+pub mod Carried
+pub mod Held
+pub mod NamedKinds
+pub mod Parts
+pub mod Reading
+pub mod ReadingNames
+pub mod Slots
+pub mod Spelling
+pub mod Tables
+pub mod Writing

@@ -1,0 +1,2 @@
+pub mod ReadCache
+pub mod SendCache

@@ -1,0 +1,107 @@
+-- What a value is where it arrives, what a sender asks of it, and when the tables of the reader answer to the names that the sender holds.
+use Rattle.std.specs.Prelude.{◌≡◌, ℕ, ◌^◌, ◌<◌, false, List, length, get_or, None, Some, FitsSigned}
+use Rattle.std.specs.List.{AllByRecursion}
+use Rattle.std.specs.Int.{w8, w16, w32, w64}
+use Rattle.std.specs.Str.{IsUtf8}
+use Rattle.uno_model.specs.Entities.{Entity}
+use Rattle.uno_model.specs.Fits.{IsIdentity}
+use Rattle.uno_model.specs.Kinds.{Kind, name_of}
+use Rattle.uno_model.specs.Recast.{recast}
+use Rattle.uno_model.specs.Values.{Ref, null, own, peer, Plain, Plains, char, byte, short, unsigned_short, long, unsigned_long, hyper, unsigned_hyper, str, kind, any, enum, tuple, list, ref, none, more}
+use Rattle.urp_model.specs.Held.{holds, StandsFor}
+use Rattle.urp_model.specs.NamedKinds.{is_simple}
+use Rattle.urp_model.specs.Tables.{Table, Tables, meaning}
+use Rattle.urp_model.specs.Writing.{Names, HeldNames, holding_types, kind_after, after}
+
+-- an object as one of the peer
+abbrev pub abroad_ref : Ref → Ref
+abroad_ref null = null
+abroad_ref (own oid face) = peer oid face
+abroad_ref (peer oid face) = peer oid face
+
+-- a value in which each object is one of the peer
+unfoldable mutual
+  pub abroad : Plain → Plain
+  abroad (any k v) = any k (abroad v)
+  abroad (tuple name vs) = tuple name (abroad_each vs)
+  abroad (list k vs) = list k (abroad_each vs)
+  abroad (ref r) = ref (abroad_ref r)
+  abroad v = v
+
+  pub abroad_each : Plains → Plains
+  abroad_each none = none
+  abroad_each (more v vs) = more (abroad v) (abroad_each vs)
+
+-- a value as it arrives at a type: each object is one of the peer, under the interface at its place
+abbrev pub carried : List Entity → Plain → Kind → Plain
+carried reg v k = abroad (recast reg v k)
+
+-- an identity is UTF-8
+abbrev pub IsSpellableRef : Ref → Type 0
+IsSpellableRef null = Unit
+IsSpellableRef (own oid face) = IsUtf8 oid
+IsSpellableRef (peer oid face) = IsUtf8 oid
+
+-- each number is in the range of its type, and each text and identity is UTF-8
+unfoldable mutual
+  pub IsSpellable : Plain → Type 0
+  IsSpellable (char n) = n < 2 ^ 16
+  IsSpellable (byte n) = FitsSigned w8 n
+  IsSpellable (short n) = FitsSigned w16 n
+  IsSpellable (unsigned_short n) = n < 2 ^ 16
+  IsSpellable (long n) = FitsSigned w32 n
+  IsSpellable (unsigned_long n) = n < 2 ^ 32
+  IsSpellable (hyper n) = FitsSigned w64 n
+  IsSpellable (unsigned_hyper n) = n < 2 ^ 64
+  IsSpellable (str s) = IsUtf8 s
+  IsSpellable (any k v) = IsSpellable v
+  IsSpellable (enum name n) = FitsSigned w32 n
+  IsSpellable (tuple name vs) = AreSpellable vs
+  IsSpellable (list k vs) = AreSpellable vs
+  IsSpellable (ref r) = IsSpellableRef r
+  IsSpellable _ = Unit
+
+  pub AreSpellable : Plains → Type 0
+  AreSpellable none = Unit
+  AreSpellable (more v vs) = IsSpellable v × AreSpellable vs
+
+-- each identity that a slot means has 1 to 4,096 bytes
+abbrev pub MeansIdentities : Table → Type 0
+MeansIdentities table = (slot : ℕ) (oid : List ℕ) → meaning slot table ≡ Some oid → IsIdentity oid
+
+-- a table of the reader answers to what the sender holds after some uses: each name that is held is what its slot means
+pub record Corresponds (table : Table) (held : Names) : Type 0 where
+  pub uses : List (List ℕ)
+  pub stands : StandsFor held uses
+  pub slots : length table ≡ 256
+  pub each : AllByRecursion (λ e. get_or table e.1 None ≡ Some e.0) held
+
+-- the same of the three tables
+pub record AllCorrespond (s : Tables) (h : HeldNames) : Type 0 where
+  pub types : Corresponds s.types h.types
+  pub oids : Corresponds s.oids h.oids
+  pub tids : Corresponds s.tids h.tids
+
+-- a type is simple, or its name is not held
+abbrev pub IsNewKind : Kind → Names → Type 0
+IsNewKind k held = is_simple k ≡ false → holds (name_of k) held ≡ false
+
+-- an object is not held
+abbrev pub IsNewRef : Ref → Names → Type 0
+IsNewRef null held = Unit
+IsNewRef (own oid face) held = holds oid held ≡ false
+IsNewRef (peer oid face) held = holds oid held ≡ false
+
+-- each name in a value is new where it stands
+unfoldable mutual
+  pub IsNew : Plain → HeldNames → Type 0
+  IsNew (kind k) h = IsNewKind k h.types
+  IsNew (any k v) h = IsNewKind k h.types × IsNew v (holding_types h (kind_after k h.types))
+  IsNew (tuple name vs) h = AreNew vs h
+  IsNew (list k vs) h = AreNew vs h
+  IsNew (ref r) h = IsNewRef r h.oids
+  IsNew _ h = Unit
+
+  pub AreNew : Plains → HeldNames → Type 0
+  AreNew none h = Unit
+  AreNew (more v vs) h = IsNew v h × AreNew vs (after v h)

@@ -1,0 +1,7 @@
+pub mod Fronts
+pub mod Lengths
+pub mod Loops
+pub mod Names
+pub mod Sendings
+pub mod Shapes
+pub mod Texts

@@ -1,0 +1,13 @@
+//! Values as the bytes that go over the wire, and back.
+#![tactic(auto)]
+
+mod error;
+mod read;
+#[cfg(test)]
+mod tests;
+mod write;
+
+pub use error::WireError;
+pub use read::{read_kind, read_oid, read_tid, read_value};
+pub use urp_model::Reason;
+pub use write::{write_kind, write_oid, write_tid, write_value};

@@ -1,0 +1,15 @@
+//! Reading: what stands at the front of bytes, and the bytes behind it.
+
+mod flat;
+mod front;
+mod kind;
+mod oid;
+mod parts;
+mod slots;
+mod tid;
+mod value;
+
+pub use front::read_value;
+pub use kind::read_kind;
+pub use oid::read_oid;
+pub use tid::read_tid;

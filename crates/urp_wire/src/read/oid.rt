@@ -1,0 +1,36 @@
+//! Reading the identities of objects (URP specification, marshalling of interface references).
+ghost use Rattle.std.specs.Prelude.{◌≡◌, Option};
+ghost use Rattle.urp_model.specs.ReadingNames.{oid_at};
+ghost use Rattle.urp_wire.specs.Gives.{Gives};
+
+use super::parts::{NO_SLOT, slot, text_name};
+use super::slots::{meant_text, note};
+use crate::{Reason, WireError};
+use std::alloc::Global;
+use uno_types::Text;
+use urp_cache::ReadCache;
+
+/// The identity of an object, or none for null, and the bytes behind it.
+#[tactic(auto, unfolding(urp_model::specs::ReadingNames::oid_at, urp_model::specs::ReadingNames::named))]
+pub fn read_oid<'a>(
+    alloc: Global,
+    oids: &mut ReadCache,
+    bytes: &'a [u8],
+) -> Result<(Option<Text>, &'a [u8]), WireError>
+    ensures { Gives (λ x. (x.0, oids.new, x.1.now)) result (oid_at oids.old bytes.now) }
+{
+    let (name, rest) = text_name(bytes)?;
+    let (slot, rest) = slot(rest)?;
+    if !name.is_empty() {
+        let oid = Text::of(alloc, name)?;
+        note(oids, slot, name.as_bytes())?;
+        return Ok((Some(oid), rest));
+    }
+    if slot == NO_SLOT {
+        return Ok((None, rest));
+    }
+    let Some(oid) = meant_text(alloc, oids, slot)? else {
+        return Err(WireError::Bad(Reason::UnknownSlot));
+    };
+    Ok((Some(oid), rest))
+}

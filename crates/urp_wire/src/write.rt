@@ -1,0 +1,11 @@
+//! Writing: the one spelling that a sender chooses, behind the bytes that are there.
+
+mod kind;
+mod name;
+mod parts;
+mod value;
+mod whole;
+
+pub use kind::write_kind;
+pub use name::{write_oid, write_tid};
+pub use whole::write_value;
