@@ -1,0 +1,11 @@
+use Rattle.std.specs.Prelude.{◌≡◌, ◌++◌, drop}
+use Rattle.std.specs.List.{flat_map}
+use Rattle.uno_model.specs.Functions.{functions_of, declared_by}
+use Rattle.uno_model.specs.Registry.{find_entity}
+use Rattle.type_registry.specs.Functions.{functions_at}
+use Rattle.type_registry.specs.Met.{names_at}
+use Rattle.type_registry.proofs.table.table_of.Given as goal
+
+abbrev pub invariant-loop-owner : goal.invariant-loop-owner
+invariant-loop-owner l =
+    functions_at l.table.items ++ flat_map (λ owner. declared_by owner (find_entity owner l.registry)) (names_at (drop l.owner-index l.owner-items)) ≡ functions_of l.registry l.name

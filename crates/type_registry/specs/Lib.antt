@@ -1,0 +1,3 @@
+pub mod Functions
+pub mod Met
+pub mod Tasks

@@ -1,0 +1,135 @@
+//! The interfaces whose functions an interface has, without recursion over its bases.
+ghost use Rattle.std.specs.Prelude.{◌≡◌, ◌∷◌, ◌++◌, [], ◌+◌, ◌<◌, map, IfOk, OnOk};
+ghost use Rattle.uno_model.specs.Functions.{interfaces_of, met_within};
+ghost use Rattle.uno_model.specs.Registry.{required, at_most_one, stands_on};
+ghost use Rattle.uno_types.specs.Entities.{base_of, body_of};
+ghost use Rattle.type_registry.specs.Tasks.{bases_in, visits, done, cost_within, costs, tasks_of};
+
+use crate::met::Met;
+use std::alloc::Global;
+use uno_base::NoMemory;
+use uno_types::{Base, Body, Name, Registry};
+
+/// What is left to do.
+#[derive(Clone, Copy)]
+pub(crate) enum Task<'a> {
+    /// Bring in what an interface brings in over so many levels of bases.
+    Visit(&'a str, u128),
+    /// Bring in the interface itself, whose bases were brought in.
+    Leave(&'a str),
+}
+
+/// The interfaces whose functions an interface has, in the order in which they are numbered.
+pub(crate) fn interfaces_of<'a>(
+    alloc: Global,
+    registry: &'a Registry,
+    name: &'a str,
+) -> Result<Met<'a>, NoMemory>
+    ensures { IfOk result (λ met. met ≡ interfaces_of registry.now name.now) }
+{
+    let levels = registry.entities().len() as u128 + 1;
+    let mut met = Met::new(alloc);
+    let mut tasks = Vec::new(alloc);
+    tasks.push(Task::Visit(name, levels))?;
+    while let Some(task) = tasks.pop() {
+        match task {
+            Task::Visit(next, levels) => visit(registry, &met, &mut tasks, next, levels)?,
+            Task::Leave(last) => met.add(last)?,
+        }
+    }
+    Ok(met)
+}
+
+/// An interface that was not met, and for which levels are left, is left behind its bases.
+fn visit<'a>(
+    registry: &'a Registry,
+    met: &Met<'a>,
+    tasks: &mut Vec<Task<'a>>,
+    name: &'a str,
+    levels: u128,
+) -> Result<(), NoMemory>
+    ensures done { OnOk result (done registry.now (tasks_of tasks.new.items) met.now ≡ done registry.now (tasks_of tasks.old.items) (met_within levels registry.now met.now name.now)) }
+    ensures less { OnOk result (costs registry.now (tasks_of tasks.new.items) < costs registry.now (tasks_of tasks.old.items) + cost_within levels registry.now name.now) }
+{
+    let Some(levels) = levels.checked_sub(1) else {
+        return Ok(())
+    };
+    if met.has(name) {
+        return Ok(());
+    }
+    tasks.push(Task::Leave(name))?;
+    push_visits(registry, tasks, name, levels)?;
+    Ok(())
+}
+
+/// The bases that are not optional, the first one on top.
+fn push_visits<'a>(
+    registry: &'a Registry,
+    tasks: &mut Vec<Task<'a>>,
+    name: &str,
+    levels: u128,
+) -> Result<(), NoMemory>
+    ensures { OnOk result (tasks_of tasks.new.items ≡ tasks_of tasks.old.items ++ visits levels (stands_on registry.now name.now)) }
+{
+    let Some(entity) = registry.find(name) else {
+        return Ok(())
+    };
+    push_bases(tasks, &entity.body, levels)
+}
+
+fn push_bases<'a>(tasks: &mut Vec<Task<'a>>, body: &'a Body, levels: u128) -> Result<(), NoMemory>
+    ensures { OnOk result (tasks_of tasks.new.items ≡ tasks_of tasks.old.items ++ visits levels (bases_in (body_of body.now))) }
+{
+    match body {
+        Body::Interface { bases, members: _ } => push_required(tasks, bases, levels),
+        Body::Struct { base, members: _ } => push_base(tasks, base, levels),
+        Body::Exception { base, members: _ } => push_base(tasks, base, levels),
+        Body::Enum { .. }
+        | Body::Constants { .. }
+        | Body::Typedef { .. }
+        | Body::Service(_)
+        | Body::Singleton(_) => Ok(()),
+    }
+}
+
+/// From the last base to the first.
+fn push_required<'a>(
+    tasks: &mut Vec<Task<'a>>,
+    bases: &'a [Base],
+    levels: u128,
+) -> Result<(), NoMemory>
+    ensures { OnOk result (tasks_of tasks.new.items ≡ tasks_of tasks.old.items ++ visits levels (required (map base_of bases.now))) }
+{
+    let mut left = bases.len();
+    while left > 0 {
+        left -= 1;
+        push_unless_optional(tasks, &bases[left], levels)?;
+    }
+    Ok(())
+}
+
+fn push_unless_optional<'a>(
+    tasks: &mut Vec<Task<'a>>,
+    base: &'a Base,
+    levels: u128,
+) -> Result<(), NoMemory>
+    ensures { OnOk result (tasks_of tasks.new.items ≡ tasks_of tasks.old.items ++ visits levels (required (base_of base.now ∷ []))) }
+{
+    if base.optional {
+        return Ok(());
+    }
+    tasks.push(Task::Visit(base.name.as_str(), levels))?;
+    Ok(())
+}
+
+fn push_base<'a>(
+    tasks: &mut Vec<Task<'a>>,
+    base: &'a Option<Name>,
+    levels: u128,
+) -> Result<(), NoMemory>
+    ensures { OnOk result (tasks_of tasks.new.items ≡ tasks_of tasks.old.items ++ visits levels (at_most_one base.now)) }
+{
+    let Some(base) = base else { return Ok(()) };
+    tasks.push(Task::Visit(base.as_str(), levels))?;
+    Ok(())
+}
