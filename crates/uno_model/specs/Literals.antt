@@ -1,4 +1,4 @@
--- Literals: the text of each value, and what a text says before its type is asked.
+-- Literals: the text of each value.
 use Rattle.std.specs.Prelude.{◌≡◌, ℕ, zero, ◌==◌, ◌||◌, ℤ, Bool, true, false, List, [], ◌∷◌, ◌++◌, map, Option, None, Some, codes, if◌then◌else◌}
 use Rattle.std.specs.List.{flat_map}
 use Rattle.std.specs.Ordering.{int_eq}
@@ -16,6 +16,7 @@ use Rattle.uno_model.specs.Values.{Ref, null, own, peer, Plain, Plains, void, ch
 abbrev pub escaped : ℕ → List ℕ
 escaped c = if (c == 34) || (c == 92) then 92 ∷ (c ∷ []) else (if c == 10 then 92 ∷ (110 ∷ []) else c ∷ [])
 
+-- a text between quotes
 abbrev pub quoted : List ℕ → List ℕ
 quoted s = (34 ∷ flat_map escaped s) ++ 34 ∷ []
 

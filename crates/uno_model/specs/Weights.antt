@@ -27,10 +27,12 @@ ref_weight null = 3
 ref_weight (own oid face) = text_weight oid + 2
 ref_weight (peer oid face) = text_weight oid + 2
 
+-- how many values there are
 abbrev pub count : Plains → ℕ
 count none = 0
 count (more v vs) = suc (count vs)
 
+-- the bytes of a value, each name in it written out
 unfoldable mutual
   pub weight : Plain → ℕ
   weight void = 0

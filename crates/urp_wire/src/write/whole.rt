@@ -21,7 +21,6 @@ use urp_cache::SendCaches;
 
 /// A value of a type of the registry, behind the bytes that are there. Neither the registry nor the type is looked into: all
 /// that is written, the value says.
-
 pub fn write_value(
     alloc: Global,
     _registry: &Registry,
