@@ -3,6 +3,7 @@
 
 mod function;
 mod met;
+mod numbered;
 mod table;
 #[cfg(test)]
 mod tests;
@@ -10,4 +11,5 @@ mod threads;
 mod walk;
 
 pub use function::Function;
+pub use numbered::function_numbered;
 pub use table::{TableError, function_table};

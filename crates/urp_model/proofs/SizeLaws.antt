@@ -77,7 +77,7 @@ module _ (reg : List Entity) (sound : IsSound reg) where
     light_sized (bytes b) k fits light = omega arith
     light_sized _ k fits light = tt
 
-    each_sized : (vs : Plains) (ks : List Kind) → FitEach reg vs ks → weights vs ≤ 16777216 → AreSized vs
+    pub each_sized : (vs : Plains) (ks : List Kind) → FitEach reg vs ks → weights vs ≤ 16777216 → AreSized vs
     each_sized none ks fits light = tt
     each_sized (more v vs) [] fits light = absurd fits
     each_sized (more v vs) (k ∷ ks) fits light = (light_sized v k fits.0 (omega arith), each_sized vs ks fits.1 (omega arith))

@@ -86,7 +86,7 @@ module _ (k : Kind) (held : Names) where
 -- ---- objects
 
 module _ (oid : List ℕ) (held : Names) where
-  oid_bounded : length (name_spelling oid held) ≤ text_weight oid + 2
+  pub oid_bounded : length (name_spelling oid held) ≤ text_weight oid + 2
   unfolding name_spelling
   oid_bounded = by_test (holds oid held)
     where

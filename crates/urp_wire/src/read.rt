@@ -12,4 +12,6 @@ mod value;
 pub use front::read_value;
 pub use kind::read_kind;
 pub use oid::read_oid;
+pub use parts::{byte as read_byte, two_bytes as read_two_bytes};
 pub use tid::read_tid;
+pub use value::value_within as read_value_within;

@@ -8,4 +8,5 @@ mod whole;
 
 pub use kind::write_kind;
 pub use name::{write_oid, write_tid};
+pub use value::{put_all as write_values, put_any as write_any};
 pub use whole::write_value;

@@ -67,7 +67,7 @@ fn put_text(text: &Text, to: &mut Vec<u8>) -> Result<(), NoMemory>
 
 /// The type, and what the any holds.
 #[cycle(write)]
-fn put_any(
+pub fn put_any(
     alloc: Global,
     caches: &mut SendCaches,
     any: &AnyValue,
@@ -108,7 +108,7 @@ fn put_list(
 /// One after the other.
 #[cycle(write)]
 #[tactic(auto, unfolding(urp_model::specs::Writing::spelling, urp_model::specs::Writing::spellings, urp_model::specs::Writing::after, urp_model::specs::Writing::afters, urp_model::specs::Carried::IsSpellable, urp_model::specs::Carried::AreSpellable, crate::specs::Written::IsWritable, crate::specs::Written::AreWritable))]
-fn put_all(
+pub fn put_all(
     alloc: Global,
     caches: &mut SendCaches,
     values: &[Value],
