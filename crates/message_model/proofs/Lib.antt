@@ -1,0 +1,12 @@
+mod FlagLaws
+mod MessageRows
+pub mod CarriedLaws
+pub mod FunctionKindLaws
+pub mod MessageArrivalLaws
+pub mod MessageReadingLaws
+pub mod OpeningLaws
+pub mod OpeningReadingLaws
+pub mod ReplyReadingLaws
+pub mod RequestReadingLaws
+pub mod TargetLaws
+pub mod TargetReadingLaws

@@ -1,0 +1,10 @@
+//! What the messages of the URP mean, as definitions over lists, and the laws that hold of them.
+#![tactic(auto)]
+
+mod reading_laws;
+
+pub use reading_laws::{
+    a_front_of_a_message_is_short, a_message_that_is_read_fits,
+    messages_are_read_as_they_are_spelled, no_message_begins_with_what_is_broken,
+    one_message_stands_at_the_front,
+};

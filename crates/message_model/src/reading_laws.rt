@@ -1,0 +1,44 @@
+//! Laws of the reading of messages: each function has an empty body, and its clause is the law.
+ghost use Rattle.std.specs.Prelude.{◌≡◌, ◌≢◌, ℕ, List, [], ◌++◌, Err};
+ghost use Rattle.message_model.specs.Arriving.{IsHeard, MessageFits};
+ghost use Rattle.message_model.specs.Calls.{Waits};
+ghost use Rattle.message_model.specs.Headers.{Heard, nothing_heard};
+ghost use Rattle.message_model.specs.Messages.{Message};
+ghost use Rattle.message_model.specs.ReadingMessages.{message_at};
+ghost use Rattle.message_model.specs.SpellingMessages.{SpellsMessage};
+ghost use Rattle.uno_model.specs.Entities.{Entity};
+ghost use Rattle.uno_model.specs.Sound.{IsSound};
+ghost use Rattle.urp_model.specs.Agreement.{Agrees, triple};
+
+use urp_model::{Fault, Reason};
+
+/// Messages are read as they are spelled.
+pub fn messages_are_read_as_they_are_spelled()
+    ensures { (reg : List Entity) (waits : Waits) (heard : Heard) → IsSound reg
+        → Agrees triple (message_at reg waits heard) (λ x used. SpellsMessage reg waits heard x.0 used x.1) }
+{}
+
+/// Bytes begin with the spelling of at most one message: the message, its length and what is remembered after it are determined.
+pub fn one_message_stands_at_the_front()
+    ensures { (reg : List Entity) (waits : Waits) (heard t u : Heard) (m n : Message) (b c d e : List ℕ) → IsSound reg
+        → SpellsMessage reg waits heard m b t → SpellsMessage reg waits heard n c u → b ++ d ≡ c ++ e → (m ≡ n) × (b ≡ c) × (t ≡ u) × (d ≡ e) }
+{}
+
+/// A front of a message that is not all of it is short.
+pub fn a_front_of_a_message_is_short()
+    ensures { (reg : List Entity) (waits : Waits) (heard t : Heard) (m : Message) (front back : List ℕ) → IsSound reg
+        → SpellsMessage reg waits heard m (front ++ back) t → back ≢ [] → message_at reg waits heard front ≡ Err Fault.Short }
+{}
+
+/// Bytes that break the protocol begin no message, however they go on.
+pub fn no_message_begins_with_what_is_broken()
+    ensures { (reg : List Entity) (waits : Waits) (heard t : Heard) (m : Message) (bytes more used rest : List ℕ) (reason : Reason) → IsSound reg
+        → message_at reg waits heard bytes ≡ Err (Fault.Bad reason) → SpellsMessage reg waits heard m used t → bytes ++ more ≡ used ++ rest → ⊥ }
+{}
+
+/// A message that is read fits the function that it names, and what is remembered goes on to mean what it should.
+pub fn a_message_that_is_read_fits()
+    ensures first { (reg : List Entity) → IsHeard reg nothing_heard }
+    ensures fits { (reg : List Entity) (waits : Waits) (heard t : Heard) (m : Message) (b : List ℕ) → IsSound reg → IsHeard reg heard
+        → SpellsMessage reg waits heard m b t → MessageFits reg m × IsHeard reg t }
+{}
