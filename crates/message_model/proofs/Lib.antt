@@ -10,3 +10,6 @@ pub mod ReplyReadingLaws
 pub mod RequestReadingLaws
 pub mod TargetLaws
 pub mod TargetReadingLaws
+pub mod SentMessageLaws
+pub mod InOrderLaws
+pub mod MessageWeightLaws

@@ -2,6 +2,7 @@
 -- header is short where it can be (URP specification, messages).
 use Rattle.std.specs.Prelude.{ℕ, ◌+◌, ◌*◌, nat_lt, ◌||◌, not, Bool, true, false, List, [], ◌∷◌, ◌++◌, Option, None, Some, if◌then◌else◌}
 use Rattle.std.specs.Int.{w16, to_be_bytes, from_bool}
+use Rattle.std.specs.List.{flat_map}
 use Rattle.std.specs.Str.{bytes_eq}
 use Rattle.uno_model.specs.Entities.{Entity}
 use Rattle.uno_model.specs.Kinds.{Kind}
@@ -157,7 +158,15 @@ after_message reg (request tid oid face function args) spoken = after_request (c
 after_message reg (release tid oid face) spoken = after_request (release_heading tid oid face) [] spoken
 after_message reg (reply tid face function answer) spoken = after_reply tid answer spoken
 
--- messages, each in a block of its own
-unfoldable pub messages_spelling : List Entity → List Message → Spoken → List ℕ
-messages_spelling reg [] spoken = []
-messages_spelling reg (m ∷ ms) spoken = spell_block 1 (message_spelling reg m spoken) ++ messages_spelling reg ms (after_message reg m spoken)
+-- messages one after the other: the body of each, and what is remembered after all
+unfoldable pub bodies_spelling : List Entity → List Message → Spoken → List (List ℕ)
+bodies_spelling reg [] spoken = []
+bodies_spelling reg (m ∷ ms) spoken = message_spelling reg m spoken ∷ bodies_spelling reg ms (after_message reg m spoken)
+
+unfoldable pub after_messages : List Entity → List Message → Spoken → Spoken
+after_messages reg [] spoken = spoken
+after_messages reg (m ∷ ms) spoken = after_messages reg ms (after_message reg m spoken)
+
+-- each in a block of its own
+abbrev pub messages_spelling : List Entity → List Message → Spoken → List ℕ
+messages_spelling reg ms spoken = flat_map (spell_block 1) (bodies_spelling reg ms spoken)

@@ -15,6 +15,7 @@ pub mod NamesInSlots
 pub mod OidReadingLaws
 pub mod PartLaws
 pub mod PieceLaws
+pub mod ReadFronts
 mod Rows
 pub mod SentLaws
 pub mod SizeLaws

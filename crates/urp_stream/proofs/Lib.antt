@@ -1,0 +1,6 @@
+pub mod CutLaws
+pub mod FeedLaws
+pub mod GivenLaws
+pub mod HeaderLaws
+pub mod RunLaws
+pub mod StandingLaws
