@@ -1,2 +1,6 @@
 pub mod AnswerLaws
 pub mod FirstLaws
+pub mod ListeningLemmas
+pub mod ParamLemmas
+pub mod RaisingLemmas
+pub mod SpeakingLemmas

@@ -1,13 +1,27 @@
 //! The messages of the URP: what is said, to whom, and on which chain of calls.
 #![tactic(auto)]
 
+mod error;
+mod expects;
 pub mod first;
+mod flags;
+mod last;
+mod listener;
+mod message;
+mod params;
+mod raising;
 mod reason;
+mod speaker;
 #[cfg(test)]
 mod tests;
 
+pub use error::ReadError;
+pub use expects::Expects;
 pub use first::{
     First, FirstError, FrontBlock, a_body_is_one_request, front_block, read_first, write_answer,
 };
+pub use listener::Listener;
+pub use message::{Answer, Message};
 pub use reason::Reason;
+pub use speaker::Speaker;
 pub use uno_types::{Tag, TagError, Tid};

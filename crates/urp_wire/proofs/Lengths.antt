@@ -38,7 +38,7 @@ mutual
   sized_writable (ref r) light sized = light_ref r light
   sized_writable _ light sized = tt
 
-  all_writable : (vs : Plains) → weights vs ≤ 16777216 → AreSized vs → AreWritable vs
+  pub all_writable : (vs : Plains) → weights vs ≤ 16777216 → AreSized vs → AreWritable vs
   all_writable none light sized = tt
   all_writable (more v vs) light sized = (sized_writable v (omega arith) sized.0, all_writable vs (omega arith) sized.1)
 

@@ -8,5 +8,5 @@ mod whole;
 
 pub use kind::write_kind;
 pub use name::{write_oid, write_tid};
-pub use value::{put_all as write_values, put_any as write_any};
+pub use value::{put_all as write_values, put_any as write_any, put_value as write_single};
 pub use whole::write_value;

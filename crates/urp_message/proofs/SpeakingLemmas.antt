@@ -1,0 +1,71 @@
+-- A message that may be said has parts that can be written, and what is written of it is read again.
+use Rattle.std.proofs.Common.{◌≡◌, ℕ, ◌^◌, ◌<◌, ◌≤◌, List, ◌++◌, length, drop, [], Ok, refl, ap, ◌∙◌, arith}
+use Rattle.uno_model.specs.Entities.{Entity}
+use Rattle.uno_model.specs.Functions.{Function}
+use Rattle.uno_model.specs.Kinds.{Kind, name_of}
+use Rattle.uno_model.specs.Kinds as kd
+use Rattle.uno_model.specs.Sound.{IsSound}
+use Rattle.uno_model.specs.Values.{Plain, any, plains}
+use Rattle.uno_model.specs.Weights.{weights}
+use Rattle.urp_model.specs.Blocks.{spell_block}
+use Rattle.urp_model.proofs.SizeLaws.{each_sized}
+use Rattle.message_model.specs.Calls.{Waits, argument_kinds, out_kinds}
+use Rattle.message_model.specs.Headers.{Heard}
+use Rattle.message_model.specs.Messages.{Answer, returned, raised, Message, request, release, reply}
+use Rattle.message_model.specs.Speaking.{Fill, AnswerFits, MayBeSaid, heading_weight, answer_weight, message_weight, MessageSpellable, arrived, IsAwaited, Agree}
+use Rattle.message_model.specs.ReadingMessages.{message_at}
+use Rattle.message_model.specs.WritingMessages.{Spoken, Heading, call_heading, release_heading, message_spelling, after_message}
+use Rattle.message_model.proofs.MessageWeightLaws.{message_bounded}
+use Rattle.message_model.proofs.InOrderLaws.{read_back}
+use Rattle.urp_wire.specs.Written.{IsWritable, AreWritable}
+use Rattle.urp_wire.proofs.Lengths.{all_writable, light_writable}
+use Rattle.urp_message.specs.Speaking.{HeadingWritable, AnswerWritable, MessageWritable}
+
+-- a header that weighs little
+heading_writable : (h : Heading) → heading_weight h.tid h.oid h.face ≤ 16777216 → HeadingWritable h
+heading_writable h light = record { tid = omega arith; oid = omega arith; face = omega arith }
+
+module _ (reg : List Entity) (sound : IsSound reg) where
+  values_writable : (vs : List Plain) (ks : List Kind) → Fill reg vs ks → weights (plains vs) ≤ 16777216 → AreWritable (plains vs)
+  values_writable vs ks fill light = all_writable (plains vs) light (each_sized reg sound (plains vs) ks fill.fit light)
+
+  any_writable : (k : Kind) (v : Plain) → IsWritable (any k v) → (length (name_of k) < 2 ^ 32) × IsWritable v
+  unfolding IsWritable
+  any_writable k v is = is
+
+  answer_writable : (f : Function) (answer : Answer) → AnswerFits reg f answer → answer_weight answer ≤ 16777216 → AnswerWritable answer
+  answer_writable f (returned v outs) fits light =
+      (light_writable reg v f.result_kind sound fits.0 (omega arith), values_writable outs (out_kinds f) fits.2 (omega arith))
+  answer_writable f (raised k v) fits light = any_writable k v (light_writable reg (any k v) kd.any sound fits.1 light)
+
+  -- so a message that may be said
+  pub message_writable : (m : Message) → MayBeSaid reg m → message_weight m ≤ 16777216 → MessageWritable reg m
+  message_writable (request tid oid face function args) (f, called, thread, object, fill) light =
+      (heading_writable (call_heading reg tid oid face function) (omega arith), values_writable args (argument_kinds f) fill (omega arith))
+  message_writable (release tid oid face) may light = heading_writable (release_heading tid oid face) light
+  message_writable (reply tid face function answer) (f, called, thread, fits) light = (omega arith, answer_writable f answer fits (omega arith))
+
+-- the body of a block stands behind its first eight bytes
+body_behind : (count : ℕ) (body : List ℕ) → drop 8 (spell_block count body) ≡ body
+unfolding spell_block
+body_behind count body = refl
+
+-- what was written is read again
+pub read_again : (reg : List Entity) (m : Message) (spoken now : Spoken) (block : List ℕ) → IsSound reg → MayBeSaid reg m → message_weight m ≤ 16777216 → MessageSpellable m
+    → block ≡ spell_block 1 (message_spelling reg m spoken) → now ≡ after_message reg m spoken
+    → (waits : Waits) (heard : Heard) (rest : List ℕ) → Agree heard spoken → IsAwaited waits m
+    → (after : Heard) × (message_at reg waits heard (drop 8 block ++ rest) ≡ Ok (arrived reg m, after, rest)) × Agree after now
+read_again reg m spoken now block sound may light carried bytes remembered waits heard rest agree awaited =
+    let back = read_back reg sound waits heard m spoken rest (record { may = may; light = light; carried = carried; awaited = awaited }) agree in
+    let body : drop 8 block ≡ message_spelling reg m spoken = rw bytes (body_of (message_spelling reg m spoken)) in
+    (back.0, rw body back.1, rw remembered back.2)
+  where
+    body_of : (body : List ℕ) → drop 8 (spell_block 1 body) ≡ body
+    body_of body = body_behind 1 body
+
+-- a body that was written into nothing is no longer than the message weighs
+pub short_body : (reg : List Entity) (m : Message) (spoken : Spoken) (nothing written body : List ℕ) → message_weight m ≤ 16777216 → nothing ≡ []
+    → written ≡ nothing ++ message_spelling reg m spoken → body ≡ written → length body < 2 ^ 32
+short_body reg m spoken nothing written body light none all is =
+    let same : body ≡ message_spelling reg m spoken = is ∙ all ∙ ap (λ z. z ++ message_spelling reg m spoken) none in
+    rw same (omega (arith, message_bounded reg m spoken))

@@ -1,0 +1,112 @@
+//! The end that writes messages.
+ghost use Rattle.std.specs.Prelude.{◌≡◌, ℕ, ◌≤◌, ◌++◌, List, drop, false, true, IfOk, OnOk, OnErr, IsTrue, IsErr, Ok};
+ghost use Rattle.message_model.specs.Calls.{Waits};
+ghost use Rattle.message_model.specs.Headers.{Heard};
+ghost use Rattle.message_model.specs.ReadingMessages.{message_at};
+ghost use Rattle.message_model.specs.Speaking.{MayBeSaid, message_weight, MessageSpellable, arrived, IsAwaited, Agree};
+ghost use Rattle.message_model.specs.WritingMessages.{nothing_spoken, message_spelling, after_message};
+ghost use Rattle.uno_model.specs.Sound.{IsSound};
+ghost use Rattle.urp_message.specs.Messages.{message_of, spoken_of};
+ghost use Rattle.urp_model.specs.Blocks.{spell_block};
+
+mod heading;
+mod reply;
+mod request;
+mod target;
+mod whole;
+
+use crate::Message;
+use crate::last::{Last, Spoken};
+use std::alloc::Global;
+use std::marker::Model;
+use uno_base::NoMemory;
+use uno_types::Registry;
+use urp_cache::SendCaches;
+use whole::{block_of, put_message};
+
+/// What an end remembers of the direction in which it writes: the slots that its names have, and the last names (URP specification,
+/// messages, caches). Where memory ran out it writes no more, since the peer would remember other names.
+#[derive(Drop)]
+pub struct Speaker {
+    alloc: Global,
+    spoken: Spoken,
+    failed: bool,
+}
+
+impl Model for Speaker {
+    ghost use Rattle.std.specs.Coded.{codes};
+    ghost use Rattle.uno_model.specs.Codes.{kind_code};
+    ghost use Rattle.urp_message.specs.Messages.{spoken_of};
+    ghost use Rattle.urp_message.specs.Speaking.{Saying};
+
+    ghost Value = { Saying };
+
+    ghost coded = { Prim.hlevel (codes, kind_code) };
+
+    ghost view = { λ s. record { spoken = spoken_of s.spoken; failed = s.failed } };
+}
+
+impl Speaker {
+    /// A speaker in a direction in which nothing was said.
+    #[tactic(auto, unfolding(urp_model::specs::Writing::no_names))]
+    pub fn new(alloc: Global) -> Result<Speaker, NoMemory>
+        ensures { IfOk result (λ speaker. speaker ≡ record { spoken = nothing_spoken; failed = false }) }
+    {
+        let caches = SendCaches::new(alloc)?;
+        let last = Last {
+            kind: None,
+            oid: None,
+            tid: None,
+        };
+        let spoken = Spoken { caches, last };
+        Ok(Speaker {
+            alloc,
+            spoken,
+            failed: false,
+        })
+    }
+
+    /// The block of a message.
+    pub fn write(&mut self, registry: &Registry, message: &Message) -> Result<Vec<u8>, NoMemory>
+        requires sound { IsSound registry.now }
+        requires may { MayBeSaid registry.now (message_of message.now) }
+        requires light { message_weight (message_of message.now) ≤ 16777216 }
+        ensures bytes { IfOk result (λ block. block.items ≡ spell_block 1 (message_spelling registry.now (message_of message.now) self.old.spoken)) }
+        ensures remembers { OnOk result (self.new ≡ record { spoken = after_message registry.now (message_of message.now) self.old.spoken; failed = false }) }
+        ensures fails { OnErr result (IsTrue self.new.failed) }
+        ensures failed { IsTrue self.old.failed → IsErr result }
+        ensures read { IfOk result (λ block. (waits : Waits) (heard : Heard) (rest : List ℕ) → Agree heard self.old.spoken → IsAwaited waits (message_of message.now)
+            → (after : Heard) × (message_at registry.now waits heard (drop 8 block.items ++ rest) ≡ Ok (arrived registry.now (message_of message.now), after, rest))
+            × Agree after self.new.spoken) }
+    {
+        if self.failed {
+            return Err(NoMemory);
+        }
+        match write_block(self.alloc, registry, message, &mut self.spoken) {
+            Ok(block) => Ok(block),
+            Err(_) => {
+                self.failed = true;
+                Err(NoMemory)
+            }
+        }
+    }
+}
+
+fn write_block(
+    alloc: Global,
+    registry: &Registry,
+    message: &Message,
+    spoken: &mut Spoken,
+) -> Result<Vec<u8>, NoMemory>
+    requires sound { IsSound registry.now }
+    requires may { MayBeSaid registry.now (message_of message.now) }
+    requires light { message_weight (message_of message.now) ≤ 16777216 }
+    ensures bytes { IfOk result (λ block. block.items ≡ spell_block 1 (message_spelling registry.now (message_of message.now) (spoken_of spoken.old))) }
+    ensures after { OnOk result (spoken_of spoken.new ≡ after_message registry.now (message_of message.now) (spoken_of spoken.old)) }
+    ensures carried { OnOk result (MessageSpellable (message_of message.now)) }
+{
+    let mut body = Vec::new(alloc);
+    put_message(alloc, registry, message, spoken, &mut body)?;
+    let block = block_of(alloc, &body)?;
+    Ok(block)
+}

@@ -1,0 +1,114 @@
+//! Whom a request calls, as it is written: what is new of it (URP specification, messages).
+ghost use Rattle.std.specs.Prelude.{◌≡◌, ◌<◌, ◌^◌, ◌++◌, length, Some, option_map, OnOk, IfOk};
+ghost use Rattle.std.specs.Str.{IsUtf8};
+ghost use Rattle.message_model.specs.WritingMessages.{is_new, is_new_face, if_new, held_if_new, target_spelling, after_target};
+ghost use Rattle.uno_model.specs.Kinds as kd;
+ghost use Rattle.uno_types.specs.TypeNames.{kind_of};
+ghost use Rattle.urp_message.specs.Messages.{last_of, spoken_of};
+ghost use Rattle.urp_message.specs.Speaking.{heading_of, HeadingWritable};
+ghost use Rattle.urp_model.specs.Held.{used};
+ghost use Rattle.urp_model.specs.Writing.{kind_spelling, kind_after, name_spelling};
+
+use super::heading::{Heading, is_new_face, is_new_oid, is_new_tid};
+use crate::last::{Last, Spoken};
+use std::alloc::Global;
+use uno_base::NoMemory;
+use uno_types::{Name, Text, Tid, TypeName};
+use urp_cache::SendCache;
+use urp_wire::{write_kind, write_oid, write_tid};
+
+/// The type, the object and the thread, where they are new; they are the last ones from now on.
+#[tactic(auto, unfolding(message_model::specs::WritingMessages::target_spelling, message_model::specs::WritingMessages::after_target))]
+pub(crate) fn put_target(
+    alloc: Global,
+    heading: &Heading,
+    spoken: &mut Spoken,
+    to: &mut Vec<u8>,
+) -> Result<(), NoMemory>
+    requires { HeadingWritable (heading_of heading.now) }
+    ensures bytes { OnOk result (to.new.items ≡ to.old.items ++ target_spelling (heading_of heading.now) (spoken_of spoken.old)) }
+    ensures after { OnOk result (spoken_of spoken.new ≡ after_target (heading_of heading.now) (spoken_of spoken.old)) }
+    ensures text { OnOk result (IsUtf8 heading.now.oid.now) }
+{
+    put_face(
+        alloc,
+        heading.face,
+        &spoken.last.kind,
+        &mut spoken.caches.types,
+        to,
+    )?;
+    put_object(heading.oid, &spoken.last.oid, &mut spoken.caches.oids, to)?;
+    put_thread(heading.tid, &spoken.last.tid, &mut spoken.caches.tids, to)?;
+    spoken.last = remembered(alloc, heading)?;
+    Ok(())
+}
+
+fn remembered(alloc: Global, heading: &Heading) -> Result<Last, NoMemory>
+    ensures { IfOk result (λ last. last_of last ≡ record { kind = Some (kd.interface heading.now.face.now); oid = Some heading.now.oid.now; tid = Some heading.now.tid.now }) }
+{
+    let face = heading.face.copy(alloc)?;
+    let oid = heading.oid.copy(alloc)?;
+    let tid = heading.tid.copy(alloc)?;
+    Ok(Last {
+        kind: Some(TypeName::Interface(face)),
+        oid: Some(oid),
+        tid: Some(tid),
+    })
+}
+
+/// The interface.
+fn put_face(
+    alloc: Global,
+    face: &Name,
+    last: &Option<TypeName>,
+    types: &mut SendCache,
+    to: &mut Vec<u8>,
+) -> Result<(), NoMemory>
+    requires { length face.now < 2 ^ 32 }
+    ensures bytes { OnOk result (to.new.items ≡ to.old.items ++ if_new (is_new_face face.now (option_map kind_of last.now)) (kind_spelling (kd.interface face.now) types.old)) }
+    ensures names { OnOk result (types.new ≡ held_if_new (is_new_face face.now (option_map kind_of last.now)) (kind_after (kd.interface face.now) types.old) types.old) }
+{
+    if !is_new_face(face, last) {
+        return Ok(());
+    }
+    let kind = TypeName::Interface(face.copy(alloc)?);
+    write_kind(alloc, types, &kind, to)?;
+    Ok(())
+}
+
+/// The object.
+fn put_object(
+    oid: &Text,
+    last: &Option<Text>,
+    oids: &mut SendCache,
+    to: &mut Vec<u8>,
+) -> Result<(), NoMemory>
+    requires { length oid.now < 2 ^ 32 }
+    ensures bytes { OnOk result (to.new.items ≡ to.old.items ++ if_new (is_new oid.now last.now) (name_spelling oid.now oids.old)) }
+    ensures names { OnOk result (oids.new ≡ held_if_new (is_new oid.now last.now) (used oid.now oids.old) oids.old) }
+    ensures text { IsUtf8 oid.now }
+{
+    if !is_new_oid(oid, last) {
+        return Ok(());
+    }
+    write_oid(oids, oid, to)?;
+    Ok(())
+}
+
+/// The thread.
+pub(crate) fn put_thread(
+    tid: &Tid,
+    last: &Option<Tid>,
+    tids: &mut SendCache,
+    to: &mut Vec<u8>,
+) -> Result<(), NoMemory>
+    requires { length tid.now < 2 ^ 32 }
+    ensures bytes { OnOk result (to.new.items ≡ to.old.items ++ if_new (is_new tid.now last.now) (name_spelling tid.now tids.old)) }
+    ensures names { OnOk result (tids.new ≡ held_if_new (is_new tid.now last.now) (used tid.now tids.old) tids.old) }
+{
+    if !is_new_tid(tid, last) {
+        return Ok(());
+    }
+    write_tid(tids, tid, to)?;
+    Ok(())
+}

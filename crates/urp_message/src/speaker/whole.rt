@@ -1,0 +1,111 @@
+//! A message as it is written, and its block.
+ghost use Rattle.std.specs.Prelude.{◌≡◌, ◌≤◌, ◌<◌, ◌^◌, ◌++◌, length, map, IfOk, OnOk};
+ghost use Rattle.message_model.specs.Calls.{numbered, is_oneway};
+ghost use Rattle.message_model.specs.Speaking.{MessageSpellable};
+ghost use Rattle.message_model.specs.WritingMessages.{message_spelling, after_message};
+ghost use Rattle.type_registry.specs.Functions.{function_of};
+ghost use Rattle.urp_message.specs.Messages.{message_of, spoken_of};
+ghost use Rattle.urp_message.specs.Speaking.{MessageWritable};
+ghost use Rattle.urp_model.specs.Blocks.{spell_block};
+
+use super::heading::Heading;
+use super::reply::put_reply;
+use super::request::put_request;
+use crate::Message;
+use crate::last::Spoken;
+use std::alloc::Global;
+use type_registry::function_numbered;
+use uno_base::NoMemory;
+use uno_types::{Name, Registry};
+
+/// The number of the function by which an object is let go.
+const RELEASE: u16 = 2;
+
+/// The body of a message, behind the bytes that are there.
+#[tactic(auto, unfolding(message_model::specs::WritingMessages::message_spelling, message_model::specs::WritingMessages::after_message, urp_wire::specs::Written::AreWritable))]
+pub(crate) fn put_message(
+    alloc: Global,
+    registry: &Registry,
+    message: &Message,
+    spoken: &mut Spoken,
+    to: &mut Vec<u8>,
+) -> Result<(), NoMemory>
+    requires { MessageWritable registry.now (message_of message.now) }
+    ensures bytes { OnOk result (to.new.items ≡ to.old.items ++ message_spelling registry.now (message_of message.now) (spoken_of spoken.old)) }
+    ensures after { OnOk result (spoken_of spoken.new ≡ after_message registry.now (message_of message.now) (spoken_of spoken.old)) }
+    ensures ranges { OnOk result (MessageSpellable (message_of message.now)) }
+{
+    match message {
+        Message::Request {
+            tid,
+            oid,
+            face,
+            function,
+            args,
+        } => {
+            let heading = Heading {
+                function: *function,
+                answered: is_oneway(alloc, registry, face, *function)?,
+                tid,
+                oid,
+                face,
+            };
+            put_request(alloc, &heading, args, spoken, to)?;
+            Ok(())
+        }
+        Message::Release { tid, oid, face } => {
+            let heading = Heading {
+                function: RELEASE,
+                answered: false,
+                tid,
+                oid,
+                face,
+            };
+            put_request(alloc, &heading, &[], spoken, to)?;
+            Ok(())
+        }
+        Message::Reply {
+            tid,
+            face: _,
+            function: _,
+            answer,
+        } => {
+            put_reply(alloc, tid, answer, spoken, to)?;
+            Ok(())
+        }
+    }
+}
+
+/// Whether a function is one-way, where it is there.
+#[tactic(auto, unfolding(message_model::specs::Calls::numbered))]
+fn is_oneway(
+    alloc: Global,
+    registry: &Registry,
+    face: &Name,
+    function: u16,
+) -> Result<bool, NoMemory>
+    ensures { IfOk result (λ b. b ≡ is_oneway (numbered registry.now face.now function)) }
+{
+    let Some(function) = function_numbered(alloc, registry, face.as_str(), function)? else {
+        return Ok(false);
+    };
+    Ok(function.oneway)
+}
+
+/// One message as a block of its own: the size of its body, the count of 1, and the body (URP specification, blocks).
+#[tactic(auto, unfolding(urp_model::specs::Blocks::spell_block))]
+pub(crate) fn block_of(alloc: Global, body: &[u8]) -> Result<Vec<u8>, NoMemory>
+    requires { length body.now < 2 ^ 32 }
+    ensures { IfOk result (λ block. block.items ≡ spell_block 1 body.now) }
+{
+    let mut block = Vec::with_capacity(alloc, HEADER + body.len())?;
+    block.extend_from_slice(&(body.len() as u32).to_be_bytes())?;
+    block.extend_from_slice(&MESSAGES.to_be_bytes())?;
+    block.extend_from_slice(body)?;
+    Ok(block)
+}
+
+/// How many bytes stand in front of a block's body, and how many messages it has.
+const HEADER: usize = 8;
+
+const MESSAGES: u32 = 1;
