@@ -10,7 +10,9 @@ use Rattle.urp_model.proofs.WeightLaws.{kind_bounded, oid_bounded, value_bounded
 use Rattle.message_model.specs.Headers.{Last}
 use Rattle.message_model.specs.Messages.{Answer, returned, raised, Message, request, release, reply}
 use Rattle.message_model.specs.Speaking.{name_weight, answer_weight, message_weight}
-use Rattle.message_model.specs.WritingMessages.{Spoken, is_new, is_new_face, if_new, Heading, is_long, long_flags, function_bytes, short_bytes, opening_spelling, target_spelling, after_target, request_spelling, answer_spelling, after_thread, reply_spelling, call_heading, release_heading, message_spelling}
+use Rattle.message_model.specs.WritingMessages.{Spoken, is_new, is_new_face, if_new, Heading, is_long, long_flags, function_bytes, short_bytes}
+use Rattle.message_model.specs.WritingMessages.{opening_spelling, target_spelling, after_target, request_spelling, answer_spelling, after_thread}
+use Rattle.message_model.specs.WritingMessages.{reply_spelling, call_heading, release_heading, message_spelling}
 
 -- a part that may be left out
 if_new_bounded : (new : Bool) (b : List ℕ) (most : ℕ) → length b ≤ most → length (if_new new b) ≤ most

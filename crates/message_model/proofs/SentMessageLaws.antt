@@ -18,9 +18,12 @@ use Rattle.message_model.specs.Calls.{is_oneway, argument_kinds, out_kinds, may_
 use Rattle.message_model.specs.Headers.{Last, Heard, hearing, has, new_tid_flag}
 use Rattle.message_model.specs.Messages.{Answer, returned, raised, Message, request, release, reply}
 use Rattle.message_model.specs.ReadingMessages.{hearing_tid}
-use Rattle.message_model.specs.Speaking.{IsThread, IsCalled, Fill, AnswerFits, MayBeSaid, answer_weight, message_weight, AnswerSpellable, MessageSpellable, carried_each, arguments_of, answer_arrived, arrived, IsAwaited, Agree}
+use Rattle.message_model.specs.Speaking.{IsThread, IsCalled, Fill, AnswerFits, MayBeSaid, answer_weight, message_weight, AnswerSpellable, MessageSpellable}
+use Rattle.message_model.specs.Speaking.{carried_each, arguments_of, answer_arrived, arrived, IsAwaited, Agree}
 use Rattle.message_model.specs.SpellingMessages.{SpellsNewOrLast, SpellsAsked, a_release, a_call, SpellsAnswer, SpellsMessage}
-use Rattle.message_model.specs.WritingMessages.{Spoken, is_new, if_new, Heading, opening_spelling, target_spelling, after_target, request_spelling, after_request, answer_spelling, after_answer, is_raised, reply_flags, after_thread, reply_spelling, after_reply, call_heading, release_heading, message_spelling, after_message}
+use Rattle.message_model.specs.WritingMessages.{Spoken, is_new, if_new, Heading, opening_spelling, target_spelling, after_target, request_spelling}
+use Rattle.message_model.specs.WritingMessages.{after_request, answer_spelling, after_answer, is_raised, reply_flags, after_thread, reply_spelling}
+use Rattle.message_model.specs.WritingMessages.{after_reply, call_heading, release_heading, message_spelling, after_message}
 use Rattle.message_model.proofs.CarriedLaws.{each_is, value_is}
 use Rattle.message_model.proofs.FlagLaws.{reply_says}
 use Rattle.message_model.proofs.OpeningLaws.{opening_of, opening_is}

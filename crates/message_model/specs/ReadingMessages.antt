@@ -12,9 +12,11 @@ use Rattle.urp_model.specs.ReadingNames.{kind_at, oid_at, tid_at}
 use Rattle.urp_model.specs.Tables.{Table, Tables, with_types, with_tids}
 use Rattle.urp_model.specs.declared.fault.Fault.{Fault}
 use Rattle.urp_model.specs.declared.fault.Fault.TheVariants.{Bad}
-use Rattle.urp_model.specs.declared.reason.Reason.TheVariants.{BadFlags, NoLast, NotInterface, UnknownFunction, Acquire, OneWay, NobodyWaits, BadAny, BadException}
+use Rattle.urp_model.specs.declared.reason.Reason.TheVariants.{BadFlags, NoLast, NotInterface, UnknownFunction, Acquire, OneWay, NobodyWaits, BadAny}
+use Rattle.urp_model.specs.declared.reason.Reason.TheVariants.{BadException}
 use Rattle.message_model.specs.Calls.{acquire_number, release_number, numbered, argument_kinds, out_kinds, may_raise, Waiting, Waits, waiting}
-use Rattle.message_model.specs.Headers.{Heard, hearing, has, new_type_flag, new_oid_flag, new_tid_flag, wide_flag, more_flag, exception_flag, Opening, Target, oid_text}
+use Rattle.message_model.specs.Headers.{Heard, hearing, has, new_type_flag, new_oid_flag, new_tid_flag, wide_flag, more_flag, exception_flag, Opening}
+use Rattle.message_model.specs.Headers.{Target, oid_text}
 use Rattle.message_model.specs.Messages.{Answer, returned, raised, Message, request, release, reply}
 
 -- ---- openings of requests

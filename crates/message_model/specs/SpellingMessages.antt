@@ -9,7 +9,8 @@ use Rattle.uno_model.specs.Values.{Plain}
 use Rattle.urp_model.specs.Spelling.{IsNumber, SpellsKind, SpellsOid, SpellsTid, SpellsEach, Spells}
 use Rattle.urp_model.specs.Tables.{Table, Tables, with_types, with_tids}
 use Rattle.message_model.specs.Calls.{acquire_number, release_number, numbered, argument_kinds, out_kinds, may_raise, Waiting, Waits, waiting}
-use Rattle.message_model.specs.Headers.{Heard, hearing, has, new_type_flag, new_oid_flag, new_tid_flag, wide_flag, more_flag, exception_flag, Opening, Target, oid_text}
+use Rattle.message_model.specs.Headers.{Heard, hearing, has, new_type_flag, new_oid_flag, new_tid_flag, wide_flag, more_flag, exception_flag, Opening}
+use Rattle.message_model.specs.Headers.{Target, oid_text}
 use Rattle.message_model.specs.Messages.{Answer, returned, raised, Message, request, release, reply}
 use Rattle.message_model.specs.ReadingMessages.{short_opening, hearing_tid}
 

@@ -1,14 +1,8 @@
 -- Counts of functions, as far as a `u64` counts, along lists of members, of entities and of marks.
-use Rattle.std.proofs.Common.{◌≡◌, ℕ, zero, suc, ◌+◌, ◌<◌, ◌≤◌, ◌-◌, ◌^◌, min, length, map, drop, get_or, Bool, true, false, if◌then◌else◌, List, [], ◌∷◌, refl, sym, ap, ◌∙◌, arith}
-use Rattle.std.specs.Prelude.{Some, slice_get, Contains, IsTrue, nat_le, ◌↔◌}
-use Rattle.std.proofs.lemmas.Bool.{leb-true, le-leb}
-use Rattle.std.proofs.lemmas.List.{at_drop_more, drop_all, length-map}
-use Rattle.std.proofs.lemmas.Option.{slice_get_within, get_or_from_slice_get}
+use Rattle.std.proofs.Common.{◌≡◌, ℕ, ◌+◌, ◌<◌, ◌≤◌, min, length, map, drop, get_or, Bool, true, false, if◌then◌else◌, List, [], ◌∷◌, refl, sym, ap, ◌∙◌, arith}
+use Rattle.std.proofs.lemmas.List.{at_drop_more, drop_all}
 use Rattle.uno_model.specs.Entities as plain
-use Rattle.uno_model.specs.Marks.{Marked, MarksBases}
-use Rattle.uno_model.specs.Sound.{HasFewFunctions, functions_of_member, functions_in, own_functions, total_functions, marked_functions}
-use Rattle.uno_types.proofs.SpreadLemmas.{entity_at}
-use Rattle.uno_types.specs.Counts.{FewAt}
+use Rattle.uno_model.specs.Sound.{functions_of_member, functions_in, own_functions, total_functions, marked_functions}
 use Rattle.uno_types.specs.Entities.{member_of, entities_of, entity_of, body_of}
 use Rattle.uno_types.specs.declared.entity.Member.{Member}
 use Rattle.uno_types.specs.declared.entity.Entity.{Entity}
@@ -89,76 +83,3 @@ marked_low [] reg = omega arith
 marked_low (mark ∷ marks) [] = omega arith
 marked_low (true ∷ marks) (e ∷ es) = omega (arith, marked_low marks es)
 marked_low (false ∷ marks) (e ∷ es) = omega (arith, marked_low marks es)
-
--- where all together have few, each has
-pub few_together : (reg : List plain.Entity) (count : ℕ) → count ≡ min (total_functions reg) (2 ^ 64 - 1) → count ≤ 65536 → HasFewFunctions reg
-few_together reg count is low e marks has marked = omega (arith, is, low, marked_low marks reg)
-
--- marks that say the same are the same
-same_mark : (x y : Bool) → (Some x ≡ Some true) ↔ (Some y ≡ Some true) → x ≡ y
-same_mark true true both = refl
-same_mark false false both = refl
-same_mark true false both = let bad : Some false ≡ Some true = both.0 refl in cc
-same_mark false true both = let bad : Some false ≡ Some true = both.1 refl in cc
-
-same_marks : (a b : List Bool) → length a ≡ length b → ((i : ℕ) → i < length a → Marked a i ↔ Marked b i) → a ≡ b
-same_marks [] [] long each = refl
-same_marks [] (y ∷ ys) long each = absurd (omega (arith, long))
-same_marks (x ∷ xs) [] long each = absurd (omega (arith, long))
-same_marks (x ∷ xs) (y ∷ ys) long each =
-    let first : x ≡ y = same_mark x y (each 0 (omega arith)) in
-    let others : xs ≡ ys = same_marks xs ys (omega (arith, long)) (λ i low. each (suc i) (omega (arith, low))) in
-    ap (λ b. b ∷ xs) first ∙ ap (λ l. y ∷ l) others
-
--- a name has one list of marks
-one_marks : (reg : List plain.Entity) (name : List ℕ) (a b : List Bool) → MarksBases reg name a → MarksBases reg name b → a ≡ b
-one_marks reg name a b of_a of_b =
-    same_marks a b (of_a.one_each ∙ sym of_b.one_each) each
-  where
-    each : (i : ℕ) → i < length a → Marked a i ↔ Marked b i
-    each i low =
-        let e = entity_at reg i (omega (arith, low, of_a.one_each)) in
-        (λ m. (of_b.marked i e.0 e.1).1 ((of_a.marked i e.0 e.1).0 m), λ m. (of_a.marked i e.0 e.1).1 ((of_b.marked i e.0 e.1).0 m))
-
--- a count by marks says whether the entity at the place has few
-pub few_at : (reg : List plain.Entity) (place count : ℕ) (marks : List Bool) → place < length reg → ((e : plain.Entity) → slice_get reg place ≡ Some e → MarksBases reg e.name marks)
-    → count ≡ min (marked_functions marks reg) (2 ^ 64 - 1) → IsTrue (nat_le count 65536) ↔ FewAt reg place
-few_at reg place count marks within marked is = (λ yes. down (leb-true count 65536 yes), λ few. le-leb count 65536 (up few))
-  where
-    down : count ≤ 65536 → FewAt reg place
-    down low e others at both =
-        let same : marks ≡ others = one_marks reg e.name marks others (marked e at) both in
-        omega (arith, is, low, ap (λ m. marked_functions m reg) same)
-
-    up : FewAt reg place → count ≤ 65536
-    up few = let e = entity_at reg place within in omega (arith, is, few e.0 marks e.1 (marked e.0 e.1))
-
--- what a list contains stands at a place, and the other way round
-contained_at : {X : Type 0} (xs : List X) (x : X) → Contains xs x → (i : ℕ) × (slice_get xs i ≡ Some x)
-contained_at [] x has = absurd (omega (arith, has.1))
-contained_at (y ∷ ys) x (zero, within, is) = (0, ap (λ k. Some k) is)
-contained_at (y ∷ ys) x (suc k, within, is) = let there = contained_at ys x (k, omega (arith, within), is) in (suc there.0, there.1)
-
-at_contained : {X : Type 0} (xs : List X) (i : ℕ) (x : X) → slice_get xs i ≡ Some x → Contains xs x
-at_contained xs i x at = (i, slice_get_within xs i x at, get_or_from_slice_get xs i x x at)
-
--- where each place has few, each entity has
-pub few_everywhere : (reg : List plain.Entity) (count : ℕ) → length reg ≤ count → ((place : ℕ) → place < count → FewAt reg place) → HasFewFunctions reg
-few_everywhere reg count all each e marks has marked =
-    let there = contained_at reg e has in
-    each there.0 (omega (arith, all, slice_get_within reg there.0 e there.1)) e marks there.1 marked
-
--- where an entity at a place has many, not each has few
-pub no_few : (reg : List plain.Entity) (place : ℕ) (few : Bool) → IsTrue few ↔ FewAt reg place → few ≡ false → IsTrue false ↔ HasFewFunctions reg
-no_few reg place few says many = (λ bad. absurd (not_true bad), λ all. sym many ∙ says.1 (λ e marks at marked. all e marks (at_contained reg place e at) marked))
-  where
-    not_true : IsTrue false → ⊥
-    not_true bad = cc
-
--- there are as many marks as entities
-pub marks_long : (es : List Entity) (place : ℕ) (marks : List Bool) → place < length es → ((e : plain.Entity) → slice_get (entities_of es) place ≡ Some e → MarksBases (entities_of es) e.name marks)
-    → length marks ≡ length es
-marks_long es place marks within marked =
-    let long = length-map es entity_of in
-    let e = entity_at (entities_of es) place (omega (arith, within, long)) in
-    (marked e.0 e.1).one_each ∙ long

@@ -22,16 +22,19 @@ pub no_place_written : (reg : List Entity) (name : List ℕ) (i : ℕ) → IsGap
 no_place_written reg name i gap = rw (place_none reg name gap.absent) refl
 
 -- a row that was written so far, and one name's places
-pub written_more : (reg : List Entity) (old row after : List ℕ) (ns ms all : List (List ℕ)) → row ≡ old ++ places_of reg ns → after ≡ row ++ places_of reg ms → all ≡ ns ++ ms
+pub written_more : (reg : List Entity) (old row after : List ℕ) (ns ms all : List (List ℕ)) → row ≡ old ++ places_of reg ns → after ≡ row ++ places_of reg ms
+    → all ≡ ns ++ ms
     → after ≡ old ++ places_of reg all
 written_more reg old row after ns ms all p q r =
-    q ∙ ap (λ x. x ++ places_of reg ms) p ∙ append_assoc old (places_of reg ns) (places_of reg ms) ∙ ap (λ x. old ++ x) (sym (places_of-append reg ns ms) ∙ ap (places_of reg) (sym r))
+    q ∙ ap (λ x. x ++ places_of reg ms) p ∙ append_assoc old (places_of reg ns) (places_of reg ms)
+    ∙ ap (λ x. old ++ x) (sym (places_of-append reg ns ms) ∙ ap (places_of reg) (sym r))
 
 -- the names of the bases, one further
 pub base_names_step : (bases : List types_base.Base) (i : ℕ) (b : types_base.Base) → i < length bases → b ≡ get_or bases i b
     → map (λ x. x.name) (map base_of (take (i + 1) bases)) ≡ map (λ x. x.name) (map base_of (take i bases)) ++ b.name ∷ []
 base_names_step bases i b within is =
-    ap (map (λ x. x.name)) (map_more base_of bases i b within ∙ ap (λ x. map base_of (take i bases) ++ base_of x ∷ []) (sym is)) ∙ map-append (λ x. x.name) (map base_of (take i bases)) (base_of b ∷ [])
+    ap (map (λ x. x.name)) (map_more base_of bases i b within ∙ ap (λ x. map base_of (take i bases) ++ base_of x ∷ []) (sym is))
+    ∙ map-append (λ x. x.name) (map base_of (take i bases)) (base_of b ∷ [])
 
 -- the structs that members are, one member further
 pub contained_step : (fields : List types_field.Field) (i : ℕ) (f : types_field.Field) → i < length fields → f ≡ get_or fields i f
@@ -41,7 +44,8 @@ contained_step fields i f within is =
     ∙ sym (flat_map_more (λ x. struct_in x.kind) [] (map field_of (take i fields)) (field_of f))
 
 -- what a search of the graph of places says of names
-pub circles_of_graph : (reg : List Entity) (graph : List (List ℕ)) (b : Bool) → IsRising reg → graph ≡ graph_of reg → (IsTrue b ↔ HasNoCircle (targets graph)) → IsTrue b ↔ HasNoCircle (leads_to reg)
+pub circles_of_graph : (reg : List Entity) (graph : List (List ℕ)) (b : Bool) → IsRising reg → graph ≡ graph_of reg → (IsTrue b ↔ HasNoCircle (targets graph))
+    → IsTrue b ↔ HasNoCircle (leads_to reg)
 unfolding targets
 circles_of_graph reg graph b rising is searched =
     let here : IsTrue b ↔ HasNoCircle (targets (graph_of reg)) = subst (λ g. IsTrue b ↔ HasNoCircle (targets g)) is searched in

@@ -1,5 +1,5 @@
 -- What a stack of levels holds: the members of the last one, which is the base of all others, come first.
-use Rattle.std.proofs.Common.{◌≡◌, ℕ, ◌-◌, ◌<◌, List, [], ◌∷◌, ◌++◌, length, map, Option, None, Some, refl, sym, ap, ◌∙◌, arith}
+use Rattle.std.proofs.Common.{◌≡◌, ℕ, ◌-◌, ◌<◌, List, [], ◌∷◌, ◌++◌, length, map, None, Some, refl, sym, ap, ◌∙◌, arith}
 use Rattle.std.specs.Borrow.{Bor}
 use Rattle.std.proofs.lemmas.List.{append_assoc, append-nil}
 use Rattle.uno_model.specs.Entities as plain
@@ -8,8 +8,8 @@ use Rattle.uno_model.proofs.MemberLaws.{no_members}
 use Rattle.uno_types.specs.declared.members.Level.{Level}
 use Rattle.uno_types.specs.declared.entity.Field.{Field}
 use Rattle.uno_types.specs.Entities.{field_of}
-use Rattle.uno_types.specs.Members.{IsLevel, fields_at, stacked}
-use Rattle.uno_types.proofs.MemberLemmas.{behind, from_level, behind_none, behind_base}
+use Rattle.uno_types.specs.Members.{IsLevel, stacked}
+use Rattle.uno_types.proofs.MemberLemmas.{from_level, behind_none, behind_base}
 
 -- one more level stands before all that are there
 pub stacked_more : (levels stack : List (Bor (List Field))) (own : Bor (List Field)) → stack ≡ levels ++ own ∷ [] → stacked stack ≡ map field_of own.now ++ stacked levels

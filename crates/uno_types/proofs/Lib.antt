@@ -1,5 +1,6 @@
 pub mod AssignableLemmas
 pub mod Different
+pub mod FewLemmas
 pub mod FindingLemmas
 pub mod FunctionLemmas
 pub mod GraphLemmas

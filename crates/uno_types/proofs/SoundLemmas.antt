@@ -8,9 +8,11 @@ use Rattle.uno_model.specs.Registry.{leads_to}
 use Rattle.uno_model.specs.Sound.{IsSound, is_named, items_differ, body_known, is_allowed, has_member, HasFewFunctions}
 
 -- where all facts but the last hold, the last one decides
-pub last_fact : (reg es : List Entity) (few : Bool) → es ≡ reg → IsTrue (list_all is_named es) → IsTrue (list_all items_differ es) → IsTrue (list_all (λ e. body_known reg e.body) reg) → IsTrue (list_all is_allowed es)
+pub last_fact : (reg es : List Entity) (few : Bool) → es ≡ reg → IsTrue (list_all is_named es) → IsTrue (list_all items_differ es)
+    → IsTrue (list_all (λ e. body_known reg e.body) reg) → IsTrue (list_all is_allowed es)
     → IsTrue (list_all (has_member reg) reg) → HasNoCircle (leads_to es) → IsTrue few ↔ HasFewFunctions es → IsTrue few ↔ IsSound reg
-last_fact reg es few is named differ known allowed members no_circle functions = (λ yes. all (functions.0 yes), λ sound. functions.1 (subst HasFewFunctions (sym is) sound.functions))
+last_fact reg es few is named differ known allowed members no_circle functions =
+    (λ yes. all (functions.0 yes), λ sound. functions.1 (subst HasFewFunctions (sym is) sound.functions))
   where
     all : HasFewFunctions es → IsSound reg
     all few_each = record {

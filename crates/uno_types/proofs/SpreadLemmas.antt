@@ -1,5 +1,6 @@
 -- Marks spread name by name, and a search that has nothing pending has marked all bases.
-use Rattle.std.proofs.Common.{◌≡◌, ◌≢◌, ℕ, zero, suc, ◌+◌, ◌<◌, Bool, true, false, List, [], ◌∷◌, ◌++◌, length, set, take, get_or, replicate, None, Some, refl, sym, ap, subst, ◌∙◌, ◌⊎◌, inl, inr, arith}
+use Rattle.std.proofs.Common.{◌≡◌, ◌≢◌, ℕ, zero, suc, ◌+◌, ◌<◌, Bool, true, false, List, [], ◌∷◌, ◌++◌, length, set}
+use Rattle.std.proofs.Common.{take, get_or, replicate, None, Some, refl, sym, ap, subst, ◌∙◌, ◌⊎◌, inl, inr, arith}
 use Rattle.std.specs.Prelude.{slice_get, Contains, map, filter, not, if◌then◌else◌}
 use Rattle.std.proofs.lemmas.Bool.{cases_eq}
 use Rattle.std.proofs.lemmas.List.{length-set, length_push, map_more, length-replicate}
@@ -56,7 +57,8 @@ entity_at (e ∷ es) zero within = (e, refl)
 entity_at (e ∷ es) (suc p) within = entity_at es p (omega arith)
 
 -- where the place of a name is marked, each entity of that name is
-place_marks_all : (reg : List Entity) (name : List ℕ) (p : ℕ) (marks : List Bool) → IsRising reg → IsPlaceOf name reg p → Marked marks p → AllMarked reg marks (name ∷ [])
+place_marks_all : (reg : List Entity) (name : List ℕ) (p : ℕ) (marks : List Bool) → IsRising reg → IsPlaceOf name reg p → Marked marks p
+    → AllMarked reg marks (name ∷ [])
 place_marks_all reg name p marks rising place mark i e at has =
     let here = entity_at reg p place.within in
     let same : e.name ≡ here.0.name = sym (only_name name e.name has) ∙ sym (name_at_place name reg p here.0 place here.1) in
@@ -77,7 +79,8 @@ spreads_marked reg name p marks pending rising place mark =
     }
 
 -- a name whose place was not marked is marked and pending
-spreads_new : (reg : List Entity) (name : List ℕ) (p : ℕ) (marks : List Bool) (pending : List ℕ) → IsRising reg → length marks ≡ length reg → IsPlaceOf name reg p → slice_get marks p ≡ Some false
+spreads_new : (reg : List Entity) (name : List ℕ) (p : ℕ) (marks : List Bool) (pending : List ℕ) → IsRising reg → length marks ≡ length reg
+    → IsPlaceOf name reg p → slice_get marks p ≡ Some false
     → Spreads reg (name ∷ []) marks pending (set marks p true) (pending ++ p ∷ [])
 spreads_new reg name p marks pending rising long place no_mark =
     record {
@@ -85,7 +88,10 @@ spreads_new reg name p marks pending rising long place no_mark =
       kept = λ i m. kept_mark i m (cases_eq i p);
       held = λ i h. Contains-append_left pending (p ∷ []) i h;
       added = λ i m. added_mark i m (cases_eq i p);
-      places = λ i h. elim (Contains-push_cases pending p i h) [ inl old ↦ inl old | inr new ↦ inr (subst (λ k. (k < length reg) × Marked (set marks p true) k) new (place.within, set_marked marks p within)) ];
+      places = λ i h. elim (Contains-push_cases pending p i h) [
+        | inl old ↦ inl old
+        | inr new ↦ inr (subst (λ k. (k < length reg) × Marked (set marks p true) k) new (place.within, set_marked marks p within))
+      ];
       all = place_marks_all reg name p (set marks p true) rising place (set_marked marks p within);
       work = omega (arith, unmarked-set marks p no_mark, length_push pending p);
     }
@@ -107,7 +113,8 @@ spreads_new reg name p marks pending rising long place no_mark =
     added_mark i m (inr other) = inl (sym (set_other marks p i other) ∙ m)
 
 -- marking the place of a name spreads to it
-pub marks_place : (reg : List Entity) (name : List ℕ) (p : ℕ) (marks : List Bool) (pending : List ℕ) (marks_after : List Bool) (pending_after : List ℕ) → IsRising reg → length marks ≡ length reg
+pub marks_place : (reg : List Entity) (name : List ℕ) (p : ℕ) (marks : List Bool) (pending : List ℕ) (marks_after : List Bool) (pending_after : List ℕ)
+    → IsRising reg → length marks ≡ length reg
     → IsPlaceOf name reg p → MarksPlace p marks pending marks_after pending_after → Spreads reg (name ∷ []) marks pending marks_after pending_after
 marks_place reg name p marks pending marks_after pending_after rising long place (inl there) =
     let S : List Bool → List ℕ → Type 0 = λ m q. Spreads reg (name ∷ []) marks pending m q in
@@ -117,7 +124,8 @@ marks_place reg name p marks pending marks_after pending_after rising long place
     subst (λ m. S m pending_after) (sym new.1) (subst (S (set marks p true)) (sym new.2) (spreads_new reg name p marks pending rising long place new.0))
 
 -- nothing changes where no entity has one of the names
-pub spreads_nothing : (reg : List Entity) (names : List (List ℕ)) (marks : List Bool) (pending : List ℕ) → ((i : ℕ) (e : Entity) → slice_get reg i ≡ Some e → Contains names e.name → ⊥)
+pub spreads_nothing : (reg : List Entity) (names : List (List ℕ)) (marks : List Bool) (pending : List ℕ)
+    → ((i : ℕ) (e : Entity) → slice_get reg i ≡ Some e → Contains names e.name → ⊥)
     → Spreads reg names marks pending marks pending
 spreads_nothing reg names marks pending none =
     record {
@@ -131,14 +139,17 @@ spreads_nothing reg names marks pending none =
     }
 
 -- a name that is not there is no entity's
-pub absent_nowhere : (reg : List Entity) (name : List ℕ) → IsRising reg → find_entity name reg ≡ None → (i : ℕ) (e : Entity) → slice_get reg i ≡ Some e → Contains (name ∷ []) e.name → ⊥
-absent_nowhere reg name rising absent i e at has = differs (sym absent ∙ ap (λ n. find_entity n reg) (only_name name e.name has) ∙ named_there reg i e rising at)
+pub absent_nowhere : (reg : List Entity) (name : List ℕ) → IsRising reg → find_entity name reg ≡ None → (i : ℕ) (e : Entity) → slice_get reg i ≡ Some e
+    → Contains (name ∷ []) e.name → ⊥
+absent_nowhere reg name rising absent i e at has =
+    differs (sym absent ∙ ap (λ n. find_entity n reg) (only_name name e.name has) ∙ named_there reg i e rising at)
   where
     differs : None ≡ Some e → ⊥
     differs bad = cc
 
 -- marks that spread to some names, and then to others
-pub spreads_then : (reg : List Entity) (ns ms : List (List ℕ)) (a b c : List Bool) (p q r : List ℕ) → Spreads reg ns a p b q → Spreads reg ms b q c r → Spreads reg (ns ++ ms) a p c r
+pub spreads_then : (reg : List Entity) (ns ms : List (List ℕ)) (a b c : List Bool) (p q r : List ℕ) → Spreads reg ns a p b q → Spreads reg ms b q c r
+    → Spreads reg (ns ++ ms) a p c r
 spreads_then reg ns ms a b c p q r first second =
     record {
       long = second.long ∙ first.long;
@@ -149,7 +160,10 @@ spreads_then reg ns ms a b c p q r first second =
             [ inl old ↦ inl old | inr new ↦ inr (second.held i new.0, λ e at. Contains-append_left ns ms e.name (new.1 e at)) ]
         | inr new ↦ inr (new.0, λ e at. Contains-append_right ns ms e.name (new.1 e at))
       ];
-      places = λ i h. elim (second.places i h) [ inl before ↦ elim (first.places i before) [ inl old ↦ inl old | inr new ↦ inr (new.0, second.kept i new.1) ] | inr new ↦ inr new ];
+      places = λ i h. elim (second.places i h) [
+        | inl before ↦ elim (first.places i before) [ inl old ↦ inl old | inr new ↦ inr (new.0, second.kept i new.1) ]
+        | inr new ↦ inr new
+      ];
       all = λ i e at has. elim (Contains-append_cases ns ms e.name has) [ inl old ↦ second.kept i (first.all i e at old) | inr new ↦ second.all i e at new ];
       work = omega (arith, first.work, second.work);
     }
@@ -163,7 +177,8 @@ pub required_more : (bases : List Base) (b : Base) → required (bases ++ b ∷ 
 required_more [] b = refl
 required_more (x ∷ xs) b = by_test (not x.optional) (required_more xs b)
   where
-    by_test : (t : Bool) → required (xs ++ b ∷ []) ≡ required xs ++ required (b ∷ []) → map (λ y. y.name) (if t then x ∷ filter (λ y. not y.optional) (xs ++ b ∷ []) else filter (λ y. not y.optional) (xs ++ b ∷ []))
+    by_test : (t : Bool) → required (xs ++ b ∷ []) ≡ required xs ++ required (b ∷ [])
+        → map (λ y. y.name) (if t then x ∷ filter (λ y. not y.optional) (xs ++ b ∷ []) else filter (λ y. not y.optional) (xs ++ b ∷ []))
         ≡ map (λ y. y.name) (if t then x ∷ filter (λ y. not y.optional) xs else filter (λ y. not y.optional) xs) ++ required (b ∷ [])
     by_test true e = ap (λ ns. x.name ∷ ns) e
     by_test false e = e
@@ -172,7 +187,8 @@ required_more (x ∷ xs) b = by_test (not x.optional) (required_more xs b)
 pub required_step : (bases : List types.Base) (i : ℕ) (b : types.Base) → i < length bases → b ≡ get_or bases i b
     → required (map base_of (take (i + 1) bases)) ≡ required (map base_of (take i bases)) ++ required (base_of b ∷ [])
 required_step bases i b within is =
-    ap required (map_more base_of bases i b within ∙ ap (λ x. map base_of (take i bases) ++ base_of x ∷ []) (sym is)) ∙ required_more (map base_of (take i bases)) (base_of b)
+    ap required (map_more base_of bases i b within ∙ ap (λ x. map base_of (take i bases) ++ base_of x ∷ []) (sym is))
+    ∙ required_more (map base_of (take i bases)) (base_of b)
 
 -- a way goes one step further
 leads_further : (reg : List Entity) (a b c : List ℕ) → Leads (stands_on reg) a b → Contains (stands_on reg b) c → Leads (stands_on reg) a c
@@ -189,13 +205,19 @@ bases_by_name : (reg : List Entity) (p : ℕ) (e : Entity) → IsRising reg → 
 bases_by_name reg p e rising at = ap stands_on_body (at ∙ sym (named_there reg p e rising at))
 
 -- a place that was taken from the pending ones and has spread leaves a search one step on
-pub searched_step : (reg : List Entity) (name : List ℕ) (p : ℕ) (marks : List Bool) (rest : List ℕ) (marks_after : List Bool) (pending_after : List ℕ) → IsRising reg
-    → Searched reg name marks (rest ++ p ∷ []) → Spreads reg (stands_on_body (slice_get reg p)) marks rest marks_after pending_after → Searched reg name marks_after pending_after
+pub searched_step : (reg : List Entity) (name : List ℕ) (p : ℕ) (marks : List Bool) (rest : List ℕ) (marks_after : List Bool) (pending_after : List ℕ)
+    → IsRising reg
+    → Searched reg name marks (rest ++ p ∷ []) → Spreads reg (stands_on_body (slice_get reg p)) marks rest marks_after pending_after
+    → Searched reg name marks_after pending_after
 searched_step reg name p marks rest marks_after pending_after rising searched spreads =
     record {
       long = spreads.long ∙ searched.long;
       begun = λ i e at is. spreads.kept i (searched.begun i e at is);
-      only = λ i e at m. elim (spreads.added i m) [ inl old ↦ searched.only i e at old | inr new ↦ base_further reg name source.0.name e.name (searched.only p source.0 source.1 mark) (subst (λ ns. Contains ns e.name) names (new.1 e at)) ];
+      only = λ i e at m. elim (spreads.added i m) [
+        | inl old ↦ searched.only i e at old
+        | inr new ↦ base_further reg name source.0.name e.name (searched.only p source.0 source.1 mark)
+            (subst (λ ns. Contains ns e.name) names (new.1 e at))
+      ];
       closed = λ i e at m. elim (spreads.added i m) [ inl old ↦ still_closed i e at (searched.closed i e at old) | inr new ↦ inl new.0 ];
       waiting = λ i h. elim (spreads.places i h) [ inl old ↦ kept_waiting i old | inr new ↦ new ];
     }
@@ -218,17 +240,19 @@ searched_step reg name p marks rest marks_after pending_after rising searched sp
     all_here : (i : ℕ) (e : Entity) → slice_get reg i ≡ Some e → p ≡ i → AllMarked reg marks_after (stands_on reg e.name)
     all_here i e at same = subst (AllMarked reg marks_after) (bases_by_name reg p e rising (subst (λ k. slice_get reg k ≡ Some e) (sym same) at)) spreads.all
 
-    still_closed : (i : ℕ) (e : Entity) → slice_get reg i ≡ Some e → Contains (rest ++ p ∷ []) i ⊎ AllMarked reg marks (stands_on reg e.name) → Contains pending_after i ⊎ AllMarked reg marks_after (stands_on reg e.name)
+    still_closed : (i : ℕ) (e : Entity) → slice_get reg i ≡ Some e → Contains (rest ++ p ∷ []) i ⊎ AllMarked reg marks (stands_on reg e.name)
+        → Contains pending_after i ⊎ AllMarked reg marks_after (stands_on reg e.name)
     still_closed i e at (inl pending) = elim (Contains-push_cases rest p i pending) [ inl old ↦ inl (spreads.held i old) | inr now ↦ inr (all_here i e at now) ]
     still_closed i e at (inr all) = inr (λ j f there has. spreads.kept j (all j f there has))
 
 -- a search begins with one mark
-replicate_unmarked : (n i : ℕ) → Marked (replicate n false) i → ⊥
+pub replicate_unmarked : (n i : ℕ) → Marked (replicate n false) i → ⊥
 replicate_unmarked zero i m = let bad : None ≡ Some true = m in cc
 replicate_unmarked (suc n) zero m = let bad : Some false ≡ Some true = m in cc
 replicate_unmarked (suc n) (suc i) m = replicate_unmarked n i m
 
-pub search_begins : (reg : List Entity) (p : ℕ) (e : Entity) → IsRising reg → p < length reg → slice_get reg p ≡ Some e → Searched reg e.name (set (replicate (length reg) false) p true) (p ∷ [])
+pub search_begins : (reg : List Entity) (p : ℕ) (e : Entity) → IsRising reg → p < length reg → slice_get reg p ≡ Some e
+    → Searched reg e.name (set (replicate (length reg) false) p true) (p ∷ [])
 search_begins reg p e rising within at =
     record {
       long = length-set marks p true ∙ length-replicate (length reg) false;
@@ -259,11 +283,14 @@ search_begins reg p e rising within at =
     only_place i (suc k, low, is) = absurd (omega arith)
 
 -- a search with nothing pending has marked the bases, and nothing else
-pub search_ends : (reg : List Entity) (p : ℕ) (e : Entity) (marks : List Bool) → IsRising reg → slice_get reg p ≡ Some e → Searched reg e.name marks [] → MarksBases reg e.name marks
-search_ends reg p e marks rising at searched = marks_bases reg marks e.name p e searched.long at refl (searched.begun p e at refl) searched.closed searched.only (distinct_places reg rising)
+pub search_ends : (reg : List Entity) (p : ℕ) (e : Entity) (marks : List Bool) → IsRising reg → slice_get reg p ≡ Some e → Searched reg e.name marks []
+    → MarksBases reg e.name marks
+search_ends reg p e marks rising at searched =
+    marks_bases reg marks e.name p e searched.long at refl (searched.begun p e at refl) searched.closed searched.only (distinct_places reg rising)
 
 -- how a search over entities begins, whatever it is shown as
-pub begins_searched : (count p : ℕ) (reg : List Entity) (e : Entity) (marks : List Bool) (pending : List ℕ) → IsRising reg → p < length reg → slice_get reg p ≡ Some e → length reg ≡ count
+pub begins_searched : (count p : ℕ) (reg : List Entity) (e : Entity) (marks : List Bool) (pending : List ℕ) → IsRising reg → p < length reg
+    → slice_get reg p ≡ Some e → length reg ≡ count
     → marks ≡ set (replicate count false) p true → pending ≡ p ∷ [] → Searched reg e.name marks pending
 begins_searched count p reg e marks pending rising within at long m q =
     let S : List Bool → List ℕ → Type 0 = λ ms ps. Searched reg e.name ms ps in

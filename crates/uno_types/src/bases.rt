@@ -144,3 +144,18 @@ pub(crate) fn bases_of(
     let Search { marks, pending: _ } = search;
     Ok(marks)
 }
+
+/// Marks at all entities on which another one stands. What is marked is a help to choose an order: no promise rests on it.
+pub(crate) fn all_bases(alloc: Global, entities: &[Entity]) -> Result<Vec<bool>, NoMemory>
+    requires { IsRising (entities_of entities.now) }
+    ensures { IfOk result (λ marks. length marks.items ≡ length entities.now) }
+{
+    let marks = vec![in alloc; false; entities.len()]?;
+    let pending = Vec::new(alloc);
+    let mut search = Search { marks, pending };
+    for place in 0..entities.len() {
+        mark_bases(entities, place, &mut search)?;
+    }
+    let Search { marks, pending: _ } = search;
+    Ok(marks)
+}

@@ -1,47 +1,12 @@
-//! How many functions interfaces have, those of their bases counted.
-ghost use Rattle.std.specs.Prelude.{◌≡◌, ◌^◌, ◌-◌, ◌≤◌, ◌<◌, ◌↔◌, min, length, IfOk, IsTrue, map, if◌then◌else◌};
-ghost use Rattle.uno_model.specs.Registry.{IsRising};
-ghost use Rattle.uno_model.specs.Sound.{HasFewFunctions, functions_of_member, functions_in, own_functions, marked_functions, total_functions};
-ghost use Rattle.uno_types.specs.Counts.{FewAt};
+//! How many functions entities have: one, those that are marked, and all.
+ghost use Rattle.std.specs.Prelude.{◌≡◌, ◌^◌, ◌-◌, min, length, map, if◌then◌else◌};
+ghost use Rattle.uno_model.specs.Sound.{functions_of_member, functions_in, own_functions, marked_functions, total_functions};
 ghost use Rattle.uno_types.specs.Entities.{entities_of, body_of, member_of};
 
-use crate::bases::bases_of;
 use crate::{Body, Entity, Member};
-use std::alloc::Global;
-use uno_base::NoMemory;
-
-/// The most functions that an interface has.
-const MOST: u64 = 65_536;
-
-/// Whether no interface has more functions than the limit. Where all entities together have no more, none has.
-pub(crate) fn all_have_few_functions(alloc: Global, entities: &[Entity]) -> Result<bool, NoMemory>
-    requires { IsRising (entities_of entities.now) }
-    ensures { IfOk result (λ b. IsTrue b ↔ HasFewFunctions (entities_of entities.now)) }
-{
-    if functions_of_all(entities) <= MOST {
-        return Ok(true);
-    }
-    for place in 0..entities.len() {
-        if !has_few_functions(alloc, entities, place)? {
-            return Ok(false);
-        }
-    }
-    Ok(true)
-}
-
-/// Whether the entity at a place has no more functions than the limit.
-fn has_few_functions(alloc: Global, entities: &[Entity], place: usize) -> Result<bool, NoMemory>
-    requires rising { IsRising (entities_of entities.now) }
-    requires place { place < length entities.now }
-    ensures { IfOk result (λ b. IsTrue b ↔ FewAt (entities_of entities.now) place) }
-{
-    let marks = bases_of(alloc, entities, place)?;
-    let count = functions_of_marked(marks.as_slice(), entities);
-    Ok(count <= MOST)
-}
 
 /// How many functions the entities that are marked have themselves, as far as a `u64` counts.
-fn functions_of_marked(marks: &[bool], entities: &[Entity]) -> u64
+pub(crate) fn functions_of_marked(marks: &[bool], entities: &[Entity]) -> u64
     requires { length marks.now ≡ length entities.now }
     ensures { result ≡ min (marked_functions marks.now (entities_of entities.now)) (2 ^ 64 - 1) }
 {
@@ -60,7 +25,7 @@ fn functions_if(mark: bool, body: &Body) -> u64
 }
 
 /// How many functions all entities have themselves, as far as a `u64` counts.
-fn functions_of_all(entities: &[Entity]) -> u64
+pub(crate) fn functions_of_all(entities: &[Entity]) -> u64
     ensures { result ≡ min (total_functions (entities_of entities.now)) (2 ^ 64 - 1) }
 {
     let mut total = 0u64;

@@ -7,6 +7,7 @@ mod bases;
 mod built_in;
 mod circles;
 mod entity;
+mod few_functions;
 mod functions;
 mod has_type;
 mod known;

@@ -10,7 +10,7 @@ mod type_rules;
 
 use crate::Registry;
 use crate::circles::has_no_circles;
-use crate::functions::all_have_few_functions;
+use crate::few_functions::all_have_few_functions;
 use crate::known::all_known;
 use crate::members::all_have_members;
 pub(crate) use allowed::all_allowed;

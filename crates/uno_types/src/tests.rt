@@ -5,6 +5,7 @@ mod many;
 mod members;
 mod memory;
 mod order;
+mod parts;
 mod sound;
 mod texts;
 mod types;

@@ -19,4 +19,4 @@ pub use fitting::fits;
 pub use reference::Reference;
 pub use references::refs_of;
 pub use value::{AnyValue, Value};
-pub use weigh::weight;
+pub use weigh::{any_weight, weight, weights};

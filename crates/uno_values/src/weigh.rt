@@ -40,7 +40,7 @@ fn weight_of(value: &Value) -> u64
 /// The type, and what the any holds.
 #[cycle(weigh)]
 #[tactic(auto, unfolding(uno_model::specs::Weights::weight, uno_model::specs::Weights::weights))]
-fn any_weight(any: &AnyValue) -> u64
+pub fn any_weight(any: &AnyValue) -> u64
     ensures { result ≡ min (kind_weight (kind_of any.now.kind) + weight (plain_of any.now.value)) (2 ^ 64 - 1) }
 {
     kind_weight(&any.kind).saturating_add(weight_of(&any.value))
@@ -58,7 +58,7 @@ fn list_weight(elements: &[Value]) -> u64
 /// All of them together.
 #[cycle(weigh)]
 #[tactic(auto, unfolding(uno_model::specs::Weights::weight, uno_model::specs::Weights::weights))]
-fn weights(values: &[Value]) -> u64
+pub fn weights(values: &[Value]) -> u64
     ensures { result ≡ min (weights (plains_of values.now)) (2 ^ 64 - 1) }
 {
     let mut total: u64 = 0;

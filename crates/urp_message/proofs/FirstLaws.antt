@@ -1,5 +1,6 @@
 -- A body has at most one of the two forms, and says all that the request carries.
-use Rattle.std.proofs.Common.{◌≡◌, ◌≢◌, ℕ, ◌+◌, ◌^◌, ◌<◌, List, [], ◌∷◌, ◌++◌, length, refl, sym, ap, ◌∙◌, append_assoc, arith, length-append, get_or, ℤ, pos, negsuc, to_z, subst}
+use Rattle.std.proofs.Common.{◌≡◌, ◌≢◌, ℕ, ◌+◌, ◌^◌, ◌<◌, List, [], ◌∷◌, ◌++◌, length, refl, sym, ap, ◌∙◌, append_assoc, arith, length-append, get_or, ℤ}
+use Rattle.std.proofs.Common.{pos, negsuc, to_z, subst}
 use Rattle.std.proofs.lemmas.List.{append_cancel_left}
 use Rattle.uno_base.proofs.Lists.{same_fronts}
 use Rattle.std.specs.Prelude.{codes, FitsSigned}

@@ -4,3 +4,4 @@ pub mod ListeningLemmas
 pub mod ParamLemmas
 pub mod RaisingLemmas
 pub mod SpeakingLemmas
+pub mod SayingLemmas

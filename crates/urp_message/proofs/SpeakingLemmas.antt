@@ -12,7 +12,8 @@ use Rattle.urp_model.proofs.SizeLaws.{each_sized}
 use Rattle.message_model.specs.Calls.{Waits, argument_kinds, out_kinds}
 use Rattle.message_model.specs.Headers.{Heard}
 use Rattle.message_model.specs.Messages.{Answer, returned, raised, Message, request, release, reply}
-use Rattle.message_model.specs.Speaking.{Fill, AnswerFits, MayBeSaid, heading_weight, answer_weight, message_weight, MessageSpellable, arrived, IsAwaited, Agree}
+use Rattle.message_model.specs.Speaking.{Fill, AnswerFits, MayBeSaid, heading_weight, answer_weight, message_weight, MessageSpellable, arrived, IsAwaited}
+use Rattle.message_model.specs.Speaking.{Agree}
 use Rattle.message_model.specs.ReadingMessages.{message_at}
 use Rattle.message_model.specs.WritingMessages.{Spoken, Heading, call_heading, release_heading, message_spelling, after_message}
 use Rattle.message_model.proofs.MessageWeightLaws.{message_bounded}

@@ -11,9 +11,11 @@ mod message;
 mod params;
 mod raising;
 mod reason;
+mod saying;
 mod speaker;
 #[cfg(test)]
 mod tests;
+mod weighing;
 
 pub use error::ReadError;
 pub use expects::Expects;
@@ -23,5 +25,7 @@ pub use first::{
 pub use listener::Listener;
 pub use message::{Answer, Message};
 pub use reason::Reason;
+pub use saying::may_be_said;
 pub use speaker::Speaker;
 pub use uno_types::{Tag, TagError, Tid};
+pub use weighing::weight_of;

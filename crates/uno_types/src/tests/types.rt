@@ -1,5 +1,4 @@
 //! Types as words.
-use super::words::cut;
 use crate::{Name, TypeName};
 use std::alloc::Global;
 use uno_base::NoMemory;
@@ -42,5 +41,13 @@ fn simple(word: &str) -> TypeName {
         "type" => TypeName::Kind,
         "any" => TypeName::Any,
         _ => TypeName::Long,
+    }
+}
+
+/// What stands before the mark, and what behind it; without a mark, nothing.
+pub(crate) fn cut(text: &str, mark: char) -> (&str, &str) {
+    match text.split_once(mark) {
+        Some(both) => both,
+        None => (text, ""),
     }
 }

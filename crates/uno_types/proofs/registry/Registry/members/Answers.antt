@@ -1,4 +1,4 @@
-use Rattle.std.proofs.Common.{rules, arith}
+use Rattle.std.proofs.Common.{rules}
 use Rattle.uno_types.proofs.LevelLemmas.{taken_on, taken_all}
 use Rattle.uno_types.proofs.registry.Registry.members.Goals as goal
 
