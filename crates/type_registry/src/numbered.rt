@@ -9,7 +9,8 @@ use std::alloc::Global;
 use uno_base::NoMemory;
 use uno_types::Registry;
 
-/// The function of an interface at a number, and none where the number is past its functions, or the name is that of no interface.
+/// The function of an interface at a number, and none where the number is past its functions. In a sound registry a name that is
+/// no interface's has none.
 pub fn function_numbered(
     alloc: Global,
     registry: &Registry,

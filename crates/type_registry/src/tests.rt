@@ -1,5 +1,5 @@
-//! The table of an interface over two bases, of one over a long chain, and of what is no interface.
-use crate::{Function, TableError, function_table};
+//! The table of an interface over two bases, of one over a long chain, and of what is no interface; and functions by their numbers.
+use crate::{Function, TableError, function_numbered, function_table};
 use std::alloc::Global;
 use std::process::Abort;
 use std::test::Fail;
@@ -135,5 +135,79 @@ fn an_exception_and_an_unknown_name_have_no_table(rt: HostRuntime) -> Result<(),
         let table = function_table(rt.alloc(), &registry, name);
         assert!(rt; matches!(table, Err(TableError::NotInterface)));
     }
+    Ok(())
+}
+
+/// A name, a number, and the function of the interface of that name that has it.
+type Row = (&'static str, u16, Option<&'static str>);
+
+const NUMBERED: &[Row] = &[
+    ("demo.XBoth", 0, Some("queryInterface")),
+    ("demo.XBoth", 3, Some("get:Name")),
+    ("demo.XBoth", 8, Some("note")),
+    ("demo.XBoth", 9, None),
+    ("demo.XBoth", 65_535, None),
+    ("com.sun.star.uno.Exception", 0, None),
+    ("demo.XNone", 0, None),
+];
+
+/// Whether the function at the number has that name, or there is none.
+fn is_numbered(alloc: Global, registry: &Registry, row: &Row) -> Result<bool, NoMemory> {
+    let (name, number, wanted) = row;
+    let found = function_numbered(alloc, registry, name, *number)?;
+    match found {
+        Some(function) => Ok(*wanted == Some(function.name.as_str())),
+        None => Ok(wanted.is_none()),
+    }
+}
+
+#[test]
+fn a_number_names_the_function_at_its_place(rt: HostRuntime) -> Result<(), Fail> {
+    let registry = demo(rt.alloc())?;
+    for row in NUMBERED {
+        let (name, number, _) = row;
+        assert!(rt;
+            is_numbered(rt.alloc(), &registry, row) == Ok(true),
+            "at {name} {number}"
+        );
+    }
+    Ok(())
+}
+
+/// How many interfaces stand on one another in the chain.
+const LINKS: u32 = 20_000;
+
+/// One with a method, on another.
+fn link(alloc: Global, name: &str, before: &str) -> Result<Entity, NoMemory> {
+    let bases = one(alloc, base(alloc, before)?)?;
+    let members = one(alloc, method(alloc, "go")?)?;
+    interface(alloc, name, bases, members)
+}
+
+/// Interfaces from `demo.X00000` on, each on the one before, the first on the root.
+fn chain(alloc: Global) -> Result<Registry, Fail> {
+    let mut registry = Registry::new(alloc)?;
+    let mut before = String::from_str(alloc, ROOT)?;
+    for number in 0..LINKS {
+        let name = format!(in alloc; "demo.X{number:05}")?;
+        registry.add(link(alloc, &name, &before)?)?;
+        before = name;
+    }
+    Ok(registry)
+}
+
+/// Whether there are so many functions, the last of them declared by that interface.
+fn ends_in(functions: &[Function], count: usize, owner: &str) -> bool {
+    match functions.last() {
+        Some(last) => functions.len() == count && last.owner.as_str() == owner,
+        None => false,
+    }
+}
+
+#[test]
+fn the_end_of_a_long_chain_has_its_table(rt: HostRuntime) -> Result<(), Fail> {
+    let registry = chain(rt.alloc())?;
+    let table = function_table(rt.alloc(), &registry, "demo.X19999");
+    assert!(rt; matches!(&table, Ok(functions) if ends_in(functions, 20_003, "demo.X19999")));
     Ok(())
 }

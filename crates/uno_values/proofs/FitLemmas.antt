@@ -1,12 +1,12 @@
 -- Values for members: those of a base stand before a level's own, and each list has as many as the other.
-use Rattle.std.proofs.Common.{◌≡◌, ℕ, zero, suc, ◌+◌, ◌-◌, ◌<◌, ◌≤◌, List, [], ◌∷◌, ◌++◌, length, map, take, drop, Option, None, Some, Bool, true, false, refl, sym, ap, ◌∙◌, arith, eqb-true}
+use Rattle.std.proofs.Common.{◌≡◌, ℕ, suc, ◌+◌, ◌-◌, ◌<◌, ◌≤◌, List, [], ◌∷◌, ◌++◌, length, map, take, drop, None, Some, false, refl, sym, ap, ◌∙◌, arith, eqb-true}
 use Rattle.std.specs.Prelude.{◌↔◌, ◌==◌, IsTrue}
 use Rattle.std.specs.Borrow.{Bor}
-use Rattle.std.proofs.lemmas.List.{length-append, length-map, length-take, length-drop, map-append, append-nil, take-append-drop}
+use Rattle.std.proofs.lemmas.List.{length-append, length-map, length-take, map-append}
 use Rattle.std.proofs.Math.Seq.{take-add}
 use Rattle.uno_model.specs.Kinds.{Kind}
 use Rattle.uno_model.specs.Entities as plain
-use Rattle.uno_model.specs.Fits.{FitEach, member_kinds}
+use Rattle.uno_model.specs.Fits.{FitEach}
 use Rattle.uno_model.specs.Registry.{find_entity, members_within}
 use Rattle.uno_model.proofs.MemberLaws.{no_members}
 use Rattle.uno_types.specs.Entities.{field_of}

@@ -1,5 +1,5 @@
 -- The parts of a value as plain trees.
-use Rattle.std.proofs.Common.{◌≡◌, suc, List, [], ◌∷◌, length, map, refl, ap}
+use Rattle.std.proofs.Common.{◌≡◌, suc, List, [], ◌∷◌, length, refl, ap}
 use Rattle.uno_model.specs.Weights.{count}
 use Rattle.uno_values.specs.declared.value.Value.{Value}
 use Rattle.uno_values.specs.Values.{plains_of}

@@ -14,6 +14,30 @@ is_flat (kd.exception name) = false
 is_flat (kd.sequence k) = false
 is_flat _ = true
 
+-- a value of the type has one byte or two
+abbrev pub is_narrow : Kind → Bool
+is_narrow kd.char = true
+is_narrow kd.boolean = true
+is_narrow kd.byte = true
+is_narrow kd.short = true
+is_narrow kd.unsigned_short = true
+is_narrow _ = false
+
+-- a value of the type is a number of four bytes or eight
+abbrev pub is_wide : Kind → Bool
+is_wide kd.long = true
+is_wide kd.unsigned_long = true
+is_wide kd.hyper = true
+is_wide kd.unsigned_hyper = true
+is_wide _ = false
+
+-- a value of the type goes with a name: it is a type itself, an item of an enum, or a reference
+abbrev pub is_named : Kind → Bool
+is_named kd.kind = true
+is_named (kd.enum name) = true
+is_named (kd.interface face) = true
+is_named _ = false
+
 -- nothing is read inside
 abbrev pub nothing_inside : Kind → Reads
 nothing_inside k s bs = Err Short

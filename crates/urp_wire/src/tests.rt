@@ -7,7 +7,7 @@ use std::alloc::Global;
 use std::process::Abort;
 use std::test::Fail;
 use uno_base::NoMemory;
-use uno_types::{Name, Registry, TypeName};
+use uno_types::{Name, Registry, Text, TypeName};
 use uno_values::{AnyValue, Reference, Value, depth_of, fits, weight};
 use urp_cache::{ReadCaches, SendCaches};
 
@@ -69,12 +69,16 @@ const ROWS: &[Row] = &[
     ),
 ];
 
+fn sequence_of(alloc: Global, element: TypeName) -> Result<TypeName, NoMemory> {
+    Ok(TypeName::Sequence(Box::new(alloc, element)?))
+}
+
 /// The type of a row.
 fn kind(alloc: Global, word: &str) -> Result<TypeName, NoMemory> {
     match word {
-        "[]byte" => Ok(TypeName::Sequence(Box::new(alloc, TypeName::Byte)?)),
-        "[]long" => Ok(TypeName::Sequence(Box::new(alloc, TypeName::Long)?)),
-        "any" => Ok(TypeName::Any),
+        "[]byte" => sequence_of(alloc, TypeName::Byte),
+        "[]long" => sequence_of(alloc, TypeName::Long),
+        "any" | "any of texts" => Ok(TypeName::Any),
         "boolean" => Ok(TypeName::Boolean),
         "string" => Ok(TypeName::Str),
         _ => Ok(TypeName::Interface(Name::of(alloc, "com.sun.star.uno.XInterface")?)),
@@ -119,30 +123,44 @@ fn bytes_are_read_or_refused(rt: HostRuntime) -> Result<(), Fail> {
     Ok(())
 }
 
-/// An any of a long.
-fn any_of(alloc: Global, number: i32) -> Result<Value, NoMemory> {
-    let any = AnyValue {
-        kind: TypeName::Long,
-        value: Value::Long(number),
-    };
-    Ok(Value::Any(Box::new(alloc, any)?))
+fn any_of(alloc: Global, kind: TypeName, value: Value) -> Result<Value, NoMemory> {
+    Ok(Value::Any(Box::new(alloc, AnyValue { kind, value })?))
+}
+
+/// The longs 1 and -1.
+fn longs(alloc: Global) -> Result<Value, NoMemory> {
+    let mut elements = Vec::new(alloc);
+    elements.push(Value::Long(1))?;
+    elements.push(Value::Long(-1))?;
+    Ok(Value::List(TypeName::Long, elements))
+}
+
+/// An any of a sequence of strings, with the one text `a`.
+fn any_of_texts(alloc: Global) -> Result<Value, NoMemory> {
+    let mut elements = Vec::new(alloc);
+    elements.push(Value::Str(Text::of(alloc, "a")?))?;
+    let kind = sequence_of(alloc, TypeName::Str)?;
+    any_of(alloc, kind, Value::List(TypeName::Str, elements))
 }
 
 /// The value of a row that is written.
 fn value(alloc: Global, word: &str) -> Result<Value, NoMemory> {
     match word {
         "[]byte" => Ok(Value::Bytes(Vec::from_slice(alloc, b"\x01\x02\x03")?)),
-        "any" => any_of(alloc, 5),
+        "[]long" => longs(alloc),
+        "any" => any_of(alloc, TypeName::Long, Value::Long(5)),
+        "any of texts" => any_of_texts(alloc),
         "boolean" => Ok(Value::Boolean(true)),
         _ => Ok(Value::Ref(Reference::Null)),
     }
 }
 
-/// What is written of a value, with no name held.
+/// What is written of a value.
 fn written(
     rt: &impl Abort,
     alloc: Global,
     registry: &Registry,
+    caches: &mut SendCaches,
     kind: &TypeName,
     value: &Value,
 ) -> Result<Vec<u8>, Fail>
@@ -151,26 +169,49 @@ fn written(
     assert!(rt; fits(registry, value, kind));
     assert!(rt; weight(registry, value) <= 16_777_216);
     assert!(rt; depth_of(value) <= 64);
-    let mut caches = SendCaches::new(alloc)?;
     let mut to = Vec::new(alloc);
-    write_value(alloc, registry, &mut caches, value, kind, &mut to)?;
+    write_value(alloc, registry, caches, value, kind, &mut to)?;
     Ok(to)
+}
+
+/// A value, and its bytes.
+type Written = (&'static str, &'static [u8]);
+
+/// Each is written after those above it: the second any finds the name of its type held.
+const WRITTEN: &[Written] = &[
+    ("[]byte", b"\x03\x01\x02\x03"),
+    ("[]long", b"\x02\0\0\0\x01\xFF\xFF\xFF\xFF"),
+    ("any", b"\x06\0\0\0\x05"),
+    ("any of texts", b"\x94\0\0\x08[]string\x01\x01a"),
+    ("any of texts", b"\x14\0\0\x01\x01a"),
+    ("boolean", b"\x01"),
+    ("object", b"\0\xFF\xFF"),
+];
+
+/// Whether what is written of the value of a row is its bytes.
+fn is_written(
+    rt: &impl Abort,
+    alloc: Global,
+    registry: &Registry,
+    caches: &mut SendCaches,
+    row: &Written,
+) -> Result<bool, Fail>
+    requires { IsSound registry.now }
+{
+    let (word, bytes) = row;
+    let kind = kind(alloc, word)?;
+    let value = value(alloc, word)?;
+    let to = written(rt, alloc, registry, caches, &kind, &value)?;
+    Ok(to.as_slice() == *bytes)
 }
 
 #[test]
 fn worked_values_are_written(rt: HostRuntime) -> Result<(), Fail> {
-    let alloc = rt.alloc();
-    let registry = built_in(&rt, alloc)?;
-    for (word, bytes) in [
-        ("[]byte", b"\x03\x01\x02\x03".as_slice()),
-        ("any", b"\x06\0\0\0\x05"),
-        ("boolean", b"\x01"),
-        ("object", b"\0\xFF\xFF"),
-    ] {
-        let kind = kind(alloc, word)?;
-        let value = value(alloc, word)?;
-        let to = written(&rt, alloc, &registry, &kind, &value)?;
-        assert!(rt; to.as_slice() == bytes);
+    let registry = built_in(&rt, rt.alloc())?;
+    let mut caches = SendCaches::new(rt.alloc())?;
+    for row in WRITTEN {
+        let right = is_written(&rt, rt.alloc(), &registry, &mut caches, row)?;
+        assert!(rt; right);
     }
     Ok(())
 }

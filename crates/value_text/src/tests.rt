@@ -1,149 +1,169 @@
 //! The texts of values, both ways, and the places at which texts go wrong.
+ghost use Rattle.std.specs.Prelude.{IfOk};
 ghost use Rattle.uno_model.specs.Sound.{IsSound};
 
+use crate::TextError::{BadLiteral, WrongType};
 use crate::{TextError, print_value, read_value};
 use std::alloc::Global;
-use std::test::Fail;
 use uno_base::NoMemory;
 use uno_types::{Body, Entity, Field, Item, Name, Registry, TypeName};
 
-/// Types and texts that are read and printed as they are.
-const LITERALS: [(&str, &str); 38] = [
-    ("void", "void"),
-    ("char", "0"),
-    ("char", "65535"),
-    ("boolean", "true"),
-    ("boolean", "false"),
-    ("byte", "-128"),
-    ("short", "32767"),
-    ("unsigned short", "65535"),
-    ("long", "-2147483648"),
-    ("unsigned long", "4294967295"),
-    ("hyper", "-9223372036854775808"),
-    ("hyper", "9223372036854775807"),
-    ("unsigned hyper", "18446744073709551615"),
-    ("string", "\"\""),
-    ("string", "\"a\\\"b\\\\c\\nd\u{e9} [1,\""),
-    ("type", "<void>"),
-    ("type", "<[][]unsigned hyper>"),
-    ("type", "<demo.Point>"),
-    ("any", "(void)"),
-    ("any", "(long)-7"),
-    ("any", "([]any)[(long)1,(void),(demo.Color)GREEN]"),
-    ("[]byte", "[]"),
-    ("[]byte", "[1,-1]"),
-    ("[]long", "[1,-1]"),
-    ("[]string", "[]"),
-    ("[][]byte", "[[],[0]]"),
-    ("demo.Color", "RED"),
-    ("demo.Color", "GREEN"),
-    ("demo.Color", "7"),
-    ("demo.Color", "-1"),
-    ("[]demo.Color", "[RED,2]"),
-    ("demo.Point", "{1,\"here\"}"),
-    ("demo.Failure", "{\"lost\"}"),
-    ("com.sun.star.uno.Exception", "{\"lost\",null}"),
-    ("com.sun.star.uno.XInterface", "null"),
-    ("[]com.sun.star.uno.XInterface", "[null,null]"),
-    ("[]demo.Point", "[{0,\"\"},{1,\"x\"}]"),
-    ("any", "(demo.Point){3,\"any\"}"),
-];
+/// A type and a text, which is read and printed as it is, or why it is not read.
+type Row = (&'static str, &'static str, Result<(), TextError>);
 
-/// Types, texts, and why they are not read.
-const REFUSALS: [(&str, &str, TextError); 48] = [
-    ("[]long", "[1,", TextError::BadLiteral(3)),
-    ("long", "", TextError::BadLiteral(0)),
-    ("long", "00", TextError::BadLiteral(1)),
-    ("long", "-0", TextError::BadLiteral(1)),
-    ("long", "-", TextError::BadLiteral(1)),
-    ("long", "+1", TextError::BadLiteral(0)),
-    ("long", "1 ", TextError::BadLiteral(1)),
-    ("long", " 1", TextError::BadLiteral(0)),
-    ("long", "1,2", TextError::BadLiteral(1)),
-    ("hyper", "18446744073709551616", TextError::BadLiteral(19)),
-    ("hyper", "-9223372036854775809", TextError::BadLiteral(19)),
-    ("boolean", "truth", TextError::BadLiteral(0)),
-    ("demo.Color", "BLUE", TextError::BadLiteral(0)),
-    ("demo.Color", "CRIMSON", TextError::BadLiteral(0)),
-    ("string", "\"a\nb\"", TextError::BadLiteral(2)),
-    ("string", "\"a\\tb\"", TextError::BadLiteral(3)),
-    ("string", "\"a", TextError::BadLiteral(2)),
-    ("string", "\"a\\", TextError::BadLiteral(3)),
-    ("type", "<demo.Nope>", TextError::BadLiteral(1)),
-    ("type", "<long!", TextError::BadLiteral(5)),
-    ("type", "<long", TextError::BadLiteral(5)),
-    ("type", "<[]void>", TextError::BadLiteral(1)),
-    ("any", "(any)(long)1", TextError::BadLiteral(1)),
-    ("any", "(long)", TextError::BadLiteral(6)),
-    ("any", "(void)1", TextError::BadLiteral(6)),
-    ("[]long", "[1,]", TextError::BadLiteral(3)),
-    ("[]long", "[,]", TextError::BadLiteral(1)),
-    ("[]long", "[1}", TextError::BadLiteral(2)),
-    ("[]long", "[1]]", TextError::BadLiteral(3)),
-    ("demo.Point", "{}", TextError::BadLiteral(1)),
+const ROWS: &[Row] = &[
+    ("void", "void", Ok(())),
+    ("char", "0", Ok(())),
+    ("char", "65535", Ok(())),
+    ("boolean", "true", Ok(())),
+    ("boolean", "false", Ok(())),
+    ("byte", "-128", Ok(())),
+    ("short", "32767", Ok(())),
+    ("unsigned short", "65535", Ok(())),
+    ("long", "-2147483648", Ok(())),
+    ("unsigned long", "4294967295", Ok(())),
+    ("hyper", "-9223372036854775808", Ok(())),
+    ("hyper", "9223372036854775807", Ok(())),
+    ("unsigned hyper", "18446744073709551615", Ok(())),
+    ("string", "\"\"", Ok(())),
+    ("string", "\"a\\\"b\\\\c\\nd\u{e9} [1,\"", Ok(())),
+    ("type", "<void>", Ok(())),
+    ("type", "<[][]unsigned hyper>", Ok(())),
+    ("type", "<demo.Point>", Ok(())),
+    ("any", "(void)", Ok(())),
+    ("any", "(long)-7", Ok(())),
+    ("any", "([]any)[(long)1,(void),(demo.Color)GREEN]", Ok(())),
+    ("[]byte", "[]", Ok(())),
+    ("[]byte", "[1,-1]", Ok(())),
+    ("[]long", "[1,-1]", Ok(())),
+    ("[]string", "[]", Ok(())),
+    ("[][]byte", "[[],[0]]", Ok(())),
+    ("demo.Color", "RED", Ok(())),
+    ("demo.Color", "GREEN", Ok(())),
+    ("demo.Color", "7", Ok(())),
+    ("demo.Color", "-1", Ok(())),
+    ("[]demo.Color", "[RED,2]", Ok(())),
+    ("demo.Point", "{1,\"here\"}", Ok(())),
+    ("demo.Failure", "{\"lost\"}", Ok(())),
+    ("com.sun.star.uno.Exception", "{\"lost\",null}", Ok(())),
+    ("com.sun.star.uno.XInterface", "null", Ok(())),
+    ("[]com.sun.star.uno.XInterface", "[null,null]", Ok(())),
+    ("[]demo.Point", "[{0,\"\"},{1,\"x\"}]", Ok(())),
+    ("any", "(demo.Point){3,\"any\"}", Ok(())),
+    ("[]long", "[1,", Err(BadLiteral(3))),
+    ("long", "", Err(BadLiteral(0))),
+    ("long", "00", Err(BadLiteral(1))),
+    ("long", "-0", Err(BadLiteral(1))),
+    ("long", "-", Err(BadLiteral(1))),
+    ("long", "+1", Err(BadLiteral(0))),
+    ("long", "1 ", Err(BadLiteral(1))),
+    ("long", " 1", Err(BadLiteral(0))),
+    ("long", "1,2", Err(BadLiteral(1))),
+    ("hyper", "18446744073709551616", Err(BadLiteral(19))),
+    ("hyper", "-9223372036854775809", Err(BadLiteral(19))),
+    ("boolean", "truth", Err(BadLiteral(0))),
+    ("demo.Color", "BLUE", Err(BadLiteral(0))),
+    ("demo.Color", "CRIMSON", Err(BadLiteral(0))),
+    ("string", "\"a\nb\"", Err(BadLiteral(2))),
+    ("string", "\"a\\tb\"", Err(BadLiteral(3))),
+    ("string", "\"a", Err(BadLiteral(2))),
+    ("string", "\"a\\", Err(BadLiteral(3))),
+    ("type", "<demo.Nope>", Err(BadLiteral(1))),
+    ("type", "<long!", Err(BadLiteral(5))),
+    ("type", "<long", Err(BadLiteral(5))),
+    ("type", "<[]void>", Err(BadLiteral(1))),
+    ("any", "(any)(long)1", Err(BadLiteral(1))),
+    ("any", "(long)", Err(BadLiteral(6))),
+    ("any", "(void)1", Err(BadLiteral(6))),
+    ("[]long", "[1,]", Err(BadLiteral(3))),
+    ("[]long", "[,]", Err(BadLiteral(1))),
+    ("[]long", "[1}", Err(BadLiteral(2))),
+    ("[]long", "[1]]", Err(BadLiteral(3))),
+    ("demo.Point", "{}", Err(BadLiteral(1))),
     (
         "[]long",
         "@\"o\"<com.sun.star.uno.XInterface>",
-        TextError::BadLiteral(0),
+        Err(BadLiteral(0)),
     ),
-    ("byte", "128", TextError::WrongType(0)),
-    ("byte", "-129", TextError::WrongType(0)),
-    ("char", "-1", TextError::WrongType(0)),
-    ("unsigned long", "4294967296", TextError::WrongType(0)),
-    ("hyper", "9223372036854775808", TextError::WrongType(0)),
-    ("boolean", "1", TextError::WrongType(0)),
-    ("demo.Color", "0", TextError::WrongType(0)),
-    ("demo.Color", "true", TextError::WrongType(0)),
-    ("long", "RED", TextError::WrongType(0)),
-    ("long", "[1]", TextError::WrongType(0)),
-    ("long", "null", TextError::WrongType(0)),
-    ("long", "(long)1", TextError::WrongType(0)),
-    ("[]byte", "[1,128]", TextError::WrongType(3)),
-    ("[][]long", "[[1],[2,\"\"]]", TextError::WrongType(8)),
-    ("demo.Point", "{1}", TextError::WrongType(0)),
-    ("demo.Point", "{1,\"\",2}", TextError::WrongType(0)),
-    ("demo.Point", "{\"\",1}", TextError::WrongType(1)),
+    ("byte", "128", Err(WrongType(0))),
+    ("byte", "-129", Err(WrongType(0))),
+    ("char", "-1", Err(WrongType(0))),
+    ("unsigned long", "4294967296", Err(WrongType(0))),
+    ("hyper", "9223372036854775808", Err(WrongType(0))),
+    ("boolean", "1", Err(WrongType(0))),
+    ("demo.Color", "0", Err(WrongType(0))),
+    ("demo.Color", "true", Err(WrongType(0))),
+    ("long", "RED", Err(WrongType(0))),
+    ("long", "[1]", Err(WrongType(0))),
+    ("long", "null", Err(WrongType(0))),
+    ("long", "(long)1", Err(WrongType(0))),
+    ("[]byte", "[1,128]", Err(WrongType(3))),
+    ("[][]long", "[[1],[2,\"\"]]", Err(WrongType(8))),
+    ("demo.Point", "{1}", Err(WrongType(0))),
+    ("demo.Point", "{1,\"\",2}", Err(WrongType(0))),
+    ("demo.Point", "{\"\",1}", Err(WrongType(1))),
 ];
 
+/// Whether the text of a row is read and printed as it is, or refused as the row says.
+fn is_right(alloc: Global, registry: &Registry, row: &Row) -> Result<bool, NoMemory>
+    requires { IsSound registry.now }
+{
+    let (word, text, wanted) = row;
+    let Some(kind) = registry.type_named(alloc, word)? else {
+        return Ok(false);
+    };
+    let printed = through(alloc, registry, &kind, text);
+    Ok(is_alike(&printed, text, wanted))
+}
+
+/// What is printed of the value that is read.
+fn through(
+    alloc: Global,
+    registry: &Registry,
+    kind: &TypeName,
+    text: &str,
+) -> Result<Vec<u8>, TextError>
+    requires { IsSound registry.now }
+{
+    let value = read_value(alloc, registry, text, kind)?;
+    match print_value(alloc, registry, &value) {
+        Ok(bytes) => Ok(bytes),
+        Err(NoMemory) => Err(TextError::NoMemory),
+    }
+}
+
+fn is_alike(
+    printed: &Result<Vec<u8>, TextError>,
+    text: &str,
+    wanted: &Result<(), TextError>,
+) -> bool {
+    match printed {
+        Ok(bytes) => wanted.is_ok() && bytes.as_slice() == text.as_bytes(),
+        Err(error) => *wanted == Err(*error),
+    }
+}
+
 #[test]
-fn literals_are_read_and_printed(rt: HostRuntime) -> Result<(), Fail> {
-    let alloc = rt.alloc();
-    let registry = demo(alloc)?;
-    let sound = registry.is_sound()?;
-    assert!(rt; sound);
-    for (kind, text) in LITERALS {
-        let printed = through(alloc, &registry, kind, text)?;
-        assert!(rt; is_text(&printed, text), "at {kind} {text}");
+fn texts_are_read_and_printed_or_refused_at_their_places(rt: HostRuntime) -> Result<(), NoMemory> {
+    let registry = demo(rt.alloc())?;
+    for row in ROWS {
+        let (kind, text, _) = row;
+        let right = is_right(rt.alloc(), &registry, row)?;
+        assert!(rt; right, "at {kind} {text}");
     }
     Ok(())
 }
 
-#[test]
-fn other_texts_are_refused_at_their_places(rt: HostRuntime) -> Result<(), Fail> {
-    let alloc = rt.alloc();
-    let registry = demo(alloc)?;
-    let sound = registry.is_sound()?;
-    assert!(rt; sound);
-    for (kind, text, error) in REFUSALS {
-        let printed = through(alloc, &registry, kind, text)?;
-        assert!(rt; is_error(&printed, error), "at {kind} {text}");
-    }
-    Ok(())
+/// Whether so many open brackets are a bad literal at their end.
+fn ends_badly(alloc: Global, registry: &Registry, count: u32) -> Result<bool, NoMemory>
+    requires { IsSound registry.now }
+{
+    let text = brackets(alloc, count)?;
+    let read = read_value(alloc, registry, text.as_str(), &TypeName::Long);
+    Ok(matches!(read, Err(BadLiteral(place)) if place == count))
 }
 
-#[test]
-fn four_million_brackets_are_a_bad_literal(rt: HostRuntime) -> Result<(), Fail> {
-    let alloc = rt.alloc();
-    let registry = demo(alloc)?;
-    let sound = registry.is_sound()?;
-    assert!(rt; sound);
-    let text = brackets(alloc, 4_000_000)?;
-    let printed = through(alloc, &registry, "long", text.as_str())?;
-    assert!(rt; is_error(&printed, TextError::BadLiteral(4_000_000)));
-    Ok(())
-}
-
-fn brackets(alloc: Global, count: usize) -> Result<String, NoMemory> {
+fn brackets(alloc: Global, count: u32) -> Result<String, NoMemory> {
     let mut text = String::new(alloc);
     for _ in 0..count {
         text.push('[')?;
@@ -151,79 +171,73 @@ fn brackets(alloc: Global, count: usize) -> Result<String, NoMemory> {
     Ok(text)
 }
 
-/// What is printed of the value that is read.
-fn through(
-    alloc: Global,
-    registry: &Registry,
-    kind: &str,
-    text: &str,
-) -> Result<Result<Vec<u8>, TextError>, NoMemory>
-    requires { IsSound registry.now }
-{
-    let Some(kind) = registry.type_named(alloc, kind)? else {
-        return Ok(Err(TextError::NoMemory));
-    };
-    match read_value(alloc, registry, text, &kind) {
-        Ok(value) => Ok(Ok(print_value(alloc, registry, &value)?)),
-        Err(error) => Ok(Err(error)),
-    }
-}
-
-fn is_text(printed: &Result<Vec<u8>, TextError>, text: &str) -> bool {
-    match printed {
-        Ok(bytes) => bytes.as_slice() == text.as_bytes(),
-        Err(_) => false,
-    }
-}
-
-fn is_error(printed: &Result<Vec<u8>, TextError>, error: TextError) -> bool {
-    match printed {
-        Ok(_) => false,
-        Err(other) => *other == error,
-    }
+#[test]
+fn four_million_brackets_are_a_bad_literal(rt: HostRuntime) -> Result<(), NoMemory> {
+    let registry = demo(rt.alloc())?;
+    let bad = ends_badly(rt.alloc(), &registry, 4_000_000)?;
+    assert!(rt; bad);
+    Ok(())
 }
 
 /// An enum with two items of one number, a struct and an exception.
-fn demo(alloc: Global) -> Result<Registry, Fail> {
+fn demo(alloc: Global) -> Result<Registry, NoMemory>
+    ensures { IfOk result (λ registry. IsSound registry) }
+{
     let mut registry = Registry::new(alloc)?;
-    let mut items = Vec::new(alloc);
-    for (name, number) in [("RED", 0), ("GREEN", 1), ("CRIMSON", 0)] {
-        items.push(Item {
-            name: Name::of(alloc, name)?,
-            number,
-        })?;
-    }
-    registry.add(entity(alloc, "demo.Color", Body::Enum { items })?)?;
-    let mut members = Vec::new(alloc);
-    members.push(field(alloc, "Place", TypeName::Long)?)?;
-    members.push(field(alloc, "Label", TypeName::Str)?)?;
-    registry.add(entity(
-        alloc,
-        "demo.Point",
-        Body::Struct {
-            base: None,
-            members,
-        },
-    )?)?;
-    let mut members = Vec::new(alloc);
-    members.push(field(alloc, "Message", TypeName::Str)?)?;
-    registry.add(entity(
-        alloc,
-        "demo.Failure",
-        Body::Exception {
-            base: None,
-            members,
-        },
-    )?)?;
-    Ok(registry)
+    add(&mut registry, alloc, "demo.Color", color(alloc)?)?;
+    add(&mut registry, alloc, "demo.Point", point(alloc)?)?;
+    add(&mut registry, alloc, "demo.Failure", failure(alloc)?)?;
+    sound(registry)
 }
 
-fn entity(alloc: Global, name: &str, body: Body) -> Result<Entity, NoMemory> {
+/// The registry, if it is sound.
+fn sound(registry: Registry) -> Result<Registry, NoMemory>
+    ensures { IfOk result (λ registry. IsSound registry) }
+{
+    if registry.is_sound()? {
+        return Ok(registry);
+    }
+    Err(NoMemory)
+}
+
+fn add(registry: &mut Registry, alloc: Global, name: &str, body: Body) -> Result<(), NoMemory> {
     let name = Name::of(alloc, name)?;
-    Ok(Entity {
+    let entity = Entity {
         name,
         published: false,
         body,
+    };
+    match registry.add(entity) {
+        Ok(()) => Ok(()),
+        Err(_) => Err(NoMemory),
+    }
+}
+
+fn color(alloc: Global) -> Result<Body, NoMemory> {
+    let mut items = Vec::new(alloc);
+    for (name, number) in [("RED", 0), ("GREEN", 1), ("CRIMSON", 0)] {
+        let name = Name::of(alloc, name)?;
+        items.push(Item { name, number })?;
+    }
+    Ok(Body::Enum { items })
+}
+
+fn point(alloc: Global) -> Result<Body, NoMemory> {
+    let mut members = Vec::new(alloc);
+    members.push(field(alloc, "Place", TypeName::Long)?)?;
+    members.push(field(alloc, "Label", TypeName::Str)?)?;
+    Ok(Body::Struct {
+        base: None,
+        members,
+    })
+}
+
+fn failure(alloc: Global) -> Result<Body, NoMemory> {
+    let mut members = Vec::new(alloc);
+    members.push(field(alloc, "Message", TypeName::Str)?)?;
+    Ok(Body::Exception {
+        base: None,
+        members,
     })
 }
 

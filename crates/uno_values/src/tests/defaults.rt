@@ -2,9 +2,9 @@
 ghost use Rattle.std.specs.Prelude.{IfOk};
 ghost use Rattle.uno_model.specs.Sound.{IsSound};
 
-use super::values::{alike, value_of};
+use super::values::{shown, value_of};
 use super::words::{add, kind_of, registry, sound};
-use crate::{Value, default_of};
+use crate::default_of;
 use std::alloc::Global;
 use uno_base::NoMemory;
 use uno_types::Registry;
@@ -42,24 +42,18 @@ const DEFAULTS: &[(&str, &str)] = &[
     ("[][]byte", "list=0:[]byte"),
 ];
 
-/// The default of the type of a word; of a type that is none of the registry, `NoMemory`.
-fn default(alloc: Global, registry: &Registry, word: &str) -> Result<Value, NoMemory>
+/// How the default of the type of a word is printed; of a type that is none of the registry, `NoMemory`.
+fn default_shown(alloc: Global, registry: &Registry, word: &str) -> Result<String, NoMemory>
     requires { IsSound registry.now }
 {
     let kind = kind_of(alloc, word)?;
     if registry.has_form(&kind) {
-        return default_of(alloc, registry, &kind);
+        return shown(alloc, default_of(alloc, registry, &kind)?);
     }
     Err(NoMemory)
 }
 
-/// Whether the value is the one of these words.
-fn is_value(alloc: Global, value: &Value, words: &str) -> Result<bool, NoMemory> {
-    let wanted = value_of(alloc, words)?;
-    alike(alloc, value, &wanted)
-}
-
-/// Whether the default of the type of a word is the value of these words.
+/// Whether the default of the type of a word is printed as the value of these words.
 pub(crate) fn is_right(
     alloc: Global,
     registry: &Registry,
@@ -68,8 +62,9 @@ pub(crate) fn is_right(
 ) -> Result<bool, NoMemory>
     requires { IsSound registry.now }
 {
-    let value = default(alloc, registry, word)?;
-    is_value(alloc, &value, words)
+    let given = default_shown(alloc, registry, word)?;
+    let wanted = shown(alloc, value_of(alloc, words)?)?;
+    Ok(given.as_str() == wanted.as_str())
 }
 
 #[test]
@@ -98,7 +93,7 @@ fn chain(alloc: Global, count: u32) -> Result<Registry, NoMemory>
 fn has_default(alloc: Global, registry: &Registry, word: &str) -> bool
     requires { IsSound registry.now }
 {
-    default(alloc, registry, word).is_ok()
+    default_shown(alloc, registry, word).is_ok()
 }
 
 #[test]

@@ -11,7 +11,7 @@ use uno_types::Registry;
 /// A type, a value, and whether it fits.
 type Row = (&'static str, &'static str, bool);
 
-const SIMPLE: &[Row] = &[
+const ROWS: &[Row] = &[
     ("void", "void", true),
     ("void", "null", false),
     ("char", "char=65", true),
@@ -38,9 +38,6 @@ const SIMPLE: &[Row] = &[
     ("type", "string=long", false),
     ("type", "type=struct/t.None", false),
     ("type", "type=[]void", false),
-];
-
-const TUPLES: &[Row] = &[
     ("struct/t.Pair", "long=5 string=abc tuple=2:t.Pair", true),
     ("struct/t.Other", "long=5 string=abc tuple=2:t.Pair", false),
     ("struct/t.Pair", "tuple=0:t.Pair", false),
@@ -94,9 +91,6 @@ const TUPLES: &[Row] = &[
         "string=no null long=2 tuple=3:t.Bad",
         false,
     ),
-];
-
-const LISTS: &[Row] = &[
     ("[]byte", "bytes=abc", true),
     ("[]byte", "byte=1 list=1:byte", false),
     ("[]byte", "list=0:byte", false),
@@ -121,9 +115,6 @@ const LISTS: &[Row] = &[
         "null own=t.XTop:a list=2:interface/t.XBase",
         false,
     ),
-];
-
-const ANYS: &[Row] = &[
     ("any", "long=5 any=long", true),
     ("any", "void any=void", true),
     ("any", "long=5", false),
@@ -139,18 +130,12 @@ const ANYS: &[Row] = &[
         true,
     ),
     ("long", "long=5 any=long", false),
-];
-
-const ENUMS: &[Row] = &[
     ("enum/t.Colour", "enum=3:t.Colour", true),
     ("enum/t.Colour", "enum=-2147483648:t.Colour", true),
     ("enum/t.Colour", "enum=0:t.Shade", false),
     ("enum/t.Colour", "long=2", false),
     ("enum/t.None", "enum=0:t.None", false),
     ("enum/t.Pair", "enum=0:t.Pair", false),
-];
-
-const NULLS: &[Row] = &[
     ("interface/t.XBase", "null", true),
     ("interface/t.XMaybe", "null", true),
     ("interface/t.XTop", "null", true),
@@ -166,9 +151,6 @@ const NULLS: &[Row] = &[
     ("exception/t.Bad", "null", false),
     ("[]byte", "null", false),
     ("[]interface/t.XBase", "null", false),
-];
-
-const OBJECTS: &[Row] = &[
     ("interface/t.XTop", "own=t.XTop:a", true),
     ("interface/t.XBase", "own=t.XTop:a", true),
     (
@@ -202,11 +184,9 @@ fn answer(alloc: Global, registry: &Registry, kind: &str, words: &str) -> Result
 #[test]
 fn rows_fit_as_they_say(rt: HostRuntime) -> Result<(), NoMemory> {
     let registry = registry(rt.alloc())?;
-    for rows in [SIMPLE, TUPLES, LISTS, ANYS, ENUMS, NULLS, OBJECTS] {
-        for (kind, words, wanted) in rows {
-            let given = answer(rt.alloc(), &registry, kind, words)?;
-            assert!(rt; given == *wanted, "at {kind}: {words}");
-        }
+    for (kind, words, wanted) in ROWS {
+        let given = answer(rt.alloc(), &registry, kind, words)?;
+        assert!(rt; given == *wanted, "at {kind}: {words}");
     }
     Ok(())
 }

@@ -1,12 +1,19 @@
 //! Where memory runs out: `rt try --test --fail-alloc N` makes the Nth request fail, and this test passes for each N.
 use super::defaults::is_right;
-use super::parts::parts_are_right;
+use super::parts::{Row, parts_are_right};
 use super::words::sound;
 use std::alloc::Global;
 use uno_base::NoMemory;
 use uno_types::Registry;
 
-/// Whether the default of an exception is right, and the references and the copy of an any of one.
+/// An any of an exception with a text and an object.
+const THROWN: &Row = &(
+    "string=no peer=t.XBase:a tuple=2:t.Bad any=exception/t.Bad",
+    16,
+    "-a",
+);
+
+/// Whether the default of an exception is right, and the weight, the references and the copy of an any of one.
 fn are_right(alloc: Global) -> Result<bool, NoMemory> {
     let registry = sound(Registry::new(alloc)?)?;
     if is_right(
@@ -15,11 +22,7 @@ fn are_right(alloc: Global) -> Result<bool, NoMemory> {
         "exception/com.sun.star.uno.Exception",
         "string= null tuple=2:com.sun.star.uno.Exception",
     )? {
-        return parts_are_right(
-            alloc,
-            "string=no peer=t.XBase:a tuple=2:t.Bad any=exception/t.Bad",
-            "-a",
-        );
+        return parts_are_right(alloc, &registry, THROWN);
     }
     Ok(false)
 }

@@ -1,5 +1,5 @@
 //! The references in values, their weights, and their copies.
-use super::values::{alike, value_of};
+use super::values::{printed, shown, value_of};
 use crate::{Reference, Value, refs_of, weight};
 use std::alloc::Global;
 use uno_base::NoMemory;
@@ -7,7 +7,9 @@ use uno_types::Registry;
 
 /// A value, how many bytes it takes, and the identities of its references in order, each behind a `+` where the object is of
 /// the own side and behind a `-` where it is the peer's.
-const VALUES: &[(&str, u64, &str)] = &[
+pub(crate) type Row = (&'static str, u64, &'static str);
+
+const VALUES: &[Row] = &[
     ("void", 0, ""),
     ("char=65", 2, ""),
     ("true", 1, ""),
@@ -95,39 +97,42 @@ fn side(reference: &Reference) -> (&str, &str) {
 
 /// Whether a copy is printed alike.
 fn is_copied(alloc: Global, value: &Value) -> Result<bool, NoMemory> {
-    let copy = value.copy(alloc)?;
-    alike(alloc, value, &copy)
+    let copy = shown(alloc, value.copy(alloc)?)?;
+    let own = printed(alloc, value)?;
+    Ok(copy.as_str() == own.as_str())
 }
 
-/// Whether the references of the value of these words, and its copy, are right.
-pub(crate) fn parts_are_right(alloc: Global, words: &str, sides: &str) -> Result<bool, NoMemory> {
+/// Whether the value takes so many bytes, has these references, and has an equal copy.
+fn has_parts(
+    alloc: Global,
+    registry: &Registry,
+    value: &Value,
+    bytes: u64,
+    sides: &str,
+) -> Result<bool, NoMemory> {
+    let found = has_refs(alloc, value, sides)?;
+    let copied = is_copied(alloc, value)?;
+    Ok(found && copied && weight(registry, value) == bytes)
+}
+
+/// The same of the value of a row.
+pub(crate) fn parts_are_right(
+    alloc: Global,
+    registry: &Registry,
+    row: &Row,
+) -> Result<bool, NoMemory> {
+    let (words, bytes, sides) = row;
     let value = value_of(alloc, words)?;
-    if has_refs(alloc, &value, sides)? {
-        return is_copied(alloc, &value);
-    }
-    Ok(false)
+    has_parts(alloc, registry, &value, *bytes, sides)
 }
 
 #[test]
-fn references_and_copies_are_right(rt: HostRuntime) -> Result<(), NoMemory> {
-    for (words, _, sides) in VALUES {
-        let right = parts_are_right(rt.alloc(), words, sides)?;
-        assert!(rt; right, "at {words}");
-    }
-    Ok(())
-}
-
-fn weight_of(alloc: Global, registry: &Registry, words: &str) -> Result<u64, NoMemory> {
-    let value = value_of(alloc, words)?;
-    Ok(weight(registry, &value))
-}
-
-#[test]
-fn weights_are_right(rt: HostRuntime) -> Result<(), NoMemory> {
+fn weights_references_and_copies_are_right(rt: HostRuntime) -> Result<(), NoMemory> {
     let registry = Registry::new(rt.alloc())?;
-    for (words, bytes, _) in VALUES {
-        let given = weight_of(rt.alloc(), &registry, words)?;
-        assert!(rt; given == *bytes, "at {words}");
+    for row in VALUES {
+        let (words, _, _) = row;
+        let right = parts_are_right(rt.alloc(), &registry, row)?;
+        assert!(rt; right, "at {words}");
     }
     Ok(())
 }

@@ -108,9 +108,12 @@ fn number_of(what: &str, text: &str) -> Value {
     }
 }
 
-/// Whether both are printed alike, by their cases and fields.
-pub(crate) fn alike(alloc: Global, one: &Value, other: &Value) -> Result<bool, NoMemory> {
-    let one = format!(in alloc; "{one:?}")?;
-    let other = format!(in alloc; "{other:?}")?;
-    Ok(one.as_str() == other.as_str())
+/// How the value is printed, by its cases and fields.
+pub(crate) fn printed(alloc: Global, value: &Value) -> Result<String, NoMemory> {
+    Ok(format!(in alloc; "{value:?}")?)
+}
+
+/// The same of a value that is let go.
+pub(crate) fn shown(alloc: Global, value: Value) -> Result<String, NoMemory> {
+    printed(alloc, &value)
 }

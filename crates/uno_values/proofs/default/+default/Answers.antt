@@ -1,4 +1,4 @@
-use Rattle.std.proofs.Common.{rules, arith}
+use Rattle.std.proofs.Common.{rules}
 use Rattle.uno_values.proofs.DefaultLemmas.{one_more_member, formed_at, all_formed}
 use Rattle.uno_values.proofs.default.+default.Goals as goal
 

@@ -1,4 +1,4 @@
-use Rattle.std.specs.Prelude.{◌≡◌, ◌↔◌, ◌+◌, ◌≤◌, ℕ, length, map, drop, take}
+use Rattle.std.specs.Prelude.{◌≡◌, ◌↔◌, ◌+◌, ◌≤◌, length, map, drop, take}
 use denote.Text.{Utf8}
 use denote.Shadow.{shadow}
 use Rattle.uno_model.specs.Fits.{FitAll, FitEach, member_kinds}
