@@ -1,5 +1,6 @@
 -- What calls gave and what is held are the bytes that they took.
-use Rattle.std.proofs.Common.{◌≡◌, ℕ, ◌+◌, ◌≤◌, inl, inr, List, [], ◌∷◌, ◌++◌, length, take, drop, refl, sym, ap, ◌∙◌, append-nil, append_assoc, arith, length-append, take-append-drop}
+use Rattle.std.proofs.Common.{◌≡◌, ℕ, ◌+◌, ◌≤◌, inl, inr, List, [], ◌∷◌, ◌++◌, length, take, drop, refl, sym, ap, ◌∙◌, append-nil, append_assoc, arith}
+use Rattle.std.proofs.Common.{length-append, take-append-drop}
 use Rattle.urp_model.specs.Blocks.{spell_block, BeginsWhole}
 use Rattle.urp_model.proofs.BlockLaws.{length-spell_block}
 use Rattle.urp_stream.specs.Headers.{HasNoBadHeader}

@@ -1,5 +1,6 @@
 -- Blocks that stand one after the other, and that bytes stand as one list of them.
-use Rattle.std.proofs.Common.{◌≡◌, ℕ, ◌+◌, ◌⊎◌, inl, inr, List, [], ◌∷◌, ◌++◌, length, refl, sym, ap, subst, ◌∙◌, append-nil, append_assoc, arith, length-append}
+use Rattle.std.proofs.Common.{◌≡◌, ℕ, ◌+◌, ◌⊎◌, inl, inr, List, [], ◌∷◌, ◌++◌, length, refl, sym, ap, subst, ◌∙◌, append-nil, append_assoc, arith}
+use Rattle.std.proofs.Common.{length-append}
 use Rattle.urp_model.specs.Blocks.{spell_block, IsBlock, BeginsWhole}
 use Rattle.urp_model.proofs.BlockLaws.{spell_block-front, block_whole}
 use Rattle.urp_stream.specs.Standing.{spell_blocks, AreBlocksAnd, StandsAs}
