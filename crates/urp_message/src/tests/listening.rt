@@ -64,6 +64,10 @@ const TALKS: &[Talk] = &[
                 b"\xD4\x40\0\0\xFF\xFF\x07",
                 &[("C;0 calls  demo.XMany 16384 [Byte(7)]", 7)],
             ),
+            (
+                b"\xD0\x03\0\0\x01\x07",
+                &[("C;0 calls S;1 demo.XMany 3 [Byte(7)]", 6)],
+            ),
         ],
     ),
     (
