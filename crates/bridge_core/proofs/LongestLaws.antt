@@ -1,5 +1,7 @@
 -- Whether a request stands at the front of bytes can be decided, so some talk is the longest there.
-use Rattle.std.proofs.Common.{◌≡◌, ◌≢◌, ℕ, zero, suc, ◌+◌, ◌^◌, ◌<◌, ◌≤◌, Bool, true, false, List, [], ◌∷◌, ◌++◌, length, take, drop, get_or, refl, sym, ap, subst, ◌∙◌, ◌⊎◌, inl, inr, append_assoc, length-append, take-append-drop, arith, ℤ, pos, negsuc, to_z}
+use Rattle.std.proofs.Common.{
+  ◌≡◌, ◌≢◌, ℕ, zero, suc, ◌+◌, ◌^◌, ◌<◌, ◌≤◌, Bool, true, false, List, [], ◌∷◌, ◌++◌, length, take, drop, get_or, refl, sym, ap, subst, ◌∙◌, ◌⊎◌,
+  inl, inr, append_assoc, length-append, take-append-drop, arith, ℤ, pos, negsuc, to_z}
 use Rattle.std.specs.Prelude.{codes}
 use Rattle.std.proofs.lemmas.Int.{ints}
 use Rattle.std.specs.Int.{w32, to_be_bytes, from_be_bytes}
@@ -126,7 +128,8 @@ call_or_not tag bytes = elim (front_or_not bytes (request tag (Twice (argument_a
     refused no_double (Query tid) after is e = absurd is
     refused no_double (Twice a) after is e = no_double (subst (λ z. IsBuilt (Twice z)) (sym (call_argument tag bytes after a is e)) is)
 
-    if_double : (after : List ℕ) × (bytes ≡ request tag (Twice (argument_at tag bytes)) ++ after) → IsBuilt (Twice (argument_at tag bytes)) ⊎ (IsBuilt (Twice (argument_at tag bytes)) → ⊥)
+    if_double : (after : List ℕ) × (bytes ≡ request tag (Twice (argument_at tag bytes)) ++ after)
+        → IsBuilt (Twice (argument_at tag bytes)) ⊎ (IsBuilt (Twice (argument_at tag bytes)) → ⊥)
         → Next tag true bytes ⊎ ((m : First) (after : List ℕ) → IsCall m → bytes ≢ request tag m ++ after)
     if_double front (inl is) = inl (record { message = Twice (argument_at tag bytes); after = front.0; next = is; here = front.1 })
     if_double front (inr no_double) = inr (refused no_double)

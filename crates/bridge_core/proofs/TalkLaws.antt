@@ -1,5 +1,7 @@
 -- Blocks say where they end, so two talks at the front of the same bytes go on from one another.
-use Rattle.std.proofs.Common.{◌≡◌, ◌≢◌, ℕ, ◌^◌, ◌<◌, ◌≤◌, Bool, true, false, List, [], ◌∷◌, ◌++◌, length, refl, sym, ap, ◌∙◌, append_assoc, append-nil, length-append, subst, inl, inr, lit<, arith}
+use Rattle.std.proofs.Common.{
+  ◌≡◌, ◌≢◌, ℕ, ◌^◌, ◌<◌, ◌≤◌, Bool, true, false, List, [], ◌∷◌, ◌++◌, length, refl, sym, ap, ◌∙◌, append_assoc, append-nil, length-append, subst,
+  inl, inr, lit<, arith}
 use Rattle.std.proofs.lemmas.Bool.{cases_lt}
 use Rattle.std.proofs.lemmas.List.{nil_from_length, flat_map_more}
 use Rattle.urp_model.specs.Blocks.{IsBlock}
@@ -19,7 +21,8 @@ IsNext-built true (Query tid) is = absurd is
 IsNext-built true (Twice a) is = is
 
 -- a body that is a request which may not come next is no request that may
-pub not_next : (tag body : List ℕ) (begun : Bool) (read m : First) → IsBuilt read → body ≡ request_body tag read → (IsNext begun read → ⊥) → IsNext begun m → body ≢ request_body tag m
+pub not_next : (tag body : List ℕ) (begun : Bool) (read m : First) → IsBuilt read → body ≡ request_body tag read → (IsNext begun read → ⊥)
+    → IsNext begun m → body ≢ request_body tag m
 not_next tag body begun read m built e refused next e' =
     let same = one_request tag m read (IsNext-built begun m next) built (sym e' ∙ e) in
     refused (subst (IsNext begun) same next)
@@ -97,7 +100,8 @@ asked_more : (tag : List ℕ) (ms : List First) (m : First) → asked tag ms ++ 
 asked_more tag ms m = flat_map_more (request tag) [] ms m
 
 -- a talk goes on with the request that stands behind it
-pub begins_more : (tag bytes rest behind : List ℕ) (ms : List First) (m : First) (begun : Bool) → Begins tag bytes ms rest → begun ≡ has_begun ms → IsNext begun m → rest ≡ request tag m ++ behind
+pub begins_more : (tag bytes rest behind : List ℕ) (ms : List First) (m : First) (begun : Bool) → Begins tag bytes ms rest → begun ≡ has_begun ms
+    → IsNext begun m → rest ≡ request tag m ++ behind
     → Begins tag bytes (ms ++ m ∷ []) behind
 begins_more tag bytes rest behind ms m begun begins same next e =
     record {

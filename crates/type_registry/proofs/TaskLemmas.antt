@@ -90,7 +90,8 @@ costs_less reg ts us vs levels less name is left visited =
     omega (arith, whole, ap (costs reg) visited, costs_behind reg us (visits less bases), ap (costs reg) left, costs_last reg ts (leave name), costs_visits reg less bases)
 
 -- all tasks, where the last one is taken off, and done
-pub taken_off : (reg : List Entity) (rest all : List Doing) (t : Doing) (met more whole : List (List ℕ)) → all ≡ rest ++ t ∷ [] → done reg all met ≡ whole → more ≡ do_one reg t met → done reg rest more ≡ whole
+pub taken_off : (reg : List Entity) (rest all : List Doing) (t : Doing) (met more whole : List (List ℕ)) → all ≡ rest ++ t ∷ []
+    → done reg all met ≡ whole → more ≡ do_one reg t met → done reg rest more ≡ whole
 taken_off reg rest all t met more whole is so_far one =
     ap (done reg rest) one ∙ sym (done_last reg rest t met) ∙ sym (ap (λ ts. done reg ts met) is) ∙ so_far
 
@@ -103,7 +104,8 @@ unfolding done
 none_left reg ts met whole none so_far = sym (ap (λ us. done reg us met) none) ∙ so_far
 
 -- the one task at first
-pub one_task : (reg : List Entity) (ts : List Doing) (met : List (List ℕ)) (name : List ℕ) (levels : ℕ) → ts ≡ visit name levels ∷ [] → met ≡ [] → done reg ts met ≡ met_within levels reg [] name
+pub one_task : (reg : List Entity) (ts : List Doing) (met : List (List ℕ)) (name : List ℕ) (levels : ℕ) → ts ≡ visit name levels ∷ [] → met ≡ []
+    → done reg ts met ≡ met_within levels reg [] name
 unfolding done
 one_task reg ts met name levels is none = ap (λ us. done reg us met) is ∙ ap (λ m. met_within levels reg m name) none
 
@@ -116,5 +118,6 @@ pub first_task : (old new : List Task) (t : Task) → old ≡ [] → new ≡ old
 first_task old new t none added = ap tasks_of added ∙ ap (λ ts. tasks_of (ts ++ t ∷ [])) none
 
 -- as many levels as there are entities, and one more
-pub all_levels : (reg : List Entity) (count levels : ℕ) (met : List (List ℕ)) (n : List ℕ) → count ≡ length reg → levels ≡ count + 1 → met_within levels reg met n ≡ met_within (suc (length reg)) reg met n
+pub all_levels : (reg : List Entity) (count levels : ℕ) (met : List (List ℕ)) (n : List ℕ) → count ≡ length reg → levels ≡ count + 1
+    → met_within levels reg met n ≡ met_within (suc (length reg)) reg met n
 all_levels reg count levels met n is more = let same : levels ≡ suc (length reg) = omega (arith, is, more) in ap (λ l. met_within l reg met n) same

@@ -1,5 +1,7 @@
 -- The tokens of a value that fits a type are read as that value, unless it is nested too deep.
-use Rattle.std.proofs.Common.{◌≡◌, ◌≢◌, ℕ, zero, suc, ◌+◌, ◌<◌, ◌≤◌, ◌^◌, ℤ, pos, negsuc, Bool, true, false, not, List, [], ◌∷◌, ◌++◌, length, map, Option, None, Some, Result, Ok, Err, ◌⊎◌, inl, inr, All, refl, sym, ap, subst, ◌∙◌, codes, arith, nat_lt, length-append}
+use Rattle.std.proofs.Common.{
+  ◌≡◌, ◌≢◌, ℕ, zero, suc, ◌+◌, ◌<◌, ◌≤◌, ◌^◌, ℤ, pos, negsuc, Bool, true, false, not, List, [], ◌∷◌, ◌++◌, length, map, Option, None, Some, Result,
+  Ok, Err, ◌⊎◌, inl, inr, All, refl, sym, ap, subst, ◌∙◌, codes, arith, nat_lt, length-append}
 use Rattle.std.proofs.lemmas.Bool.{and_parts, lt-ltb, ltb-true, ltb-false, not-true, or_parts}
 use Rattle.std.proofs.lemmas.Bool.Decides.{Decides-int_eq}
 use Rattle.std.proofs.lemmas.Int.{of_z-to_z}
@@ -18,7 +20,10 @@ use Rattle.uno_model.specs.Fits.{Fits, FitEach, FitAll, RefFits, IsTupleKind, me
 use Rattle.uno_model.specs.Kinds.{Kind}
 use Rattle.uno_model.specs.Kinds as kd
 use Rattle.uno_model.specs.Literals.{first_item}
-use Rattle.uno_model.specs.Readings.{Fault, deep, Reads, left_at, unsigned_of, signed_of, number_named, item_in, some_as, single, of_token, only_token, cast_in, is_comma, opens_square, opens_curly, closes_square, closes_curly, expect, elements_on, elements_in, sequence_of, comma_at, members_on, tuple_of, is_void, any_of, byte_in, value_step, value_within}
+use Rattle.uno_model.specs.Readings.{
+  Fault, deep, Reads, left_at, unsigned_of, signed_of, number_named, item_in, some_as, single, of_token, only_token, cast_in, is_comma, opens_square,
+  opens_curly, closes_square, closes_curly, expect, elements_on, elements_in, sequence_of, comma_at, members_on, tuple_of, is_void, any_of, byte_in,
+  value_step, value_within}
 use Rattle.uno_model.specs.Registry.{find_entity}
 use Rattle.uno_model.specs.Shapes.{Token, opens, closes, comma, number, word, string, named, cast, square, curly, Placed, on_ok}
 use Rattle.uno_model.specs.Sound.{all_differ, items_differ}
@@ -41,7 +46,8 @@ one_token (p ∷ ps) t ts e = let first : p.token ≡ t = cc in let others : bar
 
 -- ---- one token
 
-single_comes : (reg : List Entity) (k : Kind) (x : Plain) (t : Token) (ps : List Placed) (ts : List Token) → bare ps ≡ t ∷ ts → single reg k t ≡ Some x → Comes (only_token (single reg k) ps) x ts
+single_comes : (reg : List Entity) (k : Kind) (x : Plain) (t : Token) (ps : List Placed) (ts : List Token) → bare ps ≡ t ∷ ts
+    → single reg k t ≡ Some x → Comes (only_token (single reg k) ps) x ts
 single_comes reg k x t ps ts e one =
     let at = one_token ps t ts e in
     let token : single reg k (at.0).token ≡ Some x = ap (single reg k) at.3 ∙ one in
@@ -56,12 +62,15 @@ signed_back bits (pos n) small = rw (lt-ltb n (2 ^ bits) small) refl
 signed_back bits (negsuc n) small = rw (lt-ltb n (2 ^ bits) small) refl
 
 -- the first item of a number is found by its name, where names differ
-differs_on : (name w : List ℕ) (items : List Item) (n : ℤ) → list_any (bytes_eq name) (map (λ (i : Item). i.name) items) ≡ false → first_item items n ≡ Some w → bytes_eq name w ≡ false
+differs_on : (name w : List ℕ) (items : List Item) (n : ℤ) → list_any (bytes_eq name) (map (λ (i : Item). i.name) items) ≡ false
+    → first_item items n ≡ Some w → bytes_eq name w ≡ false
 unfolding first_item
 differs_on name w [] n absent found = let bad : ⊥ = cc in absurd bad
 differs_on name w (i ∷ items) n absent found = by_first (int_eq i.number n) refl (differs_on name w items n)
   where
-    by_first : (b : Bool) → int_eq i.number n ≡ b → (list_any (bytes_eq name) (map (λ (j : Item). j.name) items) ≡ false → first_item items n ≡ Some w → bytes_eq name w ≡ false) → bytes_eq name w ≡ false
+    by_first : (b : Bool) → int_eq i.number n ≡ b
+        → (list_any (bytes_eq name) (map (λ (j : Item). j.name) items) ≡ false → first_item items n ≡ Some w → bytes_eq name w ≡ false)
+        → bytes_eq name w ≡ false
     by_first true here inner =
         let one : Some i.name ≡ Some w = rw here at found in
         let is : i.name ≡ w = cc in
@@ -112,13 +121,15 @@ found_differ (e ∷ es) name differ = by_name (bytes_eq name e.name) refl (found
     of_entity d (plain.new_singleton base) is it = rw is refl
     of_entity d (plain.old_singleton service) is it = rw is refl
 
-    by_name : (b : Bool) → bytes_eq name e.name ≡ b → all_differ (map (λ (i : Item). i.name) (items_of (find_entity name es))) ≡ true → all_differ (map (λ (i : Item). i.name) (items_of (find_entity name (e ∷ es)))) ≡ true
+    by_name : (b : Bool) → bytes_eq name e.name ≡ b → all_differ (map (λ (i : Item). i.name) (items_of (find_entity name es))) ≡ true
+        → all_differ (map (λ (i : Item). i.name) (items_of (find_entity name (e ∷ es)))) ≡ true
     by_name true same inner = rw same (of_entity e e.body refl (and_parts (items_differ e) (list_all items_differ es) differ).0)
     by_name false other inner = rw other inner
 
 -- ---- marks
 
-expect_back : (left : ℕ) (test : Token → Bool) (t : Token) (ps : List Placed) (ts : List Token) → test t ≡ true → bare ps ≡ t ∷ ts → (qs : List Placed) × (bare qs ≡ ts) × (expect left test ps ≡ Ok qs)
+expect_back : (left : ℕ) (test : Token → Bool) (t : Token) (ps : List Placed) (ts : List Token) → test t ≡ true → bare ps ≡ t ∷ ts
+    → (qs : List Placed) × (bare qs ≡ ts) × (expect left test ps ≡ Ok qs)
 expect_back left test t ps ts passes e =
     let at = one_token ps t ts e in
     let token : test (at.0).token ≡ true = ap test at.3 ∙ passes in
@@ -132,12 +143,14 @@ module _ {X : Type 0} (P : X → Type 0) (E : X → List Token) (read : Reads X)
   ComesEach = (x : X) (ps : List Placed) (ts : List Token) → P x → bare ps ≡ E x ++ ts → Comes (read ps) x ts
 
   -- the elements from one on
-  elements_back : (n left : ℕ) (x : X) (xs : List X) (ps : List Placed) (ts : List Token) → ComesEach → length xs < n → P x → Each P xs → bare ps ≡ E x ++ (listed E false xs ++ closes square ∷ ts) → Comes (elements_on n left read ps) (x ∷ xs) ts
+  elements_back : (n left : ℕ) (x : X) (xs : List X) (ps : List Placed) (ts : List Token) → ComesEach → length xs < n → P x → Each P xs
+      → bare ps ≡ E x ++ (listed E false xs ++ closes square ∷ ts) → Comes (elements_on n left read ps) (x ∷ xs) ts
   unfolding elements_on
   elements_back zero left x xs ps ts each room good others e = let bad : ⊥ = omega arith in absurd bad
   elements_back (suc n) left x [] ps ts each room good others e = by_one (each x ps (closes square ∷ ts) good e)
     where
-      by_last : (qs rs : List Placed) (p : Placed) → read ps ≡ Ok (x, qs) → qs ≡ p ∷ rs → p.token ≡ closes square → bare rs ≡ ts → Comes (elements_on (suc n) left read ps) (x ∷ []) ts
+      by_last : (qs rs : List Placed) (p : Placed) → read ps ≡ Ok (x, qs) → qs ≡ p ∷ rs → p.token ≡ closes square → bare rs ≡ ts
+          → Comes (elements_on (suc n) left read ps) (x ∷ []) ts
       by_last qs rs p one next closed behind_it = let ends : closes_square p.token ≡ true = ap closes_square closed in inr (rs, behind_it, rw (one, next, ends) refl)
 
       by_one : Comes (read ps) x (closes square ∷ ts) → Comes (elements_on (suc n) left read ps) (x ∷ []) ts
@@ -151,7 +164,8 @@ module _ {X : Type 0} (P : X → Type 0) (E : X → List Token) (read : Reads X)
       Inner : Type 0
       Inner = (qs : List Placed) → bare qs ≡ E y ++ (listed E false ys ++ closes square ∷ ts) → Comes (elements_on n left read qs) (y ∷ ys) ts
 
-      by_more : (qs rs : List Placed) (p : Placed) → read ps ≡ Ok (x, qs) → qs ≡ p ∷ rs → p.token ≡ comma → Comes (elements_on n left read rs) (y ∷ ys) ts → Comes (elements_on (suc n) left read ps) (x ∷ (y ∷ ys)) ts
+      by_more : (qs rs : List Placed) (p : Placed) → read ps ≡ Ok (x, qs) → qs ≡ p ∷ rs → p.token ≡ comma
+          → Comes (elements_on n left read rs) (y ∷ ys) ts → Comes (elements_on (suc n) left read ps) (x ∷ (y ∷ ys)) ts
       by_more qs rs p one next goes (inl too_deep) =
           let open_still : closes_square p.token ≡ false = ap closes_square goes in
           let on : is_comma p.token ≡ true = ap is_comma goes in
@@ -193,10 +207,12 @@ module _ {X : Type 0} (P : X → Type 0) (E : X → List Token) (read : Reads X)
   abbrev pub NoEnd : Type 0
   NoEnd = (x : X) → P x → (t : Token) × (ts : List Token) × (E x ≡ t ∷ ts) × (closes_square t ≡ false)
 
-  pub sequence_back : (xs : List X) (ps : List Placed) (ts : List Token) → ComesEach → NoEnd → Each P xs → bare ps ≡ opens square ∷ (listed E true xs ++ closes square ∷ ts) → Comes (sequence_of read ps) xs ts
+  pub sequence_back : (xs : List X) (ps : List Placed) (ts : List Token) → ComesEach → NoEnd → Each P xs
+      → bare ps ≡ opens square ∷ (listed E true xs ++ closes square ∷ ts) → Comes (sequence_of read ps) xs ts
   sequence_back xs ps ts each no_end good e = by_open (expect_back (left_at ps) opens_square (opens square) ps (listed E true xs ++ closes square ∷ ts) refl e)
     where
-      by_first : (ys : List X) (qs rs : List Placed) (p : Placed) → Each P ys → qs ≡ p ∷ rs → bare qs ≡ listed E true ys ++ closes square ∷ ts → Comes (elements_in (left_at ps) read (p ∷ rs)) ys ts
+      by_first : (ys : List X) (qs rs : List Placed) (p : Placed) → Each P ys → qs ≡ p ∷ rs → bare qs ≡ listed E true ys ++ closes square ∷ ts
+          → Comes (elements_in (left_at ps) read (p ∷ rs)) ys ts
       by_first [] qs rs p good_ys split f =
           let whole : bare (p ∷ rs) ≡ closes square ∷ ts = ap bare (sym split) ∙ f in
           let token : p.token ≡ closes square = cc in
@@ -214,7 +230,8 @@ module _ {X : Type 0} (P : X → Type 0) (E : X → List Token) (read : Reads X)
           let room : length ys < length (p ∷ rs) = omega (arith, long, same_length, listed_length (y ∷ ys) true) in
           subst (λ r. Comes r (y ∷ ys) ts) (sym (in_some p rs some)) (elements_back (length (p ∷ rs)) (left_at ps) y ys (p ∷ rs) ts each room good_ys.0 good_ys.1 whole)
         where
-          in_some : (q : Placed) (zs : List Placed) → closes_square q.token ≡ false → elements_in (left_at ps) read (q ∷ zs) ≡ elements_on (length (q ∷ zs)) (left_at ps) read (q ∷ zs)
+          in_some : (q : Placed) (zs : List Placed) → closes_square q.token ≡ false
+              → elements_in (left_at ps) read (q ∷ zs) ≡ elements_on (length (q ∷ zs)) (left_at ps) read (q ∷ zs)
           in_some q zs other = rw other refl
 
       by_list : (qs : List Placed) (m : List Placed) → qs ≡ m → bare qs ≡ listed E true xs ++ closes square ∷ ts → Comes (elements_in (left_at ps) read m) xs ts
@@ -245,7 +262,8 @@ list_back (more x vs) = ap (more x) (list_back vs)
 
 -- ---- members
 
-members_back : (reg : List Entity) (read : Kind → Reads Plain) (left : ℕ) (is_first : Bool) (vs : Plains) (ks : List Kind) (ps : List Placed) (ts : List Token) → Comes_all reg read → FitEach reg vs ks → refs_in vs ≡ [] → AllSized vs
+members_back : (reg : List Entity) (read : Kind → Reads Plain) (left : ℕ) (is_first : Bool) (vs : Plains) (ks : List Kind) (ps : List Placed) (ts : List Token)
+    → Comes_all reg read → FitEach reg vs ks → refs_in vs ≡ [] → AllSized vs
     → bare ps ≡ tokens_in reg is_first vs ++ closes curly ∷ ts → (xs : List Plain) × (plains xs ≡ vs) × Comes (members_on read left is_first ks ps) xs ts
 unfolding FitEach refs_in AllSized tokens_in members_on
 members_back reg read left is_first none [] ps ts all fits closed sized e =
@@ -264,33 +282,38 @@ members_back reg read left is_first (more x vs) (k ∷ ks) ps ts all fits closed
     Inner : Type 0
     Inner = (qs : List Placed) → bare qs ≡ tokens_in reg false vs ++ closes curly ∷ ts → (xs : List Plain) × (plains xs ≡ vs) × Comes (members_on read left false ks qs) xs ts
 
-    by_comma : (first : Bool) → bare ps ≡ (comma_tokens first ++ (tokens_of reg x ++ tokens_in reg false vs)) ++ closes curly ∷ ts → (qs : List Placed) × (bare qs ≡ tokens_of reg x ++ (tokens_in reg false vs ++ closes curly ∷ ts)) × (comma_at first left ps ≡ Ok qs)
+    by_comma : (first : Bool) → bare ps ≡ (comma_tokens first ++ (tokens_of reg x ++ tokens_in reg false vs)) ++ closes curly ∷ ts
+        → (qs : List Placed) × (bare qs ≡ tokens_of reg x ++ (tokens_in reg false vs ++ closes curly ∷ ts)) × (comma_at first left ps ≡ Ok qs)
     by_comma true f = (ps, f ∙ append_assoc (tokens_of reg x) (tokens_in reg false vs) (closes curly ∷ ts), refl)
     by_comma false f =
         let at = expect_back left is_comma comma ps ((tokens_of reg x ++ tokens_in reg false vs) ++ closes curly ∷ ts) refl f in
         (at.0, at.1 ∙ append_assoc (tokens_of reg x) (tokens_in reg false vs) (closes curly ∷ ts), at.2)
 
-    by_rest : (qs rs : List Placed) (xs : List Plain) → comma_at is_first left ps ≡ Ok qs → read k qs ≡ Ok (x, rs) → Comes (members_on read left false ks rs) xs ts → Comes (members_on read left is_first (k ∷ ks) ps) (x ∷ xs) ts
+    by_rest : (qs rs : List Placed) (xs : List Plain) → comma_at is_first left ps ≡ Ok qs → read k qs ≡ Ok (x, rs)
+        → Comes (members_on read left false ks rs) xs ts → Comes (members_on read left is_first (k ∷ ks) ps) (x ∷ xs) ts
     by_rest qs rs xs comma_it one (inl too_deep) = inl (rw (comma_it, one, too_deep) refl)
     by_rest qs rs xs comma_it one (inr others) = by_others others.0 others.1 others.2
       where
         by_others : (zs : List Placed) → bare zs ≡ ts → members_on read left false ks rs ≡ Ok (xs, zs) → Comes (members_on read left is_first (k ∷ ks) ps) (x ∷ xs) ts
         by_others zs behind_it reads = inr (zs, behind_it, rw (comma_it, one, reads) refl)
 
-    by_value : (qs : List Placed) → comma_at is_first left ps ≡ Ok qs → Comes (read k qs) x (tokens_in reg false vs ++ closes curly ∷ ts) → Inner → (xs : List Plain) × (plains xs ≡ more x vs) × Comes (members_on read left is_first (k ∷ ks) ps) xs ts
+    by_value : (qs : List Placed) → comma_at is_first left ps ≡ Ok qs → Comes (read k qs) x (tokens_in reg false vs ++ closes curly ∷ ts) → Inner
+        → (xs : List Plain) × (plains xs ≡ more x vs) × Comes (members_on read left is_first (k ∷ ks) ps) xs ts
     by_value qs comma_it (inl too_deep) inner = (x ∷ list_of vs, ap (more x) (list_back vs), inl (rw (comma_it, too_deep) refl))
     by_value qs comma_it (inr one) inner =
         let others = inner one.0 one.1 in
         (x ∷ others.0, ap (more x) others.1, by_rest qs one.0 others.0 comma_it one.2 others.2)
 
-tuple_back : (reg : List Entity) (read : Kind → Reads Plain) (vs : Plains) (ks : List Kind) (ps : List Placed) (ts : List Token) → Comes_all reg read → FitEach reg vs ks → refs_in vs ≡ [] → AllSized vs
+tuple_back : (reg : List Entity) (read : Kind → Reads Plain) (vs : Plains) (ks : List Kind) (ps : List Placed) (ts : List Token) → Comes_all reg read
+    → FitEach reg vs ks → refs_in vs ≡ [] → AllSized vs
     → bare ps ≡ opens curly ∷ (tokens_in reg true vs ++ closes curly ∷ ts) → (xs : List Plain) × (plains xs ≡ vs) × Comes (tuple_of read ks ps) xs ts
 tuple_back reg read vs ks ps ts all fits closed sized e =
     let at = expect_back (left_at ps) opens_curly (opens curly) ps (tokens_in reg true vs ++ closes curly ∷ ts) refl e in
     let inner = members_back reg read (left_at ps) true vs ks at.0 ts all fits closed sized at.1 in
     (inner.0, inner.1, by_open at.0 inner.0 at.2 inner.2)
   where
-    by_open : (qs : List Placed) (xs : List Plain) → expect (left_at ps) opens_curly ps ≡ Ok qs → Comes (members_on read (left_at ps) true ks qs) xs ts → Comes (tuple_of read ks ps) xs ts
+    by_open : (qs : List Placed) (xs : List Plain) → expect (left_at ps) opens_curly ps ≡ Ok qs
+        → Comes (members_on read (left_at ps) true ks qs) xs ts → Comes (tuple_of read ks ps) xs ts
     by_open qs xs is (inl too_deep) = inl (rw (is, too_deep) refl)
     by_open qs xs is (inr all_it) = by_all all_it.0 all_it.1 all_it.2
       where
@@ -391,7 +414,8 @@ each_byte [] all = tt
 each_byte (b ∷ bs) all = (all 0 b (omega arith), each_byte bs (λ k d within. all (suc k) d (omega arith)))
 
 -- a value of a kind that is read by one token
-word_comes : (reg : List Entity) (k : Kind) (w : List ℕ) (x : Plain) (ps : List Placed) (ts : List Token) → bare ps ≡ word w ∷ ts → single reg k (word w) ≡ Some x → Comes (only_token (single reg k) ps) x ts
+word_comes : (reg : List Entity) (k : Kind) (w : List ℕ) (x : Plain) (ps : List Placed) (ts : List Token) → bare ps ≡ word w ∷ ts
+    → single reg k (word w) ≡ Some x → Comes (only_token (single reg k) ps) x ts
 word_comes reg k w x ps ts e one = single_comes reg k x (word w) ps ts e one
 
 -- elements of other types
@@ -403,14 +427,16 @@ unfolding FitAll refs_in AllSized
 each_value reg k none fits closed sized = tt
 each_value reg k (more x vs) fits closed sized = let parts = append_none (refs x) (refs_in vs) closed in ((fits.0, parts.0, sized.0), each_value reg k vs fits.1 parts.1 sized.1)
 
-list_comes : (reg : List Entity) (read : Kind → Reads Plain) (k : Kind) (vs : Plains) (ps : List Placed) (ts : List Token) → Comes_all reg read → FitAll reg vs k → refs_in vs ≡ [] → AllSized vs
+list_comes : (reg : List Entity) (read : Kind → Reads Plain) (k : Kind) (vs : Plains) (ps : List Placed) (ts : List Token) → Comes_all reg read
+    → FitAll reg vs k → refs_in vs ≡ [] → AllSized vs
     → bare ps ≡ opens square ∷ (tokens_in reg true vs ++ closes square ∷ ts) → Comes (sequence_of (read k) ps) (list_of vs) ts
 list_comes reg read k vs ps ts all fits closed sized e =
     let spelled : tokens_in reg true vs ≡ listed (tokens_of reg) true (list_of vs) = ap (tokens_in reg true) (sym (list_back vs)) ∙ listed_plains reg true (list_of vs) in
     sequence_back (Good reg k) (tokens_of reg) (read k) (list_of vs) ps ts (λ x qs us good f. all k x qs us good.0 good.1 good.2 f) (λ x good. value_begins reg x) (each_value reg k vs fits closed sized)
     (e ∙ ap (λ us. opens square ∷ (us ++ closes square ∷ ts)) spelled)
 
-bytes_come : (reg : List Entity) (bs : List ℕ) (ps : List Placed) (ts : List Token) → All IsByte bs → bare ps ≡ opens square ∷ (byte_tokens true bs ++ closes square ∷ ts) → Comes (sequence_of (only_token byte_in) ps) bs ts
+bytes_come : (reg : List Entity) (bs : List ℕ) (ps : List Placed) (ts : List Token) → All IsByte bs
+    → bare ps ≡ opens square ∷ (byte_tokens true bs ++ closes square ∷ ts) → Comes (sequence_of (only_token byte_in) ps) bs ts
 bytes_come reg bs ps ts all e = sequence_back IsByte byte_token (only_token byte_in) bs ps ts byte_comes byte_begins (each_byte bs all) (e ∙ ap (λ us. opens square ∷ (us ++ closes square ∷ ts)) (listed_bytes true bs))
 
 -- what is read is made into a value
@@ -442,7 +468,8 @@ void_fits reg (v.ref (own oid face)) fits = absurd fits
 void_fits reg (v.ref (peer oid face)) fits = absurd fits
 void_fits reg _ fits = let bad : ⊥ = cc in absurd bad
 
-any_comes : (reg : List Entity) (read : Kind → Reads Plain) (t : Kind) (x : Plain) (ps : List Placed) (ts : List Token) → Comes_all reg read → Fits reg x t → refs x ≡ [] → IsSized x → bare ps ≡ tokens_of reg (v.any t x) ++ ts → Comes (any_of read ps) (v.any t x) ts
+any_comes : (reg : List Entity) (read : Kind → Reads Plain) (t : Kind) (x : Plain) (ps : List Placed) (ts : List Token) → Comes_all reg read
+    → Fits reg x t → refs x ≡ [] → IsSized x → bare ps ≡ tokens_of reg (v.any t x) ++ ts → Comes (any_of read ps) (v.any t x) ts
 unfolding tokens_of
 any_comes reg read t x ps ts all fits closed sized e = by_void (is_void t) refl
   where
@@ -450,7 +477,8 @@ any_comes reg read t x ps ts all fits closed sized e = by_void (is_void t) refl
     void_is kd.void f = refl
     void_is _ f = let bad : ⊥ = cc in absurd bad
 
-    voidly : (k : Kind) (y : Plain) (p : Placed) (qs : List Placed) → ps ≡ p ∷ qs → p.token ≡ cast k → bare qs ≡ ts → k ≡ kd.void → y ≡ v.void → Comes (any_of read ps) (v.any k y) ts
+    voidly : (k : Kind) (y : Plain) (p : Placed) (qs : List Placed) → ps ≡ p ∷ qs → p.token ≡ cast k → bare qs ≡ ts → k ≡ kd.void → y ≡ v.void
+        → Comes (any_of read ps) (v.any k y) ts
     voidly k y p qs split token behind_it is_it empty =
         let casts : cast_in p.token ≡ Some kd.void = ap cast_in token ∙ ap Some is_it in
         let value_it : v.any k y ≡ v.any kd.void v.void = ap (λ j. v.any j y) is_it ∙ ap (v.any kd.void) empty in
@@ -475,7 +503,8 @@ any_comes reg read t x ps ts all fits closed sized e = by_void (is_void t) refl
         let at = one_token ps (cast t) (tokens_of reg x ++ ts) whole in
         valued at.0 at.1 at.2 at.3 other (all t x at.1 ts fits closed sized at.4)
 
-null_comes : (reg : List Entity) (read : Kind → Reads Plain) (r : Ref) (k : Kind) (ps : List Placed) (ts : List Token) → RefFits reg k r → held r ≡ [] → bare ps ≡ word (codes "null") ∷ ts
+null_comes : (reg : List Entity) (read : Kind → Reads Plain) (r : Ref) (k : Kind) (ps : List Placed) (ts : List Token) → RefFits reg k r → held r ≡ []
+    → bare ps ≡ word (codes "null") ∷ ts
     → Comes (value_step reg read k ps) (v.ref r) ts
 unfolding value_step
 null_comes reg read null (kd.interface name) ps ts fits closed e = single_comes reg (kd.interface name) (v.ref null) (word (codes "null")) ps ts e refl
@@ -489,7 +518,8 @@ unfolding value_step
 list_step reg read kd.byte ps other = absurd (other refl)
 list_step reg read _ ps other = refl
 
-tuple_comes : (reg : List Entity) (read : Kind → Reads Plain) (name : List ℕ) (vs : Plains) (k : Kind) (ps : List Placed) (ts : List Token) → Comes_all reg read → IsTupleKind name k → FitEach reg vs (member_kinds reg name) → refs_in vs ≡ [] → AllSized vs
+tuple_comes : (reg : List Entity) (read : Kind → Reads Plain) (name : List ℕ) (vs : Plains) (k : Kind) (ps : List Placed) (ts : List Token)
+    → Comes_all reg read → IsTupleKind name k → FitEach reg vs (member_kinds reg name) → refs_in vs ≡ [] → AllSized vs
     → bare ps ≡ opens curly ∷ (tokens_in reg true vs ++ closes curly ∷ ts) → Comes (value_step reg read k ps) (v.tuple name vs) ts
 unfolding value_step
 tuple_comes reg read name vs k ps ts all kind_it fits closed sized e = by_tuple (tuple_back reg read vs (member_kinds reg name) ps ts all fits closed sized e) kind_it
@@ -501,12 +531,14 @@ tuple_comes reg read name vs k ps ts all kind_it fits closed sized e = by_tuple 
     by_kind j is (inl same) = subst (λ i. Comes (value_step reg read i ps) (v.tuple name vs) ts) (sym same) is
     by_kind j is (inr same) = subst (λ i. Comes (value_step reg read i ps) (v.tuple name vs) ts) (sym same) is
 
-    by_tuple : (xs : List Plain) × (plains xs ≡ vs) × Comes (tuple_of read (member_kinds reg name) ps) xs ts → IsTupleKind name k → Comes (value_step reg read k ps) (v.tuple name vs) ts
+    by_tuple : (xs : List Plain) × (plains xs ≡ vs) × Comes (tuple_of read (member_kinds reg name) ps) xs ts → IsTupleKind name k
+        → Comes (value_step reg read k ps) (v.tuple name vs) ts
     by_tuple one is_kind =
         let made_it = made (tuple_of read (member_kinds reg name) ps) one.0 (λ xs. v.tuple name (plains xs)) ts one.2 in
         by_kind k (subst (λ z. Comes (on_ok {B = Plain × List Placed} (tuple_of read (member_kinds reg name) ps) (λ y. Ok (v.tuple name (plains y.0), y.1))) (v.tuple name z) ts) one.1 made_it) is_kind
 
-step_comes : (reg : List Entity) (read : Kind → Reads Plain) (k : Kind) (x : Plain) (ps : List Placed) (ts : List Token) → list_all items_differ reg ≡ true → Comes_all reg read → Fits reg x k → refs x ≡ [] → IsSized x → bare ps ≡ tokens_of reg x ++ ts
+step_comes : (reg : List Entity) (read : Kind → Reads Plain) (k : Kind) (x : Plain) (ps : List Placed) (ts : List Token)
+    → list_all items_differ reg ≡ true → Comes_all reg read → Fits reg x k → refs x ≡ [] → IsSized x → bare ps ≡ tokens_of reg x ++ ts
     → Comes (value_step reg read k ps) x ts
 unfolding Fits refs IsSized tokens_of value_step
 step_comes reg read k v.void ps ts differ all fits closed sized e = subst (λ j. Comes (value_step reg read j ps) v.void ts) (sym fits) (single_comes reg kd.void v.void (word (codes "void")) ps ts e refl)

@@ -1,5 +1,7 @@
 -- Entities whose names rise are found by their names' places, and a new name has one gap between them.
-use Rattle.std.proofs.Common.{◌≡◌, ℕ, zero, suc, ◌<◌, ◌≤◌, Bool, true, false, List, [], ◌∷◌, ◌++◌, length, map, take, drop, get_or, None, Some, refl, sym, ap, subst, ◌∙◌, ◌⊎◌, inl, inr, arith}
+use Rattle.std.proofs.Common.{
+  ◌≡◌, ℕ, zero, suc, ◌<◌, ◌≤◌, Bool, true, false, List, [], ◌∷◌, ◌++◌, length, map, take, drop, get_or, None, Some, refl, sym, ap, subst, ◌∙◌, ◌⊎◌,
+  inl, inr, arith}
 use Rattle.std.proofs.lemmas.Bool.{cases_lt, cases_order}
 use Rattle.std.specs.Prelude.{slice_get}
 use Rattle.std.proofs.lemmas.Option.{slice_get_within, get_or_from_slice_get}
@@ -65,7 +67,8 @@ found_at name (e ∷ es) (suc i) d rising within is =
     let other : bytes_eq name e.name ≡ false = below_differs e.name name (subst (λ n. name_cmp e.name n ≡ Less) is below) in
     rw other (found_at name es i d rising.1 (omega arith) is)
   where
-    at_place : (xs : List Entity) (k : ℕ) (f : Entity) → k < length xs → AllByRecursion (λ y. name_cmp e.name y ≡ Less) (map (λ x. x.name) xs) → name_cmp e.name (get_or xs k f).name ≡ Less
+    at_place : (xs : List Entity) (k : ℕ) (f : Entity) → k < length xs → AllByRecursion (λ y. name_cmp e.name y ≡ Less) (map (λ x. x.name) xs)
+        → name_cmp e.name (get_or xs k f).name ≡ Less
     at_place [] k f within all = absurd (omega arith)
     at_place (x ∷ xs) zero f within all = all.0
     at_place (x ∷ xs) (suc k) f within all = at_place xs k f (omega arith) all.1

@@ -1,5 +1,7 @@
 -- In a sound registry a struct or an exception has a member, and each of its members is of a type of the registry, neither void nor an exception.
-use Rattle.std.proofs.Common.{◌≡◌, ℕ, zero, suc, Bool, true, false, not, ◌||◌, ◌&&◌, List, [], ◌∷◌, ◌++◌, length, map, Option, None, Some, refl, sym, subst, inl, inr, if◌then◌else◌}
+use Rattle.std.proofs.Common.{
+  ◌≡◌, ℕ, zero, suc, Bool, true, false, not, ◌||◌, ◌&&◌, List, [], ◌∷◌, ◌++◌, length, map, Option, None, Some, refl, sym, subst, inl, inr,
+  if◌then◌else◌}
 use Rattle.std.specs.List.{list_all, flat_map}
 use Rattle.std.specs.Str.{bytes_eq}
 use Rattle.std.proofs.lemmas.Bool.{and_parts, and_from}
@@ -9,7 +11,9 @@ use Rattle.uno_model.specs.Fits.{IsTupleKind, member_kinds}
 use Rattle.uno_model.specs.Kinds.{Kind}
 use Rattle.uno_model.specs.Kinds as kd
 use Rattle.uno_model.specs.Registry.{find_entity, member_bases, at_most_one, own_members, members_within, all_members}
-use Rattle.uno_model.specs.Sound.{IsSound, is_allowed, body_allowed, body_known, elements_plain, few_modules, short_name, is_value, is_plain, is_result, is_struct, is_exception, is_there, has_member, is_some_list, kind_known, is_namable}
+use Rattle.uno_model.specs.Sound.{
+  IsSound, is_allowed, body_allowed, body_known, elements_plain, few_modules, short_name, is_value, is_plain, is_result, is_struct, is_exception,
+  is_there, has_member, is_some_list, kind_known, is_namable}
 use Rattle.uno_model.specs.Types.{is_type, is_formed}
 use Rattle.uno_model.proofs.Options.{same_some, none_some}
 
@@ -41,7 +45,8 @@ abbrev pub is_member : List Entity → Kind → Bool
 is_member reg k = is_plain k && is_type reg k
 
 -- the members that keep the rules, and whose types are known
-ruled : (reg : List Entity) (fs : List Field) → list_all (λ f. is_value f.kind) fs ≡ true → list_all (λ f. kind_known reg f.kind) fs ≡ true → list_all (λ f. is_member reg f.kind) fs ≡ true
+ruled : (reg : List Entity) (fs : List Field) → list_all (λ f. is_value f.kind) fs ≡ true → list_all (λ f. kind_known reg f.kind) fs ≡ true
+    → list_all (λ f. is_member reg f.kind) fs ≡ true
 ruled reg [] all known = refl
 ruled reg (f ∷ fs) all known =
     let p = and_parts (is_value f.kind) (list_all (λ f. is_value f.kind) fs) all in

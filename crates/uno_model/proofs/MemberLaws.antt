@@ -50,7 +50,8 @@ flat_map_same f g (x ∷ xs) same =
     rw (flat_map-cons f x xs, flat_map-cons g x xs, here, behind) refl
 
 -- a name all of whose ways end within so many levels has no members beyond them
-pub members_more : (levels : ℕ) (reg : List Entity) (name : List ℕ) → ends_within (leads_to reg) levels name ≡ true → members_within (suc levels) reg name ≡ members_within levels reg name
+pub members_more : (levels : ℕ) (reg : List Entity) (name : List ℕ) → ends_within (leads_to reg) levels name ≡ true
+    → members_within (suc levels) reg name ≡ members_within levels reg name
 unfolding members_within
 members_more zero reg name ends = absurd (none_ends_at_once (leads_to reg) name ends)
 members_more (suc levels) reg name ends =
@@ -59,7 +60,8 @@ members_more (suc levels) reg name ends =
     (λ base has. members_more levels reg base (next_ends (leads_to reg) levels name base ends (base_leads o base has))))
 
 -- what leads anywhere is among the names
-leads_named : (reg : List Entity) (name next : List ℕ) (o : Option Entity) → find_entity name reg ≡ o → Contains (leads_to_body o) next → Contains (map (λ (e : Entity). e.name) reg) name
+leads_named : (reg : List Entity) (name next : List ℕ) (o : Option Entity) → find_entity name reg ≡ o → Contains (leads_to_body o) next
+    → Contains (map (λ (e : Entity). e.name) reg) name
 leads_named reg name next None is has = absurd (nothing_in next has)
 leads_named reg name next (Some e) is has =
     let place = found_place name reg e is in

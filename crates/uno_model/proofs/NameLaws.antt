@@ -193,7 +193,8 @@ none_of_bad reg text rest levels below j named split found bad (kd.sequence k) i
 none_of_bad reg text rest levels below j named split found bad k is = no_front reg k (93 ∷ rest) named refl (and_parts (kind_known reg k) _ is.formed).0 (is.named ∙ split)
 
 -- a type behind `[]` that may be an element gives the type of the whole
-pub one_more : (reg : List Entity) (text rest : List ℕ) (levels : ℕ) (j : Kind) → text ≡ codes "[]" ++ rest → IsNamedWithin reg rest levels j → is_plain j ≡ true → IsNamedWithin reg text (levels + 1) (kd.sequence j)
+pub one_more : (reg : List Entity) (text rest : List ℕ) (levels : ℕ) (j : Kind) → text ≡ codes "[]" ++ rest → IsNamedWithin reg rest levels j
+    → is_plain j ≡ true → IsNamedWithin reg text (levels + 1) (kd.sequence j)
 one_more reg text rest levels j split found good =
     let parts = and_parts (kind_known reg j) _ found.formed in
     record {
@@ -205,7 +206,8 @@ one_more reg text rest levels j split found good =
 -- ---- the word behind the brackets
 
 -- one word more that a text may be
-simple_step : (reg : List Entity) (text : List ℕ) (k j : Kind) → kind_known reg k ≡ true → elements_plain k ≡ true → nesting k ≡ 0 → (rest : Option Kind) → (rest ≡ Some j → IsNamedWithin reg text 0 j)
+simple_step : (reg : List Entity) (text : List ℕ) (k j : Kind) → kind_known reg k ≡ true → elements_plain k ≡ true → nesting k ≡ 0
+    → (rest : Option Kind) → (rest ≡ Some j → IsNamedWithin reg text 0 j)
     → (if bytes_eq text (name_of k) then Some k else rest) ≡ Some j → IsNamedWithin reg text 0 j
 simple_step reg text k j known flat level rest behind found = by_test (bytes_eq text (name_of k)) refl
   where
@@ -220,7 +222,8 @@ simple_gives : (reg : List Entity) (text : List ℕ) (j : Kind) → simple_of te
 unfolding simple_of
 simple_gives reg text j = (simple_step reg text kd.void j refl refl refl _ (simple_step reg text kd.char j refl refl refl _ (simple_step reg text kd.boolean j refl refl refl _ (simple_step reg text kd.byte j refl refl refl _ (simple_step reg text kd.short j refl refl refl _ (simple_step reg text kd.unsigned_short j refl refl refl _ (simple_step reg text kd.long j refl refl refl _ (simple_step reg text kd.unsigned_long j refl refl refl _ (simple_step reg text kd.hyper j refl refl refl _ (simple_step reg text kd.unsigned_hyper j refl refl refl _ (simple_step reg text kd.str j refl refl refl _ (simple_step reg text kd.kind j refl refl refl _ (simple_step reg text kd.any j refl refl refl _ (λ (e : None ≡ Some j). let bad : ⊥ = cc in absurd bad))))))))))))))
 
-body_gives : (reg : List Entity) (text : List ℕ) (j : Kind) (e : Entity) → find_entity text reg ≡ Some e → (b : Body) → e.body ≡ b → kind_of_body text b ≡ Some j → IsNamedWithin reg text 0 j
+body_gives : (reg : List Entity) (text : List ℕ) (j : Kind) (e : Entity) → find_entity text reg ≡ Some e → (b : Body) → e.body ≡ b
+    → kind_of_body text b ≡ Some j → IsNamedWithin reg text 0 j
 body_gives reg text j e found (plain.interface bases members) is reads =
     let one : kd.interface text ≡ j = cc in
     subst (IsNamedWithin reg text 0) one (record { named = refl; formed = and_from _ true (rw (found, is) refl) refl; within = omega arith })
@@ -251,7 +254,8 @@ pub more_levels : (reg : List Entity) (text : List ℕ) (below levels : ℕ) (k 
 more_levels reg text below levels k less is = record { named = is.named; formed = is.formed; within = omega (arith, is.within) }
 
 -- where no word is read, and the text does not begin with `[]`, nothing is named
-pub none_of_word : (reg : List Entity) (text : List ℕ) (levels : ℕ) → list_all is_named reg ≡ true → ((rest : List ℕ) → text ≡ codes "[]" ++ rest → ⊥) → word_of reg text ≡ None → (k : Kind) → IsNamedWithin reg text levels k → ⊥
+pub none_of_word : (reg : List Entity) (text : List ℕ) (levels : ℕ) → list_all is_named reg ≡ true → ((rest : List ℕ) → text ≡ codes "[]" ++ rest → ⊥)
+    → word_of reg text ≡ None → (k : Kind) → IsNamedWithin reg text levels k → ⊥
 none_of_word reg text levels named no_front none (kd.sequence k) is = no_front (name_of k) (sym is.named)
 none_of_word reg text levels named no_front none k is =
     let reads : word_of reg text ≡ Some k = subst (λ t. word_of reg t ≡ Some k) is.named (word_back reg k named refl (and_parts (kind_known reg k) _ is.formed).0) in

@@ -1,5 +1,7 @@
 -- Circles of names and circles of places are the same circles.
-use Rattle.std.proofs.Common.{◌≡◌, ℕ, zero, suc, ◌<◌, true, false, List, [], ◌∷◌, ◌++◌, length, map, get_or, Option, None, Some, refl, sym, ap, subst, ◌∙◌, if◌then◌else◌, ◌⊎◌, inl, inr, arith}
+use Rattle.std.proofs.Common.{
+  ◌≡◌, ℕ, zero, suc, ◌<◌, true, false, List, [], ◌∷◌, ◌++◌, length, map, get_or, Option, None, Some, refl, sym, ap, subst, ◌∙◌, if◌then◌else◌, ◌⊎◌,
+  inl, inr, arith}
 use Rattle.std.specs.Prelude.{Contains, slice_get}
 use Rattle.std.specs.Str.{bytes_eq}
 use Rattle.std.proofs.lemmas.Slice.Eq.{bytes_eq-Decides}
@@ -32,7 +34,8 @@ abbrev pub StandsAt : List ℕ → List Entity → ℕ → Type 0
 StandsAt name reg i = (e : Entity) × (slice_get reg i ≡ Some e) × (find_entity name reg ≡ Some e) × (e.name ≡ name)
 
 -- one entity further on
-stands_further : (name : List ℕ) (x : Entity) (xs : List Entity) (o : Option ℕ) (i : ℕ) → ((k : ℕ) → o ≡ Some k → StandsAt name xs k) → further o ≡ Some i → bytes_eq name x.name ≡ false
+stands_further : (name : List ℕ) (x : Entity) (xs : List Entity) (o : Option ℕ) (i : ℕ) → ((k : ℕ) → o ≡ Some k → StandsAt name xs k)
+    → further o ≡ Some i → bytes_eq name x.name ≡ false
     → StandsAt name (x ∷ xs) i
 unfolding find_entity
 stands_further name x xs None i behind moved other = let bad : None ≡ Some i = moved in cc
@@ -150,7 +153,8 @@ named_there reg i e rising at =
     found_at e.name reg i e rising there.0 (ap (λ (x : Entity). x.name) there.1) ∙ ap (λ x. Some x) there.1
 
 -- a step from place to place is one from name to name
-step_names : (reg : List Entity) (i j : ℕ) (e f : Entity) → IsRising reg → slice_get reg i ≡ Some e → slice_get reg j ≡ Some f → Contains (steps reg i) j → Contains (leads_to reg e.name) f.name
+step_names : (reg : List Entity) (i j : ℕ) (e f : Entity) → IsRising reg → slice_get reg i ≡ Some e → slice_get reg j ≡ Some f
+    → Contains (steps reg i) j → Contains (leads_to reg e.name) f.name
 step_names reg i j e f rising at_i at_j has =
     let row = row_of (λ x. places_of reg (leads_to_body (Some x))) reg i e at_i in
     let found = contains_places reg (leads_to_body (Some e)) j (subst (λ r. Contains r j) row has) in
@@ -163,7 +167,8 @@ step_names reg i j e f rising at_i at_j has =
     same_entity x y e = cc
 
 -- a way of places is a way of names
-pub leads_names : (reg : List Entity) (i j : ℕ) (e f : Entity) → IsRising reg → slice_get reg i ≡ Some e → slice_get reg j ≡ Some f → Leads (steps reg) i j → Leads (leads_to reg) e.name f.name
+pub leads_names : (reg : List Entity) (i j : ℕ) (e f : Entity) → IsRising reg → slice_get reg i ≡ Some e → slice_get reg j ≡ Some f
+    → Leads (steps reg) i j → Leads (leads_to reg) e.name f.name
 leads_names reg i j e f rising at_i at_j (step from to has) = step e.name f.name (step_names reg from to e f rising at_i at_j has)
 leads_names reg i j e f rising at_i at_j (on from next to has more) =
     let mid = place_there reg next to more in
@@ -189,7 +194,8 @@ pub places_of-append : (reg : List Entity) (ns ms : List (List ℕ)) → places_
 places_of-append reg [] ms = refl
 places_of-append reg (n ∷ ns) ms = by_place (place_of n reg) (places_of-append reg ns ms)
   where
-    by_place : (o : Option ℕ) → places_of reg (ns ++ ms) ≡ places_of reg ns ++ places_of reg ms → with_place o (places_of reg (ns ++ ms)) ≡ with_place o (places_of reg ns) ++ places_of reg ms
+    by_place : (o : Option ℕ) → places_of reg (ns ++ ms) ≡ places_of reg ns ++ places_of reg ms
+        → with_place o (places_of reg (ns ++ ms)) ≡ with_place o (places_of reg ns) ++ places_of reg ms
     by_place None e = e
     by_place (Some i) e = ap (λ ps. i ∷ ps) e
 

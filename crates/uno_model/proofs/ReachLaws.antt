@@ -49,7 +49,8 @@ bases_marked reg marks name base closed p e at is mark has i f there same =
     ]
 
 -- marks that are closed, with the name itself marked, stand at each entity to which the name leads
-pub leads_marked : (reg : List Entity) (marks : List Bool) (name base : List ℕ) → Closed reg marks [] → Leads (stands_on reg) name base → (p : ℕ) (e : Entity) → slice_get reg p ≡ Some e
+pub leads_marked : (reg : List Entity) (marks : List Bool) (name base : List ℕ) → Closed reg marks [] → Leads (stands_on reg) name base
+    → (p : ℕ) (e : Entity) → slice_get reg p ≡ Some e
     → e.name ≡ name → Marked marks p → (i : ℕ) (f : Entity) → slice_get reg i ≡ Some f → f.name ≡ base → Marked marks i
 leads_marked reg marks name base closed (step from to has) p e at is mark i f there same = bases_marked reg marks from to closed p e at is mark has i f there same
 leads_marked reg marks name base closed (on from next to has more) p e at is mark i f there same =
@@ -59,7 +60,8 @@ leads_marked reg marks name base closed (on from next to has more) p e at is mar
     leads_marked reg marks next to closed more place.0 found.0 place.1 place.2 step_mark i f there same
 
 -- so they stand at all bases of the name, and nowhere else
-pub marks_bases : (reg : List Entity) (marks : List Bool) (name : List ℕ) (p : ℕ) (e : Entity) → length marks ≡ length reg → slice_get reg p ≡ Some e → e.name ≡ name → Marked marks p
+pub marks_bases : (reg : List Entity) (marks : List Bool) (name : List ℕ) (p : ℕ) (e : Entity) → length marks ≡ length reg → slice_get reg p ≡ Some e
+    → e.name ≡ name → Marked marks p
     → Closed reg marks [] → OnlyBases reg name marks → ((i j : ℕ) (f g : Entity) → slice_get reg i ≡ Some f → slice_get reg j ≡ Some g → f.name ≡ g.name → i ≡ j) → MarksBases reg name marks
 marks_bases reg marks name p e long at is mark closed only distinct =
     record {

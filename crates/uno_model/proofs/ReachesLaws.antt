@@ -1,5 +1,7 @@
 -- What is reached over as many levels as there are entities is a base, and each base is reached.
-use Rattle.std.proofs.Common.{◌≡◌, ℕ, zero, suc, Bool, true, false, ◌||◌, List, [], ◌∷◌, length, map, filter, not, if◌then◌else◌, Option, None, Some, refl, ap, subst, ◌∙◌, ◌⊎◌, inl, inr, arith}
+use Rattle.std.proofs.Common.{
+  ◌≡◌, ℕ, zero, suc, Bool, true, false, ◌||◌, List, [], ◌∷◌, length, map, filter, not, if◌then◌else◌, Option, None, Some, refl, ap, subst, ◌∙◌, ◌⊎◌,
+  inl, inr, arith}
 use Rattle.std.specs.Prelude.{Contains, ◌↔◌}
 use Rattle.std.specs.List.{list_any}
 use Rattle.std.specs.Str.{bytes_eq}
@@ -64,19 +66,22 @@ unfolding reaches_within
 itself zero reg name = same_equal name
 itself (suc levels) reg name = rw (same_equal name) refl
 
-by_next : (levels : ℕ) (reg : List Entity) (to from next : List ℕ) → Contains (stands_on reg from) next → reaches_within levels reg to next ≡ true → reaches_within (suc levels) reg to from ≡ true
+by_next : (levels : ℕ) (reg : List Entity) (to from next : List ℕ) → Contains (stands_on reg from) next → reaches_within levels reg to next ≡ true
+    → reaches_within (suc levels) reg to from ≡ true
 unfolding reaches_within
 by_next levels reg to from next has reached =
     second_passed (bytes_eq from to) (list_any (reaches_within levels reg to) (stands_on reg from)) (passes (reaches_within levels reg to) (stands_on reg from) next has reached)
 
-led_is_reached : (levels : ℕ) (reg : List Entity) (to from : List ℕ) → ends_within (stands_on reg) (suc levels) from ≡ true → Leads (stands_on reg) from to → reaches_within levels reg to from ≡ true
+led_is_reached : (levels : ℕ) (reg : List Entity) (to from : List ℕ) → ends_within (stands_on reg) (suc levels) from ≡ true
+    → Leads (stands_on reg) from to → reaches_within levels reg to from ≡ true
 led_is_reached zero reg to from ends (step a b has) = absurd (none_ends_at_once (stands_on reg) b (next_ends (stands_on reg) zero a b ends has))
 led_is_reached zero reg to from ends (on a c b has more) = absurd (none_ends_at_once (stands_on reg) c (next_ends (stands_on reg) zero a c ends has))
 led_is_reached (suc levels) reg to from ends (step a b has) = by_next levels reg b a b has (itself levels reg b)
 led_is_reached (suc levels) reg to from ends (on a c b has more) =
     by_next levels reg b a c has (led_is_reached levels reg b c (next_ends (stands_on reg) (suc levels) a c ends has) more)
 
-pub base_is_reached : (levels : ℕ) (reg : List Entity) (to from : List ℕ) → ends_within (stands_on reg) (suc levels) from ≡ true → IsBaseOf reg to from → reaches_within levels reg to from ≡ true
+pub base_is_reached : (levels : ℕ) (reg : List Entity) (to from : List ℕ) → ends_within (stands_on reg) (suc levels) from ≡ true
+    → IsBaseOf reg to from → reaches_within levels reg to from ≡ true
 base_is_reached levels reg to from ends (inl same) = subst (λ n. reaches_within levels reg n from ≡ true) same (itself levels reg from)
 base_is_reached levels reg to from ends (inr way) = led_is_reached levels reg to from ends way
 
@@ -130,6 +135,7 @@ bases_end reg name none =
     (λ b on_way c has. standing_named reg b c (find_entity b reg) refl has)
 
 -- so what is reached over as many levels as there are entities are the bases
-pub reaches_bases : (count : ℕ) (reg : List Entity) (to from : List ℕ) → HasNoCircle (leads_to reg) → length reg ≡ count → (reaches_within count reg to from ≡ true) ↔ IsBaseOf reg to from
+pub reaches_bases : (count : ℕ) (reg : List Entity) (to from : List ℕ) → HasNoCircle (leads_to reg) → length reg ≡ count
+    → (reaches_within count reg to from ≡ true) ↔ IsBaseOf reg to from
 reaches_bases count reg to from none long =
     (reached_is_base count reg to from, λ base. subst (λ n. reaches_within n reg to from ≡ true) long (base_is_reached (length reg) reg to from (bases_end reg from none) base))

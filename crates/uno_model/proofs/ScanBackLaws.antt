@@ -1,5 +1,7 @@
 -- The spelling of a token is scanned as that token.
-use Rattle.std.proofs.Common.{◌≡◌, ℕ, zero, suc, ◌+◌, ◌-◌, ◌*◌, ◌^◌, ◌<◌, ◌≤◌, ℤ, pos, negsuc, Bool, true, false, not, ◌&&◌, ◌||◌, ◌==◌, List, [], ◌∷◌, ◌++◌, length, get_or, Ok, refl, sym, ap, subst, ◌∙◌, arith, rules, nat_le}
+use Rattle.std.proofs.Common.{
+  ◌≡◌, ℕ, zero, suc, ◌+◌, ◌-◌, ◌*◌, ◌^◌, ◌<◌, ◌≤◌, ℤ, pos, negsuc, Bool, true, false, not, ◌&&◌, ◌||◌, ◌==◌, List, [], ◌∷◌, ◌++◌, length, get_or, Ok,
+  refl, sym, ap, subst, ◌∙◌, arith, rules, nat_le}
 use Rattle.std.proofs.lemmas.Bool.{and_parts, and_from, leb-true, le-leb, ne_eqb, eqb-true, eq-eqb, not-true, or_parts}
 use Rattle.std.proofs.lemmas.Fmt.{decimal_digit, decimal_nonempty, first_decimal, digits_decimal, digits_value-decimal}
 use Rattle.std.proofs.lemmas.Str.Parse.{IsNumeralModel, numerals_by_fold}
@@ -48,7 +50,8 @@ digits_back limit m (c ∷ cs) r digits within ends =
     let few : nat_le (m * 10 + (c - 48)) limit ≡ true = le-leb (m * 10 + (c - 48)) limit (omega (arith, more, within)) in
     rw (digit, few) (digits_back limit (m * 10 + (c - 48)) cs r parts.1 within ends)
 
-decimal_back : (limit n : ℕ) (r : List ℕ) → 1 ≤ n → n ≤ limit → limit < 2 ^ 64 → ends_run r ≡ true → (c : ℕ) × (cs : List ℕ) × (decimal n ≡ c ∷ cs) × (49 ≤ c) × (c ≤ 57) × (digits_at limit (decimal n ++ r) ≡ Ok (n, r))
+decimal_back : (limit n : ℕ) (r : List ℕ) → 1 ≤ n → n ≤ limit → limit < 2 ^ 64 → ends_run r ≡ true
+    → (c : ℕ) × (cs : List ℕ) × (decimal n ≡ c ∷ cs) × (49 ≤ c) × (c ≤ 57) × (digits_at limit (decimal n ++ r) ≡ Ok (n, r))
 decimal_back limit n r some within small ends = by_list (decimal n) refl
   where
     by_list : (ds : List ℕ) → decimal n ≡ ds → (c : ℕ) × (cs : List ℕ) × (decimal n ≡ c ∷ cs) × (49 ≤ c) × (c ≤ 57) × (digits_at limit (decimal n ++ r) ≡ Ok (n, r))
@@ -70,7 +73,8 @@ decimal_back limit n r some within small ends = by_list (decimal n) refl
         zero_ten k = omega arith
 
 -- the first bytes of tokens differ
-plain_front : (c : ℕ) → 49 ≤ c → c ≤ 57 → (((((((c == 91) ≡ false) × ((c == 123) ≡ false)) × ((c == 34) ≡ false)) × ((c == 60) ≡ false)) × ((c == 40) ≡ false)) × (begins_identifier c ≡ false)) × (((c == 48) ≡ false) × ((c == 45) ≡ false))
+plain_front : (c : ℕ) → 49 ≤ c → c ≤ 57
+    → (((((((c == 91) ≡ false) × ((c == 123) ≡ false)) × ((c == 34) ≡ false)) × ((c == 60) ≡ false)) × ((c == 40) ≡ false)) × (begins_identifier c ≡ false)) × (((c == 48) ≡ false) × ((c == 45) ≡ false))
 plain_front c low high =
     ((((((ne_eqb c 91 (λ e. omega arith), ne_eqb c 123 (λ e. omega arith)), ne_eqb c 34 (λ e. omega arith)), ne_eqb c 60 (λ e. omega arith)), ne_eqb c 40 (λ e. omega arith)), grind arith), (ne_eqb c 48 (λ e. omega arith), ne_eqb c 45 (λ e. omega arith)))
 
@@ -85,14 +89,16 @@ number_back reg (pos (suc n)) r fits ends =
     let at = decimal_back largest (suc n) r (omega arith) fits (omega arith) ends in
     by_first at.0 at.1 at.2 at.3 at.4 at.5
   where
-    by_first : (c : ℕ) (cs : List ℕ) → decimal (suc n) ≡ c ∷ cs → 49 ≤ c → c ≤ 57 → digits_at largest (decimal (suc n) ++ r) ≡ Ok (suc n, r) → value_at reg (decimal (suc n) ++ r) ≡ Ok (number (pos (suc n)), r)
+    by_first : (c : ℕ) (cs : List ℕ) → decimal (suc n) ≡ c ∷ cs → 49 ≤ c → c ≤ 57 → digits_at largest (decimal (suc n) ++ r) ≡ Ok (suc n, r)
+        → value_at reg (decimal (suc n) ++ r) ≡ Ok (number (pos (suc n)), r)
     by_first c cs e low high reads =
         let apart = plain_front c low high in
         let digits : digits_at largest (c ∷ (cs ++ r)) ≡ Ok (suc n, r) = ap (λ ds. digits_at largest (ds ++ r)) (sym e) ∙ reads in
         let value_it : value_at reg (c ∷ (cs ++ r)) ≡ Ok (number (pos (suc n)), r) = numbers c (cs ++ r) apart.0.0.0.0.0.0 apart.0.0.0.0.0.1 apart.0.0.0.0.1 apart.0.0.0.1 apart.0.0.1 apart.0.1 apart.1.0 apart.1.1 digits in
         ap (λ ds. value_at reg (ds ++ r)) e ∙ value_it
       where
-        numbers : (d : ℕ) (ds : List ℕ) → (d == 91) ≡ false → (d == 123) ≡ false → (d == 34) ≡ false → (d == 60) ≡ false → (d == 40) ≡ false → begins_identifier d ≡ false → (d == 48) ≡ false → (d == 45) ≡ false
+        numbers : (d : ℕ) (ds : List ℕ) → (d == 91) ≡ false → (d == 123) ≡ false → (d == 34) ≡ false → (d == 60) ≡ false → (d == 40) ≡ false
+            → begins_identifier d ≡ false → (d == 48) ≡ false → (d == 45) ≡ false
             → digits_at largest (d ∷ ds) ≡ Ok (suc n, r) → value_at reg (d ∷ ds) ≡ Ok (number (pos (suc n)), r)
         numbers d ds f g h i j k l m digits = rw (f, g, h, i, j, k, l, m, digits) refl
 number_back reg (negsuc n) r fits ends =
@@ -141,7 +147,8 @@ word_back reg (c ∷ cs) r is known ends =
     let word_it : word_at reg (c ∷ (cs ++ r)) ≡ Ok (word (c ∷ cs), r) = rw (front_it, known, rest_it) refl in
     words c (cs ++ r) apart.0.0.0 apart.0.0.1 apart.0.1 apart.1.0 apart.1.1 parts.0 word_it
   where
-    words : (d : ℕ) (ds : List ℕ) → (d == 91) ≡ false → (d == 123) ≡ false → (d == 34) ≡ false → (d == 60) ≡ false → (d == 40) ≡ false → begins_identifier d ≡ true → word_at reg (d ∷ ds) ≡ Ok (word (c ∷ cs), r) → value_at reg (d ∷ ds) ≡ Ok (word (c ∷ cs), r)
+    words : (d : ℕ) (ds : List ℕ) → (d == 91) ≡ false → (d == 123) ≡ false → (d == 34) ≡ false → (d == 60) ≡ false → (d == 40) ≡ false
+        → begins_identifier d ≡ true → word_at reg (d ∷ ds) ≡ Ok (word (c ∷ cs), r) → value_at reg (d ∷ ds) ≡ Ok (word (c ∷ cs), r)
     words d ds f g h i j k is_it = rw (f, g, h, i, j, k) is_it
 
 -- ---- quoted texts
@@ -179,7 +186,8 @@ string_back (c ∷ cs) r = by_mark ((c == 34) || (c == 92)) refl (string_back cs
 
 -- ---- types
 
-pub type_back : (reg : List Entity) (mark : ℕ) (k : Kind) (r : List ℕ) → list_all is_named reg ≡ true → is_type reg k ≡ true → list_all is_name_byte (name_of k) ≡ true → is_name_byte mark ≡ false → type_at reg mark (name_of k ++ mark ∷ r) ≡ Ok (k, r)
+pub type_back : (reg : List Entity) (mark : ℕ) (k : Kind) (r : List ℕ) → list_all is_named reg ≡ true → is_type reg k ≡ true
+    → list_all is_name_byte (name_of k) ≡ true → is_name_byte mark ≡ false → type_at reg mark (name_of k ++ mark ∷ r) ≡ Ok (k, r)
 type_back reg mark k r named_all type bytes other =
     let stops_it : stops is_name_byte (mark ∷ r) ≡ true = rw other refl in
     let front_it = front_back is_name_byte (name_of k) (mark ∷ r) bytes stops_it in

@@ -1,5 +1,7 @@
 -- What is scanned of a text is spelled there.
-use Rattle.std.proofs.Common.{◌≡◌, ℕ, zero, suc, ◌+◌, ◌-◌, ◌*◌, ◌/◌, ◌%◌, ◌^◌, ◌<◌, ◌≤◌, pos, Bool, true, false, ◌&&◌, ◌||◌, ◌==◌, List, [], ◌∷◌, ◌++◌, length, Option, None, Some, MatchOption, Result, Ok, Err, IsTrue, refl, sym, ap, subst, ◌∙◌, arith, nat_le}
+use Rattle.std.proofs.Common.{
+  ◌≡◌, ℕ, zero, suc, ◌+◌, ◌-◌, ◌*◌, ◌/◌, ◌%◌, ◌^◌, ◌<◌, ◌≤◌, pos, Bool, true, false, ◌&&◌, ◌||◌, ◌==◌, List, [], ◌∷◌, ◌++◌, length, Option, None,
+  Some, MatchOption, Result, Ok, Err, IsTrue, refl, sym, ap, subst, ◌∙◌, arith, nat_le}
 use Rattle.std.proofs.lemmas.Bool.{and_parts, leb-true, eqb-true}
 use Rattle.std.proofs.lemmas.Fmt.{decimal_digit, decimal_step}
 use Rattle.std.proofs.lemmas.List.{append_assoc}
@@ -13,7 +15,10 @@ use Rattle.uno_model.specs.Kinds as kd
 use Rattle.uno_model.specs.Literals.{escaped}
 use Rattle.uno_model.specs.NamedTypes.{IsNamed, type_of_text}
 use Rattle.uno_model.specs.Names.{begins_identifier, goes_on_identifier}
-use Rattle.uno_model.specs.Shapes.{Bracket, square, curly, Token, opens, closes, comma, number, word, string, named, cast, spell, spells, largest, lowest, is_known_word, front, rest, digits_on, digits_at, on_ok, with_byte, escape_of, string_at, is_name_byte, type_at, cast_of, word_at, negative_of, number_at, value_at, Awaited, value, element, separator, behind, opened, closing, separator_at, element_at, token_at, Placed, with_token, is_whole, tokens_at}
+use Rattle.uno_model.specs.Shapes.{
+  Bracket, square, curly, Token, opens, closes, comma, number, word, string, named, cast, spell, spells, largest, lowest, is_known_word, front, rest,
+  digits_on, digits_at, on_ok, with_byte, escape_of, string_at, is_name_byte, type_at, cast_of, word_at, negative_of, number_at, value_at, Awaited,
+  value, element, separator, behind, opened, closing, separator_at, element_at, token_at, Placed, with_token, is_whole, tokens_at}
 use Rattle.uno_model.specs.Sound.{is_named}
 use Rattle.uno_model.specs.Types.{is_type}
 
@@ -123,7 +128,8 @@ unfolding string_at
 string_sound flag [] s r e = absurd (not_ok 0 (s, r) e)
 string_sound true (c ∷ cs) s r e = by_escape (escape_of c) refl (λ t f. string_sound false cs t r f)
   where
-    by_escape : (o : Option ℕ) → escape_of c ≡ o → ((t : List ℕ) → string_at false cs ≡ Ok (t, r) → cs ≡ flat_map escaped t ++ 34 ∷ r) → 92 ∷ (c ∷ cs) ≡ flat_map escaped s ++ 34 ∷ r
+    by_escape : (o : Option ℕ) → escape_of c ≡ o → ((t : List ℕ) → string_at false cs ≡ Ok (t, r) → cs ≡ flat_map escaped t ++ 34 ∷ r)
+        → 92 ∷ (c ∷ cs) ≡ flat_map escaped s ++ 34 ∷ r
     by_escape (Some b) is inner =
         let parts = byte_parts b (string_at false cs) s r (rw is at e) in
         let front_it = escape_is c b is in
@@ -160,10 +166,13 @@ pub record IsTypeAt (reg : List Entity) (mark : ℕ) (bytes : List ℕ) (k : Kin
   pub spelled : bytes ≡ name_of k ++ mark ∷ r
   pub type : IsTrue (is_type reg k)
 
-type_sound : (reg : List Entity) (mark : ℕ) (bytes : List ℕ) (k : Kind) (r : List ℕ) → list_all is_named reg ≡ true → type_at reg mark bytes ≡ Ok (k, r) → IsTypeAt reg mark bytes k r
+type_sound : (reg : List Entity) (mark : ℕ) (bytes : List ℕ) (k : Kind) (r : List ℕ) → list_all is_named reg ≡ true
+    → type_at reg mark bytes ≡ Ok (k, r) → IsTypeAt reg mark bytes k r
 type_sound reg mark bytes k r named_all e = by_rest (rest is_name_byte bytes) refl
   where
-    by_type : (c : ℕ) (cs : List ℕ) (o : Option Kind) → rest is_name_byte bytes ≡ c ∷ cs → (c == mark) ≡ true → type_of_text reg (front is_name_byte bytes) ≡ o → MatchOption o ((j : Kind) → IsNamed reg (front is_name_byte bytes) j → ⊥) (IsNamed reg (front is_name_byte bytes))
+    by_type : (c : ℕ) (cs : List ℕ) (o : Option Kind) → rest is_name_byte bytes ≡ c ∷ cs → (c == mark) ≡ true
+        → type_of_text reg (front is_name_byte bytes) ≡ o
+        → MatchOption o ((j : Kind) → IsNamed reg (front is_name_byte bytes) j → ⊥) (IsNamed reg (front is_name_byte bytes))
         → IsTypeAt reg mark bytes k r
     by_type c cs (Some j) behind_it marked found is =
         let parts = ok_parts j k cs r (rw (behind_it, marked, found) at e) in
@@ -187,7 +196,8 @@ pub record IsTokenAt (reg : List Entity) (bytes : List ℕ) (t : Token) (r : Lis
   pub spelled : bytes ≡ spell t ++ r
   pub typed : HasType reg t
 
-cast_sound : (reg : List Entity) (left : ℕ) (bytes : List ℕ) (k : Kind) (cs : List ℕ) (t : Token) (r : List ℕ) → IsTypeAt reg 41 bytes k cs → cast_of left (k, cs) ≡ Ok (t, r) → IsTokenAt reg (40 ∷ bytes) t r
+cast_sound : (reg : List Entity) (left : ℕ) (bytes : List ℕ) (k : Kind) (cs : List ℕ) (t : Token) (r : List ℕ) → IsTypeAt reg 41 bytes k cs
+    → cast_of left (k, cs) ≡ Ok (t, r) → IsTokenAt reg (40 ∷ bytes) t r
 cast_sound reg left bytes kd.any cs t r is e = absurd (not_ok left (t, r) e)
 cast_sound reg left bytes k cs t r is e =
     let parts = ok_parts (cast k) t cs r e in
@@ -267,7 +277,8 @@ named_token_sound reg c cs t r named_all mark e = by_type (type_at reg 62 cs) re
         subst (λ y. IsTokenAt reg (c ∷ cs) t y) parts.1 (subst (λ y. IsTokenAt reg (c ∷ cs) y x.1) parts.0 all)
     by_type (Err left) read = absurd (not_ok left (t, r) (rw read at e))
 
-cast_token_sound : (reg : List Entity) (c : ℕ) (cs : List ℕ) (t : Token) (r : List ℕ) → list_all is_named reg ≡ true → (c == 40) ≡ true → on_ok (type_at reg 41 cs) (cast_of (length cs)) ≡ Ok (t, r) → IsTokenAt reg (c ∷ cs) t r
+cast_token_sound : (reg : List Entity) (c : ℕ) (cs : List ℕ) (t : Token) (r : List ℕ) → list_all is_named reg ≡ true → (c == 40) ≡ true
+    → on_ok (type_at reg 41 cs) (cast_of (length cs)) ≡ Ok (t, r) → IsTokenAt reg (c ∷ cs) t r
 cast_token_sound reg c cs t r named_all mark e = by_type (type_at reg 41 cs) refl
   where
     by_type : (m : Result (Kind × List ℕ) ℕ) → type_at reg 41 cs ≡ m → IsTokenAt reg (c ∷ cs) t r
@@ -331,7 +342,8 @@ element_sound reg (c ∷ cs) t r named_all e = by_close (c == 93) refl
     by_close true is = fixed_sound reg c 93 cs (closes square) t r is refl tt (rw is at e)
     by_close false other = value_sound reg (c ∷ cs) t r named_all (rw other at e)
 
-token_sound : (reg : List Entity) (awaited : Awaited) (outer : List Bracket) (bytes : List ℕ) (t : Token) (r : List ℕ) → list_all is_named reg ≡ true → token_at reg awaited outer bytes ≡ Ok (t, r) → IsTokenAt reg bytes t r
+token_sound : (reg : List Entity) (awaited : Awaited) (outer : List Bracket) (bytes : List ℕ) (t : Token) (r : List ℕ) → list_all is_named reg ≡ true
+    → token_at reg awaited outer bytes ≡ Ok (t, r) → IsTokenAt reg bytes t r
 token_sound reg value outer bytes t r named_all e = value_sound reg bytes t r named_all e
 token_sound reg element outer bytes t r named_all e = element_sound reg bytes t r named_all e
 token_sound reg separator outer bytes t r named_all e = separator_sound reg outer bytes t r e
@@ -352,7 +364,8 @@ whole_is_empty separator (b ∷ outer) bytes e = let bad : ⊥ = cc in absurd ba
 whole_is_empty value outer bytes e = let bad : ⊥ = cc in absurd bad
 whole_is_empty element outer bytes e = let bad : ⊥ = cc in absurd bad
 
-pub tokens_sound : (n : ℕ) (reg : List Entity) (awaited : Awaited) (outer : List Bracket) (bytes : List ℕ) (ps : List Placed) → list_all is_named reg ≡ true → tokens_at n reg awaited outer bytes ≡ Ok ps → AreTokens reg bytes ps
+pub tokens_sound : (n : ℕ) (reg : List Entity) (awaited : Awaited) (outer : List Bracket) (bytes : List ℕ) (ps : List Placed)
+    → list_all is_named reg ≡ true → tokens_at n reg awaited outer bytes ≡ Ok ps → AreTokens reg bytes ps
 unfolding tokens_at
 tokens_sound zero reg awaited outer bytes ps named_all e = absurd (not_ok 0 ps e)
 tokens_sound (suc n) reg awaited outer bytes ps named_all e = by_whole (is_whole awaited outer bytes) refl (λ t r qs f. tokens_sound n reg (behind t) (opened t outer) r qs named_all f)

@@ -1,5 +1,7 @@
 -- A value that fits has a shape: its literal is cut into just its tokens.
-use Rattle.std.proofs.Common.{◌≡◌, ◌≢◌, ℕ, zero, suc, ◌<◌, ◌≤◌, ◌^◌, ℤ, pos, negsuc, Bool, true, false, not, ◌&&◌, ◌||◌, ◌==◌, List, [], ◌∷◌, ◌++◌, length, map, Option, None, Some, Result, Ok, Err, inl, inr, IsTrue, All, refl, sym, ap, subst, ◌∙◌, arith, length-append}
+use Rattle.std.proofs.Common.{
+  ◌≡◌, ◌≢◌, ℕ, zero, suc, ◌<◌, ◌≤◌, ◌^◌, ℤ, pos, negsuc, Bool, true, false, not, ◌&&◌, ◌||◌, ◌==◌, List, [], ◌∷◌, ◌++◌, length, map, Option, None,
+  Some, Result, Ok, Err, inl, inr, IsTrue, All, refl, sym, ap, subst, ◌∙◌, arith, length-append}
 use Rattle.std.proofs.lemmas.Bool.{and_parts, and_from, both_ways, or_left, or_right, eqb-true}
 use Rattle.std.proofs.lemmas.Bool.Decides.{Decides-int_eq}
 use Rattle.std.proofs.lemmas.Fmt.{decimal_nonempty}
@@ -24,8 +26,13 @@ use Rattle.uno_model.specs.Literals.{first_item, escaped, print}
 use Rattle.uno_model.specs.Names.{is_identifier, is_entity_name, parts_of, begins_identifier, goes_on_identifier}
 use Rattle.uno_model.specs.Readings.{is_void}
 use Rattle.uno_model.specs.Registry.{find_entity, all_members}
-use Rattle.uno_model.specs.Shapes.{Bracket, square, curly, Token, opens, closes, comma, number, word, string, named, cast, spell, spells, is_some_name, is_first_name, is_own_word, is_known_word, is_word, on_ok, is_name_byte, type_at, cast_of, string_at, value_at, Awaited, value, element, separator, behind_cast, behind, opened, separator_at, element_at, token_at, Placed, is_whole, tokens_at, judge}
-use Rattle.uno_model.specs.Sound.{IsSound, is_named, inner_names, is_there, is_enum, is_struct, is_exception, is_interface, kind_known, elements_plain, is_namable, is_some_list, has_member}
+use Rattle.uno_model.specs.Shapes.{
+  Bracket, square, curly, Token, opens, closes, comma, number, word, string, named, cast, spell, spells, is_some_name, is_first_name, is_own_word,
+  is_known_word, is_word, on_ok, is_name_byte, type_at, cast_of, string_at, value_at, Awaited, value, element, separator, behind_cast, behind,
+  opened, separator_at, element_at, token_at, Placed, is_whole, tokens_at, judge}
+use Rattle.uno_model.specs.Sound.{
+  IsSound, is_named, inner_names, is_there, is_enum, is_struct, is_exception, is_interface, kind_known, elements_plain, is_namable, is_some_list,
+  has_member}
 use Rattle.uno_model.specs.Tokens.{InRange, IsSized, AllSized, tokens_of, tokens_in, byte_tokens, comma_tokens, item_token}
 use Rattle.uno_model.specs.Types.{is_formed, is_type}
 use Rattle.uno_model.specs.Values.{Ref, null, own, peer, Plain, Plains, none, more, refs, refs_in, held}
@@ -50,7 +57,8 @@ unfolding parts_of
 parts_bytes [] all = refl
 parts_bytes (c ∷ cs) all = by_point (c == 46) refl (parts_of cs) refl (parts_bytes cs)
   where
-    by_point : (b : Bool) → (c == 46) ≡ b → (parts : List (List ℕ)) → parts_of cs ≡ parts → (list_all (list_all is_name_byte) (parts_of cs) ≡ true → list_all is_name_byte cs ≡ true) → list_all is_name_byte (c ∷ cs) ≡ true
+    by_point : (b : Bool) → (c == 46) ≡ b → (parts : List (List ℕ)) → parts_of cs ≡ parts
+        → (list_all (list_all is_name_byte) (parts_of cs) ≡ true → list_all is_name_byte cs ≡ true) → list_all is_name_byte (c ∷ cs) ≡ true
     by_point true point parts is inner =
         let behind_it : list_all (list_all is_name_byte) (parts_of cs) ≡ true = rw point at all in
         and_from (is_name_byte c) _ (or_right (goes_on_identifier c) _ (or_left (c == 46) _ point)) (inner behind_it)
@@ -219,7 +227,8 @@ element_front reg (c ∷ cs) t r reads = by_close (c == 93) refl
         absurd bad
     by_close false other = rw other refl
 
-token_back : (reg : List Entity) (awaited : Awaited) (outer : List Bracket) (t : Token) (r : List ℕ) → list_all is_named reg ≡ true → may awaited outer t ≡ true → IsToken reg t → Follows t r → token_at reg awaited outer (spell t ++ r) ≡ Ok (t, r)
+token_back : (reg : List Entity) (awaited : Awaited) (outer : List Bracket) (t : Token) (r : List ℕ) → list_all is_named reg ≡ true
+    → may awaited outer t ≡ true → IsToken reg t → Follows t r → token_at reg awaited outer (spell t ++ r) ≡ Ok (t, r)
 token_back reg value outer t r named_all is good follows = front_back reg t r named_all is good follows
 token_back reg element outer (closes square) r named_all is good follows = refl
 token_back reg element outer (closes curly) r named_all is good follows = let bad : ⊥ = cc in absurd bad
@@ -248,7 +257,8 @@ not_whole separator (b ∷ outer) t bytes is = refl
 
 -- ---- the tokens of a text
 
-tokens_back : (n : ℕ) (reg : List Entity) (awaited : Awaited) (outer : List Bracket) (ts : List Token) → list_all is_named reg ≡ true → length ts < n → ordered awaited outer ts ≡ true → AreTokensOf reg ts
+tokens_back : (n : ℕ) (reg : List Entity) (awaited : Awaited) (outer : List Bracket) (ts : List Token) → list_all is_named reg ≡ true → length ts < n
+    → ordered awaited outer ts ≡ true → AreTokensOf reg ts
     → (ps : List Placed) × (bare ps ≡ ts) × (tokens_at n reg awaited outer (spells ts) ≡ Ok ps)
 unfolding tokens_at ordered
 tokens_back zero reg awaited outer ts named_all room order good = let bad : ⊥ = omega arith in absurd bad
@@ -261,7 +271,8 @@ tokens_back (suc n) reg awaited outer (t ∷ ts) named_all room order good =
     let reads = token_back reg awaited outer t (spells ts) named_all parts.0 good.0 (follows_on t outer ts parts.1) in
     (p ∷ inner.0, ap (λ us. t ∷ us) inner.1, step p inner.0 going reads inner.2)
   where
-    step : (p : Placed) (qs : List Placed) → is_whole awaited outer (spell t ++ spells ts) ≡ false → token_at reg awaited outer (spell t ++ spells ts) ≡ Ok (t, spells ts) → tokens_at n reg (behind t) (opened t outer) (spells ts) ≡ Ok qs
+    step : (p : Placed) (qs : List Placed) → is_whole awaited outer (spell t ++ spells ts) ≡ false
+        → token_at reg awaited outer (spell t ++ spells ts) ≡ Ok (t, spells ts) → tokens_at n reg (behind t) (opened t outer) (spells ts) ≡ Ok qs
         → tokens_at (suc n) reg awaited outer (spell t ++ spells ts) ≡ Ok (record { left = length (spell t ++ spells ts); token = t } ∷ qs)
     step p qs going reads inner = rw (going, reads, inner) refl
 
@@ -282,12 +293,14 @@ unfolding ordered
 item_order outer None n ts order = order
 item_order outer (Some w) n ts order = order
 
-bytes_order : (outer : List Bracket) (bs : List ℕ) (ts : List Token) → ordered separator outer ts ≡ true → ordered separator (square ∷ outer) (byte_tokens false bs ++ closes square ∷ ts) ≡ true
+bytes_order : (outer : List Bracket) (bs : List ℕ) (ts : List Token) → ordered separator outer ts ≡ true
+    → ordered separator (square ∷ outer) (byte_tokens false bs ++ closes square ∷ ts) ≡ true
 unfolding ordered byte_tokens
 bytes_order outer [] ts order = order
 bytes_order outer (b ∷ bs) ts order = bytes_order outer bs ts order
 
-all_bytes_order : (outer : List Bracket) (bs : List ℕ) (ts : List Token) → ordered separator outer ts ≡ true → ordered element (square ∷ outer) (byte_tokens true bs ++ closes square ∷ ts) ≡ true
+all_bytes_order : (outer : List Bracket) (bs : List ℕ) (ts : List Token) → ordered separator outer ts ≡ true
+    → ordered element (square ∷ outer) (byte_tokens true bs ++ closes square ∷ ts) ≡ true
 unfolding ordered byte_tokens
 all_bytes_order outer [] ts order = order
 all_bytes_order outer (b ∷ bs) ts order = bytes_order outer bs ts order
@@ -296,7 +309,8 @@ all_bytes_order outer (b ∷ bs) ts order = bytes_order outer bs ts order
 abbrev pub HaveMembers : List Entity → Type 0
 HaveMembers reg = (name : List ℕ) (k : Kind) → IsTupleKind name k → is_type reg k ≡ true → (f : Kind) × (ks : List Kind) × (member_kinds reg name ≡ f ∷ ks)
 
-any_order : (reg : List Entity) (outer : List Bracket) (t : Kind) (x : Plain) (ts : List Token) (b : Bool) → is_void t ≡ b → Fits reg x t → ordered value outer (tokens_of reg x ++ ts) ≡ true → ordered separator outer ts ≡ true
+any_order : (reg : List Entity) (outer : List Bracket) (t : Kind) (x : Plain) (ts : List Token) (b : Bool) → is_void t ≡ b → Fits reg x t
+    → ordered value outer (tokens_of reg x ++ ts) ≡ true → ordered separator outer ts ≡ true
     → ordered value outer (tokens_of reg (v.any t x) ++ ts) ≡ true
 unfolding ordered tokens_of
 any_order reg outer t x ts true is fits inner order =
@@ -324,7 +338,8 @@ no_member reg ks f gs is fits = absurd (subst (FitEach reg none) is fits)
 mutual
   unfolding ordered tokens_of tokens_in Fits FitEach FitAll
 
-  value_order : (reg : List Entity) (outer : List Bracket) (x : Plain) (k : Kind) (ts : List Token) → HaveMembers reg → Fits reg x k → ordered separator outer ts ≡ true → ordered value outer (tokens_of reg x ++ ts) ≡ true
+  value_order : (reg : List Entity) (outer : List Bracket) (x : Plain) (k : Kind) (ts : List Token) → HaveMembers reg → Fits reg x k
+      → ordered separator outer ts ≡ true → ordered value outer (tokens_of reg x ++ ts) ≡ true
   value_order reg outer v.void k ts have fits order = order
   value_order reg outer (v.char n) k ts have fits order = order
   value_order reg outer (v.boolean true) k ts have fits order = order
@@ -347,26 +362,30 @@ mutual
   value_order reg outer (v.bytes b) k ts have fits order = rw (append_assoc (byte_tokens true b) (closes square ∷ []) ts) (all_bytes_order outer b ts order)
   value_order reg outer (v.ref r) k ts have fits order = order
 
-  members_order : (reg : List Entity) (outer : List Bracket) (vs : Plains) (ks : List Kind) (f : Kind) (gs : List Kind) (ts : List Token) → HaveMembers reg → ks ≡ f ∷ gs → FitEach reg vs ks → ordered separator outer ts ≡ true
+  members_order : (reg : List Entity) (outer : List Bracket) (vs : Plains) (ks : List Kind) (f : Kind) (gs : List Kind) (ts : List Token)
+      → HaveMembers reg → ks ≡ f ∷ gs → FitEach reg vs ks → ordered separator outer ts ≡ true
       → ordered value (curly ∷ outer) (tokens_in reg true vs ++ closes curly ∷ ts) ≡ true
   members_order reg outer none ks f gs ts have is fits order = no_member reg ks f gs is fits
   members_order reg outer (more x vs) [] f gs ts have is fits order = absurd fits
   members_order reg outer (more x vs) (k ∷ ks) f gs ts have is fits order =
       rw (append_assoc (tokens_of reg x) (tokens_in reg false vs) (closes curly ∷ ts)) (value_order reg (curly ∷ outer) x k (tokens_in reg false vs ++ closes curly ∷ ts) have fits.0 (others_order reg outer vs ks ts have fits.1 order))
 
-  others_order : (reg : List Entity) (outer : List Bracket) (vs : Plains) (ks : List Kind) (ts : List Token) → HaveMembers reg → FitEach reg vs ks → ordered separator outer ts ≡ true → ordered separator (curly ∷ outer) (tokens_in reg false vs ++ closes curly ∷ ts) ≡ true
+  others_order : (reg : List Entity) (outer : List Bracket) (vs : Plains) (ks : List Kind) (ts : List Token) → HaveMembers reg → FitEach reg vs ks
+      → ordered separator outer ts ≡ true → ordered separator (curly ∷ outer) (tokens_in reg false vs ++ closes curly ∷ ts) ≡ true
   others_order reg outer none ks ts have fits order = order
   others_order reg outer (more x vs) [] ts have fits order = absurd fits
   others_order reg outer (more x vs) (k ∷ ks) ts have fits order =
       rw (append_assoc (tokens_of reg x) (tokens_in reg false vs) (closes curly ∷ ts)) (value_order reg (curly ∷ outer) x k (tokens_in reg false vs ++ closes curly ∷ ts) have fits.0 (others_order reg outer vs ks ts have fits.1 order))
 
-  elements_order : (reg : List Entity) (outer : List Bracket) (vs : Plains) (k : Kind) (ts : List Token) → HaveMembers reg → FitAll reg vs k → ordered separator outer ts ≡ true → ordered element (square ∷ outer) (tokens_in reg true vs ++ closes square ∷ ts) ≡ true
+  elements_order : (reg : List Entity) (outer : List Bracket) (vs : Plains) (k : Kind) (ts : List Token) → HaveMembers reg → FitAll reg vs k
+      → ordered separator outer ts ≡ true → ordered element (square ∷ outer) (tokens_in reg true vs ++ closes square ∷ ts) ≡ true
   elements_order reg outer none k ts have fits order = order
   elements_order reg outer (more x vs) k ts have fits order =
       rw (append_assoc (tokens_of reg x) (tokens_in reg false vs) (closes square ∷ ts))
       (lift_order (square ∷ outer) (tokens_of reg x) (tokens_in reg false vs ++ closes square ∷ ts) (value_begins reg x) (value_order reg (square ∷ outer) x k (tokens_in reg false vs ++ closes square ∷ ts) have fits.0 (more_order reg outer vs k ts have fits.1 order)))
 
-  more_order : (reg : List Entity) (outer : List Bracket) (vs : Plains) (k : Kind) (ts : List Token) → HaveMembers reg → FitAll reg vs k → ordered separator outer ts ≡ true → ordered separator (square ∷ outer) (tokens_in reg false vs ++ closes square ∷ ts) ≡ true
+  more_order : (reg : List Entity) (outer : List Bracket) (vs : Plains) (k : Kind) (ts : List Token) → HaveMembers reg → FitAll reg vs k
+      → ordered separator outer ts ≡ true → ordered separator (square ∷ outer) (tokens_in reg false vs ++ closes square ∷ ts) ≡ true
   more_order reg outer none k ts have fits order = order
   more_order reg outer (more x vs) k ts have fits order =
       rw (append_assoc (tokens_of reg x) (tokens_in reg false vs) (closes square ∷ ts)) (value_order reg (square ∷ outer) x k (tokens_in reg false vs ++ closes square ∷ ts) have fits.0 (more_order reg outer vs k ts have fits.1 order))
@@ -390,7 +409,8 @@ some_kinds : (fs : List plain.Field) → is_some_list fs ≡ true → (f : Kind)
 some_kinds [] some = let bad : ⊥ = cc in absurd bad
 some_kinds (f ∷ fs) some = (f.kind, map (λ (g : plain.Field). g.kind) fs, refl)
 
-members_of_entity : (reg : List Entity) (name : List ℕ) (wanted : Body → Bool) → list_all (has_member reg) reg ≡ true → ((b : Body) → wanted b ≡ true → (is_struct b || is_exception b) ≡ true) → is_there reg wanted name ≡ true
+members_of_entity : (reg : List Entity) (name : List ℕ) (wanted : Body → Bool) → list_all (has_member reg) reg ≡ true
+    → ((b : Body) → wanted b ≡ true → (is_struct b || is_exception b) ≡ true) → is_there reg wanted name ≡ true
     → (f : Kind) × (ks : List Kind) × (member_kinds reg name ≡ f ∷ ks)
 members_of_entity reg name wanted have carries there = by_find (find_entity name reg) refl
   where
@@ -424,12 +444,15 @@ item_identifier (i ∷ items) n w all found = by_number (int_eq i.number n) refl
     by_number true same inner = let one : Some i.name ≡ Some w = rw same at found in let is : i.name ≡ w = cc in subst (λ x. is_identifier x ≡ true) is (and_parts (is_identifier i.name) _ all).0
     by_number false other inner = inner (rw other at found)
 
-some_item : (all items : List Item) (n : ℤ) (w : List ℕ) → first_item all n ≡ Some w → first_item items n ≡ Some w → list_any (λ (i : Item). is_some_name (first_item all i.number) w) items ≡ true
+some_item : (all items : List Item) (n : ℤ) (w : List ℕ) → first_item all n ≡ Some w → first_item items n ≡ Some w
+    → list_any (λ (i : Item). is_some_name (first_item all i.number) w) items ≡ true
 unfolding first_item
 some_item all [] n w whole found = let bad : ⊥ = cc in absurd bad
 some_item all (i ∷ items) n w whole found = by_number (int_eq i.number n) refl (some_item all items n w whole)
   where
-    by_number : (b : Bool) → int_eq i.number n ≡ b → (first_item items n ≡ Some w → list_any (λ (j : Item). is_some_name (first_item all j.number) w) items ≡ true) → list_any (λ (j : Item). is_some_name (first_item all j.number) w) (i ∷ items) ≡ true
+    by_number : (b : Bool) → int_eq i.number n ≡ b
+        → (first_item items n ≡ Some w → list_any (λ (j : Item). is_some_name (first_item all j.number) w) items ≡ true)
+        → list_any (λ (j : Item). is_some_name (first_item all j.number) w) (i ∷ items) ≡ true
     by_number true same inner =
         let number_it : i.number ≡ n = (Decides-int_eq i.number n).0 same in
         let first : first_item all i.number ≡ Some w = ap (first_item all) number_it ∙ whole in
@@ -437,12 +460,15 @@ some_item all (i ∷ items) n w whole found = by_number (int_eq i.number n) refl
         or_left (is_some_name (first_item all i.number) w) _ passes
     by_number false other inner = or_right (is_some_name (first_item all i.number) w) _ (inner (rw other at found))
 
-in_some_enum : (es : List Entity) (name w : List ℕ) (e : Entity) → find_entity name es ≡ Some e → is_first_name (items_of (Some e)) w ≡ true → list_any (λ d. is_first_name (items_of (Some d)) w) es ≡ true
+in_some_enum : (es : List Entity) (name w : List ℕ) (e : Entity) → find_entity name es ≡ Some e → is_first_name (items_of (Some e)) w ≡ true
+    → list_any (λ d. is_first_name (items_of (Some d)) w) es ≡ true
 unfolding find_entity
 in_some_enum [] name w e found is = let bad : ⊥ = cc in absurd bad
 in_some_enum (d ∷ ds) name w e found is = by_name (bytes_eq name d.name) refl (in_some_enum ds name w e)
   where
-    by_name : (b : Bool) → bytes_eq name d.name ≡ b → (find_entity name ds ≡ Some e → is_first_name (items_of (Some e)) w ≡ true → list_any (λ d. is_first_name (items_of (Some d)) w) ds ≡ true) → list_any (λ c. is_first_name (items_of (Some c)) w) (d ∷ ds) ≡ true
+    by_name : (b : Bool) → bytes_eq name d.name ≡ b
+        → (find_entity name ds ≡ Some e → is_first_name (items_of (Some e)) w ≡ true → list_any (λ d. is_first_name (items_of (Some d)) w) ds ≡ true)
+        → list_any (λ c. is_first_name (items_of (Some c)) w) (d ∷ ds) ≡ true
     by_name true same inner =
         let one : Some d ≡ Some e = rw same at found in
         let it : d ≡ e = cc in
@@ -461,7 +487,8 @@ names_of_items e (plain.old_service parts) is named_it = rw is refl
 names_of_items e (plain.new_singleton base) is named_it = rw is refl
 names_of_items e (plain.old_singleton service) is named_it = rw is refl
 
-item_known : (reg : List Entity) (name : List ℕ) (n : ℤ) (w : List ℕ) → list_all is_named reg ≡ true → first_item (items_of (find_entity name reg)) n ≡ Some w → IsToken reg (word w)
+item_known : (reg : List Entity) (name : List ℕ) (n : ℤ) (w : List ℕ) → list_all is_named reg ≡ true
+    → first_item (items_of (find_entity name reg)) n ≡ Some w → IsToken reg (word w)
 unfolding first_item
 item_known reg name n w named_all found = by_find (find_entity name reg) refl
   where
@@ -501,7 +528,8 @@ bytes_good reg is_first [] all = tt
 bytes_good reg is_first (b ∷ bs) all =
     tokens_append reg (comma_tokens is_first) _ (comma_good reg is_first) (range_fits 7 (cast_signed w8 b) (omega arith) (signed_range b (all 0 b (omega arith))), bytes_good reg false bs (λ k d within. all (suc k) d (omega arith)))
 
-any_good : (reg : List Entity) (t : Kind) (x : Plain) (b : Bool) → is_void t ≡ b → t ≢ kd.any → is_type reg t ≡ true → Fits reg x t → AreTokensOf reg (tokens_of reg x) → AreTokensOf reg (tokens_of reg (v.any t x))
+any_good : (reg : List Entity) (t : Kind) (x : Plain) (b : Bool) → is_void t ≡ b → t ≢ kd.any → is_type reg t ≡ true → Fits reg x t
+    → AreTokensOf reg (tokens_of reg x) → AreTokensOf reg (tokens_of reg (v.any t x))
 unfolding tokens_of
 any_good reg t x true is other type fits inner =
     let empty : x ≡ v.void = void_fits reg x (subst (Fits reg x) (void_is t is) fits) in
@@ -536,13 +564,15 @@ mutual
   value_good reg (v.bytes b) k named_all fits sized = (tt, tokens_append reg (byte_tokens true b) (closes square ∷ []) (bytes_good reg true b sized) (tt, tt))
   value_good reg (v.ref r) k named_all fits sized = ((refl, refl), tt)
 
-  members_good : (reg : List Entity) (is_first : Bool) (vs : Plains) (ks : List Kind) → list_all is_named reg ≡ true → FitEach reg vs ks → AllSized vs → AreTokensOf reg (tokens_in reg is_first vs)
+  members_good : (reg : List Entity) (is_first : Bool) (vs : Plains) (ks : List Kind) → list_all is_named reg ≡ true → FitEach reg vs ks → AllSized vs
+      → AreTokensOf reg (tokens_in reg is_first vs)
   members_good reg is_first none ks named_all fits sized = tt
   members_good reg is_first (more x vs) [] named_all fits sized = absurd fits
   members_good reg is_first (more x vs) (k ∷ ks) named_all fits sized =
       tokens_append reg (comma_tokens is_first) _ (comma_good reg is_first) (tokens_append reg (tokens_of reg x) _ (value_good reg x k named_all fits.0 sized.0) (members_good reg false vs ks named_all fits.1 sized.1))
 
-  elements_good : (reg : List Entity) (is_first : Bool) (vs : Plains) (k : Kind) → list_all is_named reg ≡ true → FitAll reg vs k → AllSized vs → AreTokensOf reg (tokens_in reg is_first vs)
+  elements_good : (reg : List Entity) (is_first : Bool) (vs : Plains) (k : Kind) → list_all is_named reg ≡ true → FitAll reg vs k → AllSized vs
+      → AreTokensOf reg (tokens_in reg is_first vs)
   elements_good reg is_first none k named_all fits sized = tt
   elements_good reg is_first (more x vs) k named_all fits sized =
       tokens_append reg (comma_tokens is_first) _ (comma_good reg is_first) (tokens_append reg (tokens_of reg x) _ (value_good reg x k named_all fits.0 sized.0) (elements_good reg false vs k named_all fits.1 sized.1))
@@ -572,7 +602,8 @@ no_more_tokens reg (t ∷ ts) good =
     omega (arith, one, others, both)
 
 -- the literal of a value that fits is cut into its tokens
-pub literal_tokens : (reg : List Entity) (x : Plain) (k : Kind) → IsSound reg → Fits reg x k → refs x ≡ [] → IsSized x → (ps : List Placed) × (bare ps ≡ tokens_of reg x) × (judge reg (print reg x) ≡ Ok ps)
+pub literal_tokens : (reg : List Entity) (x : Plain) (k : Kind) → IsSound reg → Fits reg x k → refs x ≡ [] → IsSized x
+    → (ps : List Placed) × (bare ps ≡ tokens_of reg x) × (judge reg (print reg x) ≡ Ok ps)
 unfolding ordered
 literal_tokens reg x k sound fits closed sized =
     let good = value_good reg x k sound.named fits sized in

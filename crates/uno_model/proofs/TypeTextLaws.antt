@@ -1,5 +1,7 @@
 -- The reading of a type's name finds the type that it names, and none where it names none.
-use Rattle.std.proofs.Common.{◌≡◌, ℕ, zero, suc, Bool, true, false, List, ◌++◌, length, take, drop, nat_le, Option, None, Some, MatchOption, refl, sym, ap, ◌∙◌, codes, arith, add-one}
+use Rattle.std.proofs.Common.{
+  ◌≡◌, ℕ, zero, suc, Bool, true, false, List, ◌++◌, length, take, drop, nat_le, Option, None, Some, MatchOption, refl, sym, ap, ◌∙◌, codes, arith,
+  add-one}
 use Rattle.std.proofs.lemmas.Bool.{and_parts, and_from, both_ways, leb-true, le-leb}
 use Rattle.std.proofs.lemmas.List.{take-append-drop}
 use Rattle.std.proofs.lemmas.Slice.Eq.{bytes_eq-Decides}
@@ -23,11 +25,13 @@ begins text same = sym (take-append-drop 2 text) ∙ ap (λ t. t ++ drop 2 text)
 begins_not : (text : List ℕ) → bytes_eq (take 2 text) (codes "[]") ≡ false → (rest : List ℕ) → text ≡ codes "[]" ++ rest → ⊥
 begins_not text other rest split = both_ways (bytes_eq (take 2 text) (codes "[]")) other ((bytes_eq-Decides (take 2 text) (codes "[]")).1 (ap (λ t. take 2 t) split))
 
-word_finds : (reg : List Entity) (text : List ℕ) (levels : ℕ) → list_all is_named reg ≡ true → bytes_eq (take 2 text) (codes "[]") ≡ false → (o : Option Kind) → word_of reg text ≡ o → Finds (IsNamedWithin reg text levels) o
+word_finds : (reg : List Entity) (text : List ℕ) (levels : ℕ) → list_all is_named reg ≡ true → bytes_eq (take 2 text) (codes "[]") ≡ false
+    → (o : Option Kind) → word_of reg text ≡ o → Finds (IsNamedWithin reg text levels) o
 word_finds reg text levels named other None reads = none_of_word reg text levels named (begins_not text other) reads
 word_finds reg text levels named other (Some k) reads = more_levels reg text 0 levels k (omega arith) (word_gives reg text k reads)
 
-sequence_finds : (reg : List Entity) (text : List ℕ) (levels : ℕ) → list_all is_named reg ≡ true → bytes_eq (take 2 text) (codes "[]") ≡ true → (o : Option Kind) → kind_within levels reg (drop 2 text) ≡ o → Finds (IsNamedWithin reg (drop 2 text) levels) o
+sequence_finds : (reg : List Entity) (text : List ℕ) (levels : ℕ) → list_all is_named reg ≡ true → bytes_eq (take 2 text) (codes "[]") ≡ true
+    → (o : Option Kind) → kind_within levels reg (drop 2 text) ≡ o → Finds (IsNamedWithin reg (drop 2 text) levels) o
     → Finds (IsNamedWithin reg text (suc levels)) (kind_within (suc levels) reg text)
 unfolding kind_within
 sequence_finds reg text levels named same None reads found = rw (same, reads) (rw (← add-one) (none_behind reg text (drop 2 text) levels named (begins text same) found))
@@ -46,7 +50,9 @@ within_finds zero reg text named = by_front (bytes_eq (take 2 text) (codes "[]")
     by_front false other = rw other (word_finds reg text 0 named other (word_of reg text) refl)
 within_finds (suc levels) reg text named = by_front (bytes_eq (take 2 text) (codes "[]")) refl (within_finds levels reg (drop 2 text) named)
   where
-    by_front : (b : Bool) → bytes_eq (take 2 text) (codes "[]") ≡ b → Finds (IsNamedWithin reg (drop 2 text) levels) (kind_within levels reg (drop 2 text)) → Finds (IsNamedWithin reg text (suc levels)) (kind_within (suc levels) reg text)
+    by_front : (b : Bool) → bytes_eq (take 2 text) (codes "[]") ≡ b
+        → Finds (IsNamedWithin reg (drop 2 text) levels) (kind_within levels reg (drop 2 text))
+        → Finds (IsNamedWithin reg text (suc levels)) (kind_within (suc levels) reg text)
     by_front true same inner = sequence_finds reg text levels named same (kind_within levels reg (drop 2 text)) refl inner
     by_front false other inner = rw other (word_finds reg text (suc levels) named other (word_of reg text) refl)
 

@@ -1,5 +1,7 @@
 -- What is read of tokens at a type fits it, and its own tokens are those that were read.
-use Rattle.std.proofs.Common.{◌≡◌, ◌≢◌, ℕ, zero, suc, ◌<◌, ◌^◌, ℤ, pos, negsuc, Bool, true, false, List, [], ◌∷◌, ◌++◌, length, map, Option, None, Some, Result, Ok, Err, inl, inr, IsTrue, refl, sym, ap, subst, ◌∙◌, codes, nat_lt, if◌then◌else◌}
+use Rattle.std.proofs.Common.{
+  ◌≡◌, ◌≢◌, ℕ, zero, suc, ◌<◌, ◌^◌, ℤ, pos, negsuc, Bool, true, false, List, [], ◌∷◌, ◌++◌, length, map, Option, None, Some, Result, Ok, Err, inl,
+  inr, IsTrue, refl, sym, ap, subst, ◌∙◌, codes, nat_lt, if◌then◌else◌}
 use Rattle.std.proofs.lemmas.Bool.{both_ways, ltb-true}
 use Rattle.std.proofs.lemmas.List.{append-nil, append_assoc}
 use Rattle.std.proofs.lemmas.Int.{to_z-of_z}
@@ -13,7 +15,11 @@ use Rattle.uno_model.specs.Fits.{Fits, FitEach, FitAll, IsTupleKind, member_kind
 use Rattle.uno_model.specs.Kinds.{Kind}
 use Rattle.uno_model.specs.Kinds as kd
 use Rattle.uno_model.specs.Literals.{first_item}
-use Rattle.uno_model.specs.Readings.{Fault, deep, misfit, Reads, left_at, number_in, word_in, string_in, named_in, cast_in, and_then, unsigned_of, signed_of, truth_of, word_as, number_named, item_in, none_of_number, some_as, single, only_token, is_comma, opens_square, opens_curly, closes_square, closes_curly, expect, with_first, behind_element, elements_on, elements_in, sequence_of, comma_at, members_on, tuple_of, is_void, any_of, bits_of, map_option, byte_in, value_step, value_within}
+use Rattle.uno_model.specs.Readings.{
+  Fault, deep, misfit, Reads, left_at, number_in, word_in, string_in, named_in, cast_in, and_then, unsigned_of, signed_of, truth_of, word_as,
+  number_named, item_in, none_of_number, some_as, single, only_token, is_comma, opens_square, opens_curly, closes_square, closes_curly, expect,
+  with_first, behind_element, elements_on, elements_in, sequence_of, comma_at, members_on, tuple_of, is_void, any_of, bits_of, map_option, byte_in,
+  value_step, value_within}
 use Rattle.uno_model.specs.Registry.{find_entity}
 use Rattle.uno_model.specs.Shapes.{Token, opens, closes, comma, number, word, string, named, cast, square, curly, Placed, on_ok, is_some_name}
 use Rattle.uno_model.specs.Tokens.{tokens_of, tokens_in, byte_tokens, comma_tokens, item_token}
@@ -97,21 +103,24 @@ pub record IsOnly (reg : List Entity) (k : Kind) (x : Plain) (t : Token) : Type 
   pub closed : refs x ≡ []
   pub spelled : t ∷ [] ≡ tokens_of reg x
 
-unsigned_only : (reg : List Entity) (k : Kind) (mk : ℕ → Plain) (bits : ℕ) (t : Token) (x : Plain) → ((n : ℕ) → IsOnly reg k (mk n) (number (pos n))) → some_as mk (and_then (number_in t) (unsigned_of bits)) ≡ Some x → IsOnly reg k x t
+unsigned_only : (reg : List Entity) (k : Kind) (mk : ℕ → Plain) (bits : ℕ) (t : Token) (x : Plain) → ((n : ℕ) → IsOnly reg k (mk n) (number (pos n)))
+    → some_as mk (and_then (number_in t) (unsigned_of bits)) ≡ Some x → IsOnly reg k x t
 unsigned_only reg k mk bits t x only e =
     let a = as_some mk (and_then (number_in t) (unsigned_of bits)) x e in
     let b = then_some (number_in t) (unsigned_of bits) a.0 a.1 in
     let is : t ≡ number (pos a.0) = is_number t b.0 b.1 ∙ ap number (unsigned_is bits b.0 a.0 b.2) in
     subst (λ y. IsOnly reg k y t) (sym a.2) (subst (λ s. IsOnly reg k (mk a.0) s) (sym is) (only a.0))
 
-signed_only : (reg : List Entity) (k : Kind) (mk : ℤ → Plain) (bits : ℕ) (t : Token) (x : Plain) → ((n : ℤ) → IsOnly reg k (mk n) (number n)) → some_as mk (and_then (number_in t) (signed_of bits)) ≡ Some x → IsOnly reg k x t
+signed_only : (reg : List Entity) (k : Kind) (mk : ℤ → Plain) (bits : ℕ) (t : Token) (x : Plain) → ((n : ℤ) → IsOnly reg k (mk n) (number n))
+    → some_as mk (and_then (number_in t) (signed_of bits)) ≡ Some x → IsOnly reg k x t
 signed_only reg k mk bits t x only e =
     let a = as_some mk (and_then (number_in t) (signed_of bits)) x e in
     let b = then_some (number_in t) (signed_of bits) a.0 a.1 in
     let is : t ≡ number a.0 = is_number t b.0 b.1 ∙ ap number (signed_is bits b.0 a.0 b.2) in
     subst (λ y. IsOnly reg k y t) (sym a.2) (subst (λ s. IsOnly reg k (mk a.0) s) (sym is) (only a.0))
 
-word_only : (reg : List Entity) (k : Kind) (asked : List ℕ) (y : Plain) (t : Token) (x : Plain) → IsOnly reg k y (word asked) → and_then (word_in t) (word_as asked y) ≡ Some x → IsOnly reg k x t
+word_only : (reg : List Entity) (k : Kind) (asked : List ℕ) (y : Plain) (t : Token) (x : Plain) → IsOnly reg k y (word asked)
+    → and_then (word_in t) (word_as asked y) ≡ Some x → IsOnly reg k x t
 word_only reg k asked y t x only e =
     let a = then_some (word_in t) (word_as asked y) x e in
     let b = word_is asked y x a.0 a.2 in
@@ -126,7 +135,8 @@ truth_only reg t x e =
     let is = truth_is b.0 a.0 b.2 (is_word t b.0 b.1) in
     subst (λ y. IsOnly reg kd.boolean y t) (sym a.2) is
   where
-    falsely : (w : List ℕ) (c : Bool) (s : Token) → bytes_eq w (codes "true") ≡ false → truth_of w ≡ Some c → s ≡ word w → (b : Bool) → bytes_eq w (codes "false") ≡ b → IsOnly reg kd.boolean (v.boolean c) s
+    falsely : (w : List ℕ) (c : Bool) (s : Token) → bytes_eq w (codes "true") ≡ false → truth_of w ≡ Some c → s ≡ word w → (b : Bool)
+        → bytes_eq w (codes "false") ≡ b → IsOnly reg kd.boolean (v.boolean c) s
     falsely w c s not_true says is true same =
         let one : Some false ≡ Some c = rw (not_true, same) at says in
         let which : false ≡ c = cc in
@@ -155,7 +165,8 @@ item_is items (word w) n e =
     let a = then_some (number_named items w) (λ m. if is_some_name (first_item items m) w then Some m else None) n e in
     by_test a.0 (is_some_name (first_item items a.0) w) refl a.2
   where
-    by_test : (m : ℤ) (b : Bool) → is_some_name (first_item items m) w ≡ b → (if is_some_name (first_item items m) w then Some m else None) ≡ Some n → word w ≡ item_token (first_item items n) n
+    by_test : (m : ℤ) (b : Bool) → is_some_name (first_item items m) w ≡ b → (if is_some_name (first_item items m) w then Some m else None) ≡ Some n
+        → word w ≡ item_token (first_item items n) n
     by_test m true so says =
         let one : Some m ≡ Some n = rw so at says in
         let which : m ≡ n = cc in
@@ -175,7 +186,8 @@ item_is items (number z) n e =
     by_item m (Some name) found is says = let bad : None ≡ Some n = rw found at says in let worse : ⊥ = cc in absurd worse
 item_is items _ n e = let bad : ⊥ = cc in absurd bad
 
-enum_only : (reg : List Entity) (name : List ℕ) (t : Token) (x : Plain) → is_type reg (kd.enum name) ≡ true → some_as (v.enum name) (item_in (items_of (find_entity name reg)) t) ≡ Some x → IsOnly reg (kd.enum name) x t
+enum_only : (reg : List Entity) (name : List ℕ) (t : Token) (x : Plain) → is_type reg (kd.enum name) ≡ true
+    → some_as (v.enum name) (item_in (items_of (find_entity name reg)) t) ≡ Some x → IsOnly reg (kd.enum name) x t
 unfolding Fits tokens_of refs
 enum_only reg name t x type e =
     let a = as_some (v.enum name) (item_in (items_of (find_entity name reg)) t) x e in
@@ -309,20 +321,23 @@ module _ {X : Type 0} (reg : List Entity) (P : X → Type 0) (E : X → List Tok
   ReadsElements read = (ps rest : List Placed) (x : X) → Typed reg ps → read ps ≡ Ok (x, rest) → IsElement x ps rest
 
   -- the last element, before the bracket
-  last_element : (x : X) (xs : List X) (ps qs rest rs : List Placed) (p : Placed) → IsElement x ps (p ∷ qs) → p.token ≡ closes square → x ∷ [] ≡ xs → qs ≡ rest → AreElements xs ps rest
+  last_element : (x : X) (xs : List X) (ps qs rest rs : List Placed) (p : Placed) → IsElement x ps (p ∷ qs) → p.token ≡ closes square → x ∷ [] ≡ xs
+      → qs ≡ rest → AreElements xs ps rest
   last_element x xs ps qs rest rs p is closes_it one two =
       let spelled : bare ps ≡ (E x ++ []) ++ closes square ∷ bare qs = is.spelled ∙ ap (λ t. E x ++ t ∷ bare qs) closes_it ∙ ap (λ y. y ++ closes square ∷ bare qs) (sym (append-nil (E x))) in
       let all : AreElements (x ∷ []) ps qs = record { good = (is.good, tt); spelled = spelled; onward = ap (λ t. comma ∷ t) spelled; typed = is.typed.1 } in
       subst (λ r. AreElements xs ps r) two (subst (λ ys. AreElements ys ps qs) one all)
 
   -- an element and those behind its comma
-  more_elements : (x : X) (ys xs : List X) (ps qs r rest : List Placed) (p : Placed) → IsElement x ps (p ∷ qs) → p.token ≡ comma → AreElements ys qs r → x ∷ ys ≡ xs → r ≡ rest → AreElements xs ps rest
+  more_elements : (x : X) (ys xs : List X) (ps qs r rest : List Placed) (p : Placed) → IsElement x ps (p ∷ qs) → p.token ≡ comma → AreElements ys qs r
+      → x ∷ ys ≡ xs → r ≡ rest → AreElements xs ps rest
   more_elements x ys xs ps qs r rest p is comma_it are one two =
       let spelled : bare ps ≡ (E x ++ listed E false ys) ++ closes square ∷ bare r = is.spelled ∙ ap (λ t. E x ++ t ∷ bare qs) comma_it ∙ ap (λ t. E x ++ t) are.onward ∙ sym (append_assoc (E x) (listed E false ys) (closes square ∷ bare r)) in
       let all : AreElements (x ∷ ys) ps r = record { good = (is.good, are.good); spelled = spelled; onward = ap (λ t. comma ∷ t) spelled; typed = are.typed } in
       subst (λ s. AreElements xs ps s) two (subst (λ zs. AreElements zs ps r) one all)
 
-  behind_sound : (left : ℕ) (x : X) (xs : List X) (ps qs rest : List Placed) (more_read : Reads (List X)) → ((rs r : List Placed) (ys : List X) → Typed reg rs → more_read rs ≡ Ok (ys, r) → AreElements ys rs r) → IsElement x ps qs
+  behind_sound : (left : ℕ) (x : X) (xs : List X) (ps qs rest : List Placed) (more_read : Reads (List X))
+      → ((rs r : List Placed) (ys : List X) → Typed reg rs → more_read rs ≡ Ok (ys, r) → AreElements ys rs r) → IsElement x ps qs
       → behind_element left x qs more_read ≡ Ok (xs, rest) → AreElements xs ps rest
   behind_sound left x xs ps [] rest more_read inner is e = let bad : ⊥ = cc in absurd bad
   behind_sound left x xs ps (p ∷ qs) rest more_read inner is e = by_close (closes_square p.token) refl
@@ -339,12 +354,15 @@ module _ {X : Type 0} (reg : List Entity) (P : X → Type 0) (E : X → List Tok
       by_close true ends = let parts = ok_parts (x ∷ []) xs qs rest (rw ends at e) in last_element x xs ps qs rest qs p is (closes_square_is p.token ends) parts.0 parts.1
       by_close false open_still = by_comma (is_comma p.token) refl open_still
 
-  elements_sound : (n left : ℕ) (read : Reads X) (ps rest : List Placed) (xs : List X) → ReadsElements read → Typed reg ps → elements_on n left read ps ≡ Ok (xs, rest) → AreElements xs ps rest
+  elements_sound : (n left : ℕ) (read : Reads X) (ps rest : List Placed) (xs : List X) → ReadsElements read → Typed reg ps
+      → elements_on n left read ps ≡ Ok (xs, rest) → AreElements xs ps rest
   unfolding elements_on
   elements_sound zero left read ps rest xs reads typed e = let bad : ⊥ = cc in absurd bad
   elements_sound (suc n) left read ps rest xs reads typed e = by_read (read ps) refl (λ rs r ys t f. elements_sound n left read rs r ys reads t f)
     where
-      by_read : (m : Result (X × List Placed) Fault) → read ps ≡ m → ((rs r : List Placed) (ys : List X) → Typed reg rs → elements_on n left read rs ≡ Ok (ys, r) → AreElements ys rs r) → AreElements xs ps rest
+      by_read : (m : Result (X × List Placed) Fault) → read ps ≡ m
+          → ((rs r : List Placed) (ys : List X) → Typed reg rs → elements_on n left read rs ≡ Ok (ys, r) → AreElements ys rs r)
+          → AreElements xs ps rest
       by_read (Ok y) one inner = behind_sound left y.0 xs ps y.1 rest (elements_on n left read) inner (reads ps y.1 y.0 typed one) (rw one at e)
       by_read (Err f) one inner = absurd (not_ok f (xs, rest) (rw one at e))
 
@@ -357,7 +375,8 @@ module _ {X : Type 0} (reg : List Entity) (P : X → Type 0) (E : X → List Tok
   pub sequence_sound : (read : Reads X) (ps rest : List Placed) (xs : List X) → ReadsElements read → Typed reg ps → sequence_of read ps ≡ Ok (xs, rest) → IsSequence xs ps rest
   sequence_sound read ps rest xs reads typed e = by_open (expect (left_at ps) opens_square ps) refl
     where
-      by_first : (p : Placed) (qs : List Placed) → ps ≡ p ∷ qs → p.token ≡ opens square → Typed reg qs → (rs : List Placed) → rs ≡ qs → elements_in (left_at ps) read rs ≡ Ok (xs, rest) → IsSequence xs ps rest
+      by_first : (p : Placed) (qs : List Placed) → ps ≡ p ∷ qs → p.token ≡ opens square → Typed reg qs → (rs : List Placed) → rs ≡ qs
+          → elements_in (left_at ps) read rs ≡ Ok (xs, rest) → IsSequence xs ps rest
       by_first p qs is opened typed_on [] same says = let bad : ⊥ = cc in absurd bad
       by_first p qs is opened typed_on (q ∷ rs) same says = by_close (closes_square q.token) refl
         where
@@ -404,7 +423,8 @@ abbrev pub ReadsKinds : List Entity → (Kind → Reads Plain) → Type 0
 ReadsKinds reg read = (k : Kind) (ps rest : List Placed) (x : Plain) → Typed reg ps → read k ps ≡ Ok (x, rest) → IsTypedRead reg k x ps rest
 
 -- a comma, where one was expected
-comma_sound : (reg : List Entity) (is_first : Bool) (left : ℕ) (ps qs : List Placed) → Typed reg ps → comma_at is_first left ps ≡ Ok qs → (bare ps ≡ comma_tokens is_first ++ bare qs) × Typed reg qs
+comma_sound : (reg : List Entity) (is_first : Bool) (left : ℕ) (ps qs : List Placed) → Typed reg ps → comma_at is_first left ps ≡ Ok qs
+    → (bare ps ≡ comma_tokens is_first ++ bare qs) × Typed reg qs
 comma_sound reg true left ps qs typed e = let is : ps ≡ qs = cc in (ap bare is, subst (Typed reg) is typed)
 comma_sound reg false left ps qs typed e =
     let at = expected left is_comma ps qs e in
@@ -425,7 +445,8 @@ no_members reg left is_first ps rest xs typed e = by_close (expect left closes_c
     by_close (Err f) refused = absurd (not_ok f (xs, rest) (rw refused at e))
 
 -- one member more
-one_member : (reg : List Entity) (is_first : Bool) (k : Kind) (ks : List Kind) (x : Plain) (ys : List Plain) (ps qs rs rest : List Placed) → bare ps ≡ comma_tokens is_first ++ bare qs → IsTypedRead reg k x qs rs → AreMembers reg false ks ys rs rest
+one_member : (reg : List Entity) (is_first : Bool) (k : Kind) (ks : List Kind) (x : Plain) (ys : List Plain) (ps qs rs rest : List Placed)
+    → bare ps ≡ comma_tokens is_first ++ bare qs → IsTypedRead reg k x qs rs → AreMembers reg false ks ys rs rest
     → AreMembers reg is_first (k ∷ ks) (x ∷ ys) ps rest
 unfolding FitEach refs_in tokens_in
 one_member reg is_first k ks x ys ps qs rs rest comma_it is are = record {
@@ -436,7 +457,8 @@ one_member reg is_first k ks x ys ps qs rs rest comma_it is are = record {
   typed = are.typed;
 }
 
-members_sound : (reg : List Entity) (read : Kind → Reads Plain) (left : ℕ) (is_first : Bool) (ks : List Kind) (ps rest : List Placed) (xs : List Plain) → ReadsKinds reg read → Typed reg ps → members_on read left is_first ks ps ≡ Ok (xs, rest)
+members_sound : (reg : List Entity) (read : Kind → Reads Plain) (left : ℕ) (is_first : Bool) (ks : List Kind) (ps rest : List Placed) (xs : List Plain)
+    → ReadsKinds reg read → Typed reg ps → members_on read left is_first ks ps ≡ Ok (xs, rest)
     → AreMembers reg is_first ks xs ps rest
 unfolding members_on
 members_sound reg read left is_first [] ps rest xs reads typed e = no_members reg left is_first ps rest xs typed e
@@ -445,7 +467,9 @@ members_sound reg read left is_first (k ∷ ks) ps rest xs reads typed e = by_co
     Inner : Type 0
     Inner = (rs r : List Placed) (ys : List Plain) → Typed reg rs → members_on read left false ks rs ≡ Ok (ys, r) → AreMembers reg false ks ys rs r
 
-    by_more : (qs rs : List Placed) (x : Plain) (m : Result (List Plain × List Placed) Fault) → comma_at is_first left ps ≡ Ok qs → IsTypedRead reg k x qs rs → members_on read left false ks rs ≡ m → Inner → with_first x m ≡ Ok (xs, rest) → AreMembers reg is_first (k ∷ ks) xs ps rest
+    by_more : (qs rs : List Placed) (x : Plain) (m : Result (List Plain × List Placed) Fault) → comma_at is_first left ps ≡ Ok qs
+        → IsTypedRead reg k x qs rs → members_on read left false ks rs ≡ m → Inner → with_first x m ≡ Ok (xs, rest)
+        → AreMembers reg is_first (k ∷ ks) xs ps rest
     by_more qs rs x (Ok y) comma_it is others inner says =
         let parts = ok_parts (x ∷ y.0) xs y.1 rest says in
         let all = one_member reg is_first k ks x y.0 ps qs rs y.1 (comma_sound reg is_first left ps qs typed comma_it).0 is (inner rs y.1 y.0 is.typed others) in
@@ -469,7 +493,8 @@ pub record IsTuple (reg : List Entity) (ks : List Kind) (xs : List Plain) (ps re
   pub spelled : bare ps ≡ opens curly ∷ (tokens_in reg true (plains xs) ++ closes curly ∷ bare rest)
   pub typed : Typed reg rest
 
-tuple_sound : (reg : List Entity) (read : Kind → Reads Plain) (ks : List Kind) (ps rest : List Placed) (xs : List Plain) → ReadsKinds reg read → Typed reg ps → tuple_of read ks ps ≡ Ok (xs, rest) → IsTuple reg ks xs ps rest
+tuple_sound : (reg : List Entity) (read : Kind → Reads Plain) (ks : List Kind) (ps rest : List Placed) (xs : List Plain) → ReadsKinds reg read
+    → Typed reg ps → tuple_of read ks ps ≡ Ok (xs, rest) → IsTuple reg ks xs ps rest
 tuple_sound reg read ks ps rest xs reads typed e = by_open (expect (left_at ps) opens_curly ps) refl
   where
     by_open : (m : Result (List Placed) Fault) → expect (left_at ps) opens_curly ps ≡ m → IsTuple reg ks xs ps rest
@@ -492,7 +517,8 @@ unfolding Fits tokens_of
 any_tokens reg k v.void fits other = let is : is_void k ≡ true = ap is_void fits in absurd (both_ways (is_void k) other is)
 any_tokens reg k _ fits other = refl
 
-any_sound : (reg : List Entity) (read : Kind → Reads Plain) (ps rest : List Placed) (x : Plain) → ReadsKinds reg read → Typed reg ps → any_of read ps ≡ Ok (x, rest) → IsTypedRead reg kd.any x ps rest
+any_sound : (reg : List Entity) (read : Kind → Reads Plain) (ps rest : List Placed) (x : Plain) → ReadsKinds reg read → Typed reg ps
+    → any_of read ps ≡ Ok (x, rest) → IsTypedRead reg kd.any x ps rest
 unfolding Fits tokens_of refs
 any_sound reg read [] rest x reads typed e = absurd (not_ok (misfit 0) (x, rest) e)
 any_sound reg read (p ∷ ps) rest x reads typed e = by_cast (cast_in p.token) refl
@@ -528,7 +554,8 @@ any_sound reg read (p ∷ ps) rest x reads typed e = by_cast (cast_in p.token) r
 -- ---- each type
 
 -- a value of one token
-only_sound : (reg : List Entity) (k : Kind) (ps rest : List Placed) (x : Plain) → is_type reg k ≡ true → Typed reg ps → only_token (single reg k) ps ≡ Ok (x, rest) → IsTypedRead reg k x ps rest
+only_sound : (reg : List Entity) (k : Kind) (ps rest : List Placed) (x : Plain) → is_type reg k ≡ true → Typed reg ps
+    → only_token (single reg k) ps ≡ Ok (x, rest) → IsTypedRead reg k x ps rest
 only_sound reg k [] rest x type typed e = absurd (not_ok (misfit 0) (x, rest) e)
 only_sound reg k (p ∷ ps) rest x type typed e = by_one (single reg k p.token) refl
   where
@@ -610,7 +637,8 @@ bytes_sound reg ps rest x typed e = by_all (sequence_of (only_token byte_in) ps)
         subst (λ r. IsTypedRead reg (kd.sequence kd.byte) x ps r) parts.1 (subst (λ z. IsTypedRead reg (kd.sequence kd.byte) z ps y.1) parts.0 all)
     by_all (Err f) one = absurd (not_ok f (x, rest) (rw one at e))
 
-list_sound : (reg : List Entity) (read : Kind → Reads Plain) (k : Kind) (ps rest : List Placed) (x : Plain) → k ≢ kd.byte → is_type reg (kd.sequence k) ≡ true → ReadsKinds reg read → Typed reg ps
+list_sound : (reg : List Entity) (read : Kind → Reads Plain) (k : Kind) (ps rest : List Placed) (x : Plain) → k ≢ kd.byte
+    → is_type reg (kd.sequence k) ≡ true → ReadsKinds reg read → Typed reg ps
     → on_ok {B = Plain × List Placed} (sequence_of (read k) ps) (λ y. Ok (v.list k (plains y.0), y.1)) ≡ Ok (x, rest) → IsTypedRead reg (kd.sequence k) x ps rest
 unfolding Fits tokens_of refs
 list_sound reg read k ps rest x other type reads typed e = by_all (sequence_of (read k) ps) refl
@@ -626,7 +654,8 @@ list_sound reg read k ps rest x other type reads typed e = by_all (sequence_of (
         subst (λ r. IsTypedRead reg (kd.sequence k) x ps r) parts.1 (subst (λ z. IsTypedRead reg (kd.sequence k) z ps y.1) parts.0 all)
     by_all (Err f) one = absurd (not_ok f (x, rest) (rw one at e))
 
-struct_sound : (reg : List Entity) (read : Kind → Reads Plain) (k : Kind) (name : List ℕ) (ps rest : List Placed) (x : Plain) → IsTupleKind name k → is_type reg k ≡ true → ReadsKinds reg read → Typed reg ps
+struct_sound : (reg : List Entity) (read : Kind → Reads Plain) (k : Kind) (name : List ℕ) (ps rest : List Placed) (x : Plain) → IsTupleKind name k
+    → is_type reg k ≡ true → ReadsKinds reg read → Typed reg ps
     → on_ok {B = Plain × List Placed} (tuple_of read (member_kinds reg name) ps) (λ y. Ok (v.tuple name (plains y.0), y.1)) ≡ Ok (x, rest) → IsTypedRead reg k x ps rest
 unfolding Fits tokens_of refs
 struct_sound reg read k name ps rest x kind_it type reads typed e = by_all (tuple_of read (member_kinds reg name) ps) refl
@@ -640,13 +669,15 @@ struct_sound reg read k name ps rest x kind_it type reads typed e = by_all (tupl
         subst (λ r. IsTypedRead reg k x ps r) parts.1 (subst (λ z. IsTypedRead reg k z ps y.1) parts.0 all)
     by_all (Err f) one = absurd (not_ok f (x, rest) (rw one at e))
 
-sequence_step : (reg : List Entity) (read : Kind → Reads Plain) (k : Kind) (ps rest : List Placed) (x : Plain) → is_type reg (kd.sequence k) ≡ true → ReadsKinds reg read → Typed reg ps → value_step reg read (kd.sequence k) ps ≡ Ok (x, rest)
+sequence_step : (reg : List Entity) (read : Kind → Reads Plain) (k : Kind) (ps rest : List Placed) (x : Plain) → is_type reg (kd.sequence k) ≡ true
+    → ReadsKinds reg read → Typed reg ps → value_step reg read (kd.sequence k) ps ≡ Ok (x, rest)
     → IsTypedRead reg (kd.sequence k) x ps rest
 unfolding value_step
 sequence_step reg read kd.byte ps rest x type reads typed e = bytes_sound reg ps rest x typed e
 sequence_step reg read k ps rest x type reads typed e = list_sound reg read k ps rest x (λ same. let bad : ⊥ = cc in bad) type reads typed e
 
-step_sound : (reg : List Entity) (read : Kind → Reads Plain) (k : Kind) (ps rest : List Placed) (x : Plain) → is_type reg k ≡ true → ReadsKinds reg read → Typed reg ps → value_step reg read k ps ≡ Ok (x, rest) → IsTypedRead reg k x ps rest
+step_sound : (reg : List Entity) (read : Kind → Reads Plain) (k : Kind) (ps rest : List Placed) (x : Plain) → is_type reg k ≡ true
+    → ReadsKinds reg read → Typed reg ps → value_step reg read k ps ≡ Ok (x, rest) → IsTypedRead reg k x ps rest
 unfolding value_step
 step_sound reg read kd.any ps rest x type reads typed e = any_sound reg read ps rest x reads typed e
 step_sound reg read (kd.sequence k) ps rest x type reads typed e = sequence_step reg read k ps rest x type reads typed e

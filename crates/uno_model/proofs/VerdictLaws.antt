@@ -23,7 +23,8 @@ wrong_or_right w y e = cc
 pub found_is_literal : (reg : List Entity) (k : Kind) (text : List ℕ) (v : Plain) → list_all is_named reg ≡ true → verdict reg k text ≡ Ok v → IsLiteral reg k text v
 found_is_literal reg k text v named_all e = by_judgement (judge reg text) refl
   where
-    by_rest : (ps : List Placed) (x : Plain) (rest : List Placed) → AreTokens reg text ps → value_within deepest reg k ps ≡ Ok (x, rest) → whole_verdict (length text) (x, rest) ≡ Ok v → IsLiteral reg k text v
+    by_rest : (ps : List Placed) (x : Plain) (rest : List Placed) → AreTokens reg text ps → value_within deepest reg k ps ≡ Ok (x, rest)
+        → whole_verdict (length text) (x, rest) ≡ Ok v → IsLiteral reg k text v
     by_rest ps x [] are read says =
         let same : x ≡ v = cc in
         let is = within_sound deepest reg k ps [] x are.typed read in
@@ -31,7 +32,8 @@ found_is_literal reg k text v named_all e = by_judgement (judge reg text) refl
         subst (λ y. IsLiteral reg k text y) same (record { fits = is.fits; closed = is.closed; printed = whole })
     by_rest ps x (p ∷ rest) are read says = absurd (wrong_or_right (wrong_type (length text - p.left)) v says)
 
-    by_reading : (ps : List Placed) (m : Result (Plain × List Placed) Fault) → AreTokens reg text ps → value_within deepest reg k ps ≡ m → of_reading (length text) m ≡ Ok v → IsLiteral reg k text v
+    by_reading : (ps : List Placed) (m : Result (Plain × List Placed) Fault) → AreTokens reg text ps → value_within deepest reg k ps ≡ m
+        → of_reading (length text) m ≡ Ok v → IsLiteral reg k text v
     by_reading ps (Ok x) are read says = by_rest ps x.0 x.1 are read says
     by_reading ps (Err deep) are read says = absurd (wrong_or_right too_deep v says)
     by_reading ps (Err (misfit left)) are read says = absurd (wrong_or_right (wrong_type (length text - left)) v says)
@@ -41,7 +43,8 @@ found_is_literal reg k text v named_all e = by_judgement (judge reg text) refl
     by_judgement (Err left) judged = absurd (wrong_or_right (bad (length text - left)) v (rw judged at e))
 
 -- the value of which a text is the literal is the one that is found, unless it is nested too deep
-pub literal_is_found : (reg : List Entity) (k : Kind) (text : List ℕ) (v : Plain) → IsSound reg → IsLiteral reg k text v → IsSized v → (verdict reg k text ≡ Ok v) ⊎ (verdict reg k text ≡ Err too_deep)
+pub literal_is_found : (reg : List Entity) (k : Kind) (text : List ℕ) (v : Plain) → IsSound reg → IsLiteral reg k text v → IsSized v
+    → (verdict reg k text ≡ Ok v) ⊎ (verdict reg k text ≡ Err too_deep)
 literal_is_found reg k text v sound is sized =
     let at = literal_tokens reg v k sound is.fits is.closed sized in
     let judged : judge reg text ≡ Ok at.0 = ap (judge reg) is.printed ∙ at.2 in

@@ -20,7 +20,8 @@ pub all_in_front : (old new : Option (List ℕ)) (bytes : List ℕ) → Appends 
 all_in_front old new bytes grown = record { front = bytes; rest = []; split = sym (append-nil bytes); grown = grown }
 
 -- the answers to the longest talk were written
-pub all_written : (tag bytes : List ℕ) (old new : Option (List ℕ)) (place : ℕ) (behind : Behind) (ms : List First) (rest : List ℕ) → IsTag tag → AnsweredAll tag bytes old new place behind
+pub all_written : (tag bytes : List ℕ) (old new : Option (List ℕ)) (place : ℕ) (behind : Behind) (ms : List First) (rest : List ℕ) → IsTag tag
+    → AnsweredAll tag bytes old new place behind
     → IsLongest tag bytes ms rest → Appends old new (answered tag ms)
 all_written tag bytes old new place behind ms rest is all longest =
     subst (λ ns. Appends old new (answered tag ns)) (one_longest tag bytes all.talk ms all.rest rest is all.longest longest).0 all.written

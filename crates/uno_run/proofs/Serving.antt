@@ -1,5 +1,7 @@
 -- How far the answering has come: a talk was answered, and goes on with one more request, or ends.
-use Rattle.std.proofs.Common.{◌≡◌, ◌≢◌, ℕ, ◌+◌, ◌-◌, ◌<◌, Bool, true, false, nat_eq, List, [], ◌∷◌, ◌++◌, length, Option, refl, sym, ap, subst, ◌∙◌, append_assoc, append-nil, arith, length-append}
+use Rattle.std.proofs.Common.{
+  ◌≡◌, ◌≢◌, ℕ, ◌+◌, ◌-◌, ◌<◌, Bool, true, false, nat_eq, List, [], ◌∷◌, ◌++◌, length, Option, refl, sym, ap, subst, ◌∙◌, append_assoc, append-nil,
+  arith, length-append}
 use Rattle.std.specs.Io.KnownBytes.{Appends}
 use Rattle.std.proofs.KnownBytes.{Appends-nil, Appends-trans}
 use Rattle.std.proofs.lemmas.List.{flat_map_more, nil_from_length}
@@ -31,7 +33,8 @@ serves_nothing tag bytes end taken same begun =
     record { talk = []; begins = record { talk = tt; split = refl }; same_tag = same; same_begun = begun; written = Appends-nil taken }
 
 -- a block that asks something is that request's block
-asks_request : (tag : List ℕ) (end : Answering) (count : ℕ) (body rest behind : List ℕ) (m : First) → end.tag ≡ tag → Asks end count body m → rest ≡ spell_block count body ++ behind
+asks_request : (tag : List ℕ) (end : Answering) (count : ℕ) (body rest behind : List ℕ) (m : First) → end.tag ≡ tag → Asks end count body m
+    → rest ≡ spell_block count body ++ behind
     → rest ≡ request tag m ++ behind
 asks_request tag end count body rest behind m same asks e =
     e ∙ ap (λ n. spell_block n body ++ behind) asks.one ∙ ap (λ b. spell_block 1 b ++ behind) (asks.read ∙ ap (λ t. request_body t m) same)

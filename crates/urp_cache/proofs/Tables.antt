@@ -23,7 +23,8 @@ pub new_means : {Z : Type 0} (names : List (Option (Vec ℕ Z))) (n : ℕ) → n
 new_means names n all low high = subst (λ table. Means table []) (sym (new_table names n all low high)) means_nothing
 
 -- the table after one more announcement
-pub set_table : {Z : Type 0} (table : List (Option (List ℕ))) (names : List (Option (Vec ℕ Z))) (slot : ℕ) (k : Vec ℕ Z) (name : List ℕ) → plain_names names ≡ table → k.items ≡ name → plain_names (set names slot (Some k)) ≡ announced slot name table
+pub set_table : {Z : Type 0} (table : List (Option (List ℕ))) (names : List (Option (Vec ℕ Z))) (slot : ℕ) (k : Vec ℕ Z) (name : List ℕ)
+    → plain_names names ≡ table → k.items ≡ name → plain_names (set names slot (Some k)) ≡ announced slot name table
 unfolding announced plain_names
 set_table {Z = Z} table names slot k name view is = map-set {A = Option (Vec ℕ Z)} {B = Option (List ℕ)} (option_map (λ v. v.items)) names slot (Some k) ∙ (ap (λ t. set t slot (Some k.items)) view ∙ ap (λ n. set table slot (Some n)) is)
 
@@ -35,6 +36,7 @@ next_means table next slot k name announcements new is means =
 pub after_write : {Z : Type 0} (names : List (Option (Vec ℕ Z))) (slot : ℕ) (k : Vec ℕ Z) → announced slot k.items (plain_names names) ≡ plain_names (set names slot (Some k))
 after_write names slot k = sym (set_table (plain_names names) names slot k k.items refl refl)
 
-pub name_at : {Z : Type 0} (names : List (Option (Vec ℕ Z))) (slot : ℕ) → slot < length names → get_or (plain_names names) slot None ≡ option_map (λ v. v.items) (get_or names slot None)
+pub name_at : {Z : Type 0} (names : List (Option (Vec ℕ Z))) (slot : ℕ) → slot < length names
+    → get_or (plain_names names) slot None ≡ option_map (λ v. v.items) (get_or names slot None)
 unfolding plain_names
 name_at {Z = Z} names slot inside = get_or-map {X = Option (Vec ℕ Z)} {Y = Option (List ℕ)} (option_map (λ v. v.items)) names slot None None inside

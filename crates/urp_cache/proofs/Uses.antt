@@ -26,12 +26,14 @@ module _ {Z : Type 0} (name : List ℕ) (held : List (List ℕ × ℕ)) (c d : L
   again_kept told new = kept name held d (ap (λ x. x.cap) new ∙ is.0) (subst CanBeHeld view is.1) (again_used told new)
 
   -- after `put`
-  pub anew_used : (k : Vec ℕ Z) (s : ℕ) → k.items ≡ name → s ≡ next_slot held → holds name held ≡ false → d ≡ lru_cache (put_entries (λ x y. bytes_eq x.items y.items) c k s) c.cap → plain d.entries ≡ used name held
+  pub anew_used : (k : Vec ℕ Z) (s : ℕ) → k.items ≡ name → s ≡ next_slot held → holds name held ≡ false
+      → d ≡ lru_cache (put_entries (λ x y. bytes_eq x.items y.items) c k s) c.cap → plain d.entries ≡ used name held
   anew_used k s key slot told new =
       let entries : plain d.entries ≡ plain (put_entries (λ x y. bytes_eq x.items y.items) c k s) = ap (λ x. plain x.entries) new in
       let absent : holds name (plain c.entries) ≡ false = subst (λ h. holds name h ≡ false) (sym view) told in
       let taken : s ≡ slot_for name (plain c.entries) = slot ∙ (sym (absent_next name held told) ∙ ap (slot_for name) (sym view)) in
       entries ∙ (used_anew name c k s is.0 key taken absent ∙ ap (used name) view)
 
-  pub anew_kept : (k : Vec ℕ Z) (s : ℕ) → k.items ≡ name → s ≡ next_slot held → holds name held ≡ false → d ≡ lru_cache (put_entries (λ x y. bytes_eq x.items y.items) c k s) c.cap → IsSender d
+  pub anew_kept : (k : Vec ℕ Z) (s : ℕ) → k.items ≡ name → s ≡ next_slot held → holds name held ≡ false
+      → d ≡ lru_cache (put_entries (λ x y. bytes_eq x.items y.items) c k s) c.cap → IsSender d
   anew_kept k s key slot told new = kept name held d (ap (λ x. x.cap) new ∙ is.0) (subst CanBeHeld view is.1) (anew_used k s key slot told new)

@@ -74,7 +74,8 @@ query_refused body rest tid back other p q differs e =
     differs (same_texts tid other back query_back same).1
 
 -- parts of a call of `twice` that were read are one
-pub twice_read : (tag body r s t u : List ℕ) (a : ℤ) → body ≡ twice_front ++ r → r ≡ ((length tag + 2) ∷ []) ++ s → s ≡ tag ++ t → t ≡ twice_middle ++ u → u ≡ twice_argument a → body ≡ request_body tag (Twice a)
+pub twice_read : (tag body r s t u : List ℕ) (a : ℤ) → body ≡ twice_front ++ r → r ≡ ((length tag + 2) ∷ []) ++ s → s ≡ tag ++ t
+    → t ≡ twice_middle ++ u → u ≡ twice_argument a → body ≡ request_body tag (Twice a)
 twice_read tag body r s t u a p q v w z =
     p ∙ ap (λ x. twice_front ++ x) (q ∙ ap (λ x. ((length tag + 2) ∷ []) ++ x) (v ∙ ap (λ x. tag ++ x) (w ∙ ap (λ x. twice_middle ++ x) z))) ∙ sym (request_body-twice tag a)
 
@@ -85,10 +86,12 @@ after_front tag body r a p e = behind_front body twice_front r (twice_after_fron
 pub after_length : (tag body r s : List ℕ) (a : ℤ) → body ≡ twice_front ++ r → r ≡ ((length tag + 2) ∷ []) ++ s → body ≡ request_body tag (Twice a) → s ≡ twice_after_length tag a
 after_length tag body r s a p q e = behind_front r ((length tag + 2) ∷ []) s (twice_after_length tag a) q (after_front tag body r a p e)
 
-pub after_tag : (tag body r s t : List ℕ) (a : ℤ) → body ≡ twice_front ++ r → r ≡ ((length tag + 2) ∷ []) ++ s → s ≡ tag ++ t → body ≡ request_body tag (Twice a) → t ≡ twice_after_tag a
+pub after_tag : (tag body r s t : List ℕ) (a : ℤ) → body ≡ twice_front ++ r → r ≡ ((length tag + 2) ∷ []) ++ s → s ≡ tag ++ t
+    → body ≡ request_body tag (Twice a) → t ≡ twice_after_tag a
 after_tag tag body r s t a p q v e = behind_front s tag t (twice_after_tag a) v (after_length tag body r s a p q e)
 
-pub after_oid : (tag body r s t u : List ℕ) (a : ℤ) → body ≡ twice_front ++ r → r ≡ ((length tag + 2) ∷ []) ++ s → s ≡ tag ++ t → t ≡ twice_middle ++ u → body ≡ request_body tag (Twice a) → u ≡ twice_argument a
+pub after_oid : (tag body r s t u : List ℕ) (a : ℤ) → body ≡ twice_front ++ r → r ≡ ((length tag + 2) ∷ []) ++ s → s ≡ tag ++ t
+    → t ≡ twice_middle ++ u → body ≡ request_body tag (Twice a) → u ≡ twice_argument a
 after_oid tag body r s t u a p q v w e = behind_front t twice_middle u (twice_argument a) w (after_tag tag body r s t a p q v e)
 
 -- a long whose double is a long fits a long

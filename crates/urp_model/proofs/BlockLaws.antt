@@ -1,5 +1,7 @@
 -- A block's bytes say where it ends, so one block stands at the front of a list.
-use Rattle.std.proofs.Common.{◌≡◌, ℕ, zero, suc, ◌+◌, ◌^◌, ◌<◌, ◌≤◌, List, [], ◌∷◌, ◌++◌, length, take, drop, refl, sym, ap, subst, ◌∙◌, append_assoc, arith, length-append, length-take, length-drop, take-append-drop}
+use Rattle.std.proofs.Common.{
+  ◌≡◌, ℕ, zero, suc, ◌+◌, ◌^◌, ◌<◌, ◌≤◌, List, [], ◌∷◌, ◌++◌, length, take, drop, refl, sym, ap, subst, ◌∙◌, append_assoc, arith, length-append,
+  length-take, length-drop, take-append-drop}
 use Rattle.std.proofs.lemmas.List.{drop-drop, get_or-drop, length-take-le}
 use Rattle.std.proofs.lemmas.Nat.{be_bytes_4, from_be_bytes-to_be_bytes_4}
 use Rattle.std.specs.Int.{w32, to_be_bytes, from_be_bytes}
@@ -11,7 +13,8 @@ pub same_numbers : (m n : ℕ) → m < 2 ^ 32 → n < 2 ^ 32 → to_be_bytes w32
 same_numbers m n p q e = sym (from_be_bytes-to_be_bytes_4 m p) ∙ ap (from_be_bytes w32) e ∙ from_be_bytes-to_be_bytes_4 n q
 
 -- two parts of known lengths, and what stands behind them
-two_parts : {A : Type 0} (a b c d x y r t : List A) → length a ≡ length c → length b ≡ length d → (a ++ (b ++ x)) ++ r ≡ (c ++ (d ++ y)) ++ t → (a ≡ c) × (b ≡ d) × (x ++ r ≡ y ++ t)
+two_parts : {A : Type 0} (a b c d x y r t : List A) → length a ≡ length c → length b ≡ length d → (a ++ (b ++ x)) ++ r ≡ (c ++ (d ++ y)) ++ t
+    → (a ≡ c) × (b ≡ d) × (x ++ r ≡ y ++ t)
 two_parts a b c d x y r t p q e =
     let apart : a ++ (b ++ (x ++ r)) ≡ c ++ (d ++ (y ++ t)) = simp append_assoc at e in
     let first = same_fronts a c (b ++ (x ++ r)) (d ++ (y ++ t)) p apart in
@@ -53,7 +56,8 @@ front_parts a b n s =
     sym (simp append_assoc (ap (λ x. take a s ++ (take b (drop a s) ++ x)) (last ∙ sym (drop-drop b a s)) ∙ ap (λ x. take a s ++ x) second ∙ take-append-drop a s))
 
 -- parts that are a size, a count and a body spell a block
-put_block : (f g body rest s : List ℕ) (size count : ℕ) → to_be_bytes w32 size ≡ f → to_be_bytes w32 count ≡ g → length body ≡ size → s ≡ (f ++ (g ++ body)) ++ rest → s ≡ spell_block count body ++ rest
+put_block : (f g body rest s : List ℕ) (size count : ℕ) → to_be_bytes w32 size ≡ f → to_be_bytes w32 count ≡ g → length body ≡ size
+    → s ≡ (f ++ (g ++ body)) ++ rest → s ≡ spell_block count body ++ rest
 unfolding spell_block
 put_block f g body rest s size count p q long e =
     e ∙ ap (λ h. (h ++ (g ++ body)) ++ rest) (sym (ap (to_be_bytes w32) long ∙ p)) ∙ ap (λ k. (to_be_bytes w32 (length body) ++ (k ++ body)) ++ rest) (sym q)

@@ -1,5 +1,7 @@
 -- What is spelled as a type is one of the registry, and what is spelled as an object is an identity.
-use Rattle.std.proofs.Common.{◌≡◌, ◌≢◌, ℕ, ◌≤◌, nat_le, nat_lt, Bool, true, false, ◌&&◌, List, [], ◌∷◌, length, get_or, set, replicate, None, Some, refl, sym, ◌∙◌, ap, subst, ◌⊎◌, inl, inr, if◌then◌else◌, arith}
+use Rattle.std.proofs.Common.{
+  ◌≡◌, ◌≢◌, ℕ, ◌≤◌, nat_le, nat_lt, Bool, true, false, ◌&&◌, List, [], ◌∷◌, length, get_or, set, replicate, None, Some, refl, sym, ◌∙◌, ap, subst,
+  ◌⊎◌, inl, inr, if◌then◌else◌, arith}
 use Rattle.std.proofs.lemmas.Bool.{and_parts, and_from, leb-true, le-leb, ltb-true, cases_eq, cases_lt}
 use Rattle.std.proofs.lemmas.List.{get_or-set_same, get_or-set_other, set_past, get_or-replicate}
 use Rattle.uno_model.specs.Entities.{Entity}
@@ -10,7 +12,9 @@ use Rattle.uno_model.specs.Sound.{kind_known, elements_plain, is_plain, is_namab
 use Rattle.uno_model.specs.Types.{is_type, is_formed}
 use Rattle.urp_model.specs.Carried.{MeansIdentities}
 use Rattle.urp_model.specs.NamedKinds.{is_simple}
-use Rattle.urp_model.specs.Spelling.{IsTextName, Spelled, SpellsKind, simple, SpellsName, SpellsOid, SpellsAll, SpellsEach, SpellsBytes, SpellsList, SpellsSequence, SpellsTuple, SpellsStep, Spells}
+use Rattle.urp_model.specs.Spelling.{
+  IsTextName, Spelled, SpellsKind, simple, SpellsName, SpellsOid, SpellsAll, SpellsEach, SpellsBytes, SpellsList, SpellsSequence, SpellsTuple,
+  SpellsStep, Spells}
 use Rattle.urp_model.specs.Spelling as spell
 use Rattle.urp_model.specs.Slots.{no_meanings, announced}
 use Rattle.urp_model.specs.Tables.{Table, no_tables, meaning, noted}
@@ -52,14 +56,16 @@ meaning_noted : (at slot : ℕ) (name oid : List ℕ) (table : Table) → meanin
 unfolding meaning noted announced
 meaning_noted at slot name oid table = by_slot (nat_lt slot 256)
   where
-    at_same : (t : Bool) → at ≡ slot → (if t then get_or (set table slot (Some name)) at None else None) ≡ Some oid → (name ≡ oid) ⊎ ((if t then get_or table at None else None) ≡ Some oid)
+    at_same : (t : Bool) → at ≡ slot → (if t then get_or (set table slot (Some name)) at None else None) ≡ Some oid
+        → (name ≡ oid) ⊎ ((if t then get_or table at None else None) ≡ Some oid)
     at_same false same is = absurd (none_some is)
     at_same true same is = elim (cases_lt slot (length table)) [
       | inl inside ↦ inl (same_some (sym (get_or-set_same table slot (Some name) None inside) ∙ ap (λ i. get_or (set table slot (Some name)) i None) (sym same) ∙ is))
       | inr past ↦ inr (ap (λ l. get_or l at None) (sym (set_past table slot (Some name) past)) ∙ is)
     ]
 
-    at_other : (t : Bool) → (at ≡ slot → ⊥) → (if t then get_or (set table slot (Some name)) at None else None) ≡ Some oid → (name ≡ oid) ⊎ ((if t then get_or table at None else None) ≡ Some oid)
+    at_other : (t : Bool) → (at ≡ slot → ⊥) → (if t then get_or (set table slot (Some name)) at None else None) ≡ Some oid
+        → (name ≡ oid) ⊎ ((if t then get_or table at None else None) ≡ Some oid)
     at_other false other is = absurd (none_some is)
     at_other true other is = inr (sym (get_or-set_other table slot at (Some name) None other) ∙ is)
 

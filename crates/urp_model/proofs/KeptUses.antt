@@ -1,5 +1,7 @@
 -- What a sender keeps of its uses agrees with the list of all uses, use by use.
-use Rattle.std.proofs.Common.{◌≡◌, ℕ, suc, ◌<◌, ◌≤◌, nat_lt, nat_eq, true, false, List, [], ◌∷◌, ◌++◌, length, get_or, take, set, cond, Some, None, is_some, refl, sym, ◌∙◌, ap, subst, arith, bytes_eq}
+use Rattle.std.proofs.Common.{
+  ◌≡◌, ℕ, suc, ◌<◌, ◌≤◌, nat_lt, nat_eq, true, false, List, [], ◌∷◌, ◌++◌, length, get_or, take, set, cond, Some, None, is_some, refl, sym, ◌∙◌, ap,
+  subst, arith, bytes_eq}
 use Rattle.std.specs.List.{AllByRecursion}
 use Rattle.std.specs.Map.{lookup, remove_entry}
 use Rattle.std.proofs.lemmas.Bool.{ltb-true, ltb-false, eqb-true, eqb-false}
@@ -7,7 +9,9 @@ use Rattle.std.proofs.lemmas.List.{length-set, take_all, take_at, get_or-set_sam
 use Rattle.std.proofs.lemmas.Slice.Eq.{bytes_eq-Decides}
 use Rattle.urp_model.specs.Held.{holds}
 use Rattle.urp_model.specs.Slots.{age, stalest, is_among}
-use Rattle.urp_model.proofs.Entries.{all_at_last, all_before, all_taken, all_weaker, all_left, one_less, none_less, all_found, found_left, found_before, Grows, grows_taken, grows_left, others_left, last_is_above, grows_again}
+use Rattle.urp_model.proofs.Entries.{
+  all_at_last, all_before, all_taken, all_weaker, all_left, one_less, none_less, all_found, found_left, found_before, Grows, grows_taken, grows_left,
+  others_left, last_is_above, grows_again}
 use Rattle.urp_model.proofs.NamesInSlots.{among_at_place, not_among, stalest_place}
 
 -- a name stands at a slot
@@ -44,7 +48,8 @@ one_older uses name q other = (elim (bytes_eq q name) as (λ y. bytes_eq q name 
 ]) refl
 
 -- the order of the entries after one more use
-pub still_older : (uses : List (List ℕ)) (name : List ℕ) (s : ℕ) (held : List (List ℕ × ℕ)) → Grows (age uses) held → Grows (age (name ∷ uses)) ((name, s) ∷ take 255 (remove_entry (bytes_eq name) held))
+pub still_older : (uses : List (List ℕ)) (name : List ℕ) (s : ℕ) (held : List (List ℕ × ℕ)) → Grows (age uses) held
+    → Grows (age (name ∷ uses)) ((name, s) ∷ take 255 (remove_entry (bytes_eq name) held))
 still_older uses name s held grows =
     let rest = remove_entry (bytes_eq name) held in
     let others = all_taken (λ e. name ≡ e.0 → ⊥) 255 rest (others_left bytes_eq bytes_eq-Decides (age uses) name held grows) in
@@ -52,7 +57,8 @@ still_older uses name s held grows =
     grows_again (age uses) (age (name ∷ uses)) name s (take 255 rest) (now_youngest uses name) (one_older uses name) others ordered
 
 -- a name that is found in front, or behind
-front_or_rest : (n name : List ℕ) (s t : ℕ) (rest : List (List ℕ × ℕ)) → (n ≡ name → t ≡ s) → ((n ≡ name → ⊥) → lookup (bytes_eq n) rest ≡ Some t) → lookup (bytes_eq n) ((name, s) ∷ rest) ≡ Some t
+front_or_rest : (n name : List ℕ) (s t : ℕ) (rest : List (List ℕ × ℕ)) → (n ≡ name → t ≡ s) → ((n ≡ name → ⊥) → lookup (bytes_eq n) rest ≡ Some t)
+    → lookup (bytes_eq n) ((name, s) ∷ rest) ≡ Some t
 front_or_rest n name s t rest front behind = (elim (bytes_eq n name) as (λ y. bytes_eq n name ≡ y → cond y (Some s) (lookup (bytes_eq n) rest) ≡ Some t) [
   | true ↦ λ told. let here = front ((bytes_eq-Decides n name).0 told) in cc
   | false ↦ λ told. behind (λ is. let bad : false ≡ true = sym told ∙ (bytes_eq-Decides n name).1 is in absurd cc)

@@ -13,7 +13,8 @@ unfolding value_at
 value_at-deep reg k s bs = refl
 
 -- one level is taken
-pub value_at-level : (levels : ℕ) (reg : List Entity) (k : Kind) (s : Tables) (bs : List ℕ) → 0 < levels → value_at levels reg k s bs ≡ value_step reg (value_at (levels - 1) reg) k s bs
+pub value_at-level : (levels : ℕ) (reg : List Entity) (k : Kind) (s : Tables) (bs : List ℕ) → 0 < levels
+    → value_at levels reg k s bs ≡ value_step reg (value_at (levels - 1) reg) k s bs
 unfolding value_at
 value_at-level zero reg k s bs some = absurd (omega arith)
 value_at-level (suc levels) reg k s bs some = let one : suc levels - 1 ≡ levels = omega arith in rw one refl

@@ -22,7 +22,8 @@ not_among name (n ∷ names) none = let rest = not_among name names (λ s inside
 ]) refl
 
 -- the place of a name is its only one
-pub only_place : (name : List ℕ) (names : List (List ℕ)) (s : ℕ) → s < length names → get_or names s [] ≡ name → ((t : ℕ) → t < length names → get_or names t [] ≡ name → t ≡ s) → place name names ≡ s
+pub only_place : (name : List ℕ) (names : List (List ℕ)) (s : ℕ) → s < length names → get_or names s [] ≡ name
+    → ((t : ℕ) → t < length names → get_or names t [] ≡ name → t ≡ s) → place name names ≡ s
 unfolding place
 only_place name [] s inside at only = let bad : ⊥ = omega arith in absurd bad
 only_place name (n ∷ names) zero inside at only = rw ((bytes_eq-Decides name n).1 (sym at)) refl
@@ -34,18 +35,22 @@ only_place name (n ∷ names) (suc s) inside at only =
     ]) refl
 
 -- none is older than one that is older than all others
-pub none_older : (uses : List (List ℕ)) (name : List ℕ) (names : List (List ℕ)) → ((t : ℕ) → t < length names → age uses (get_or names t []) < age uses name) → list_all (λ other. nat_le (age uses other) (age uses name)) names ≡ true
+pub none_older : (uses : List (List ℕ)) (name : List ℕ) (names : List (List ℕ))
+    → ((t : ℕ) → t < length names → age uses (get_or names t []) < age uses name)
+    → list_all (λ other. nat_le (age uses other) (age uses name)) names ≡ true
 none_older uses name [] below = refl
 none_older uses name (n ∷ names) below = let rest = none_older uses name names (λ t inside. below (suc t) (omega arith)) in let first = below 0 (omega arith) in rw (le-leb (age uses n) (age uses name) (omega arith)) rest
 
 -- one is older than some of these, where it is older than the one at a place
-pub some_older : (uses : List (List ℕ)) (name : List ℕ) (names : List (List ℕ)) (t : ℕ) → t < length names → age uses name < age uses (get_or names t []) → list_all (λ other. nat_le (age uses other) (age uses name)) names ≡ false
+pub some_older : (uses : List (List ℕ)) (name : List ℕ) (names : List (List ℕ)) (t : ℕ) → t < length names
+    → age uses name < age uses (get_or names t []) → list_all (λ other. nat_le (age uses other) (age uses name)) names ≡ false
 some_older uses name [] t inside above = let bad : ⊥ = omega arith in absurd bad
 some_older uses name (n ∷ names) zero inside above = rw (lt-leb (age uses n) (age uses name) above) refl
 some_older uses name (n ∷ names) (suc t) inside above = let rest = some_older uses name names t (omega arith) above in (elim (nat_le (age uses n) (age uses name)) as (λ y. (y && list_all (λ other. nat_le (age uses other) (age uses name)) names) ≡ false) [ true ↦ rest | false ↦ refl ])
 
 -- the place of the one that is older than all others
-pub stalest_place : (uses : List (List ℕ)) (names : List (List ℕ)) (s : ℕ) → s < length names → ((t : ℕ) → t < length names → (t ≡ s → ⊥) → age uses (get_or names t []) < age uses (get_or names s [])) → stalest uses names ≡ s
+pub stalest_place : (uses : List (List ℕ)) (names : List (List ℕ)) (s : ℕ) → s < length names
+    → ((t : ℕ) → t < length names → (t ≡ s → ⊥) → age uses (get_or names t []) < age uses (get_or names s [])) → stalest uses names ≡ s
 unfolding stalest
 stalest_place uses [] s inside below = let bad : ⊥ = omega arith in absurd bad
 stalest_place uses (n ∷ names) zero inside below = let all = none_older uses n names (λ t within. below (suc t) (omega arith) (λ is. cc)) in rw all refl

@@ -1,5 +1,7 @@
 -- Objects and threads are read as they are spelled.
-use Rattle.std.proofs.Common.{◌≡◌, ◌≢◌, ℕ, ◌<◌, Bool, true, false, ◌==◌, nat_lt, List, [], ◌∷◌, ◌++◌, length, get_or, Option, None, Some, if◌then◌else◌, refl, sym, ap, subst, ◌∙◌, inr, arith}
+use Rattle.std.proofs.Common.{
+  ◌≡◌, ◌≢◌, ℕ, ◌<◌, Bool, true, false, ◌==◌, nat_lt, List, [], ◌∷◌, ◌++◌, length, get_or, Option, None, Some, if◌then◌else◌, refl, sym, ap, subst,
+  ◌∙◌, inr, arith}
 use Rattle.std.proofs.lemmas.Bool.{eqb-true, and_parts, ltb-true, false_from_ne_true}
 use Rattle.std.proofs.lemmas.List.{append-nil, nil_from_length}
 use Rattle.std.specs.Int.{w16}
@@ -14,7 +16,8 @@ use Rattle.urp_model.proofs.PartLaws.{name_agrees, text_name_agrees, slot_agrees
 
 module _ (IsName : List ℕ → List ℕ → Type 0) (table : Table) where
   -- what a name and its slot say is spelled by them
-  pub named_spells : (name p q b : List ℕ) (slot : ℕ) (y : List ℕ × Table) → b ≡ p ++ q → IsName p name → IsSlot q slot → named table name slot ≡ Some y → SpellsName IsName table y.0 b y.1
+  pub named_spells : (name p q b : List ℕ) (slot : ℕ) (y : List ℕ × Table) → b ≡ p ++ q → IsName p name → IsSlot q slot
+      → named table name slot ≡ Some y → SpellsName IsName table y.0 b y.1
   unfolding named
   named_spells [] p q b slot y split name_is slot_is is = by_meaning (meaning slot table) refl is
     where

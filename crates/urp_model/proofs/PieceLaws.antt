@@ -73,7 +73,8 @@ abbrev pub KindCarried : List Entity → Table → Kind → List ℕ → Names �
 KindCarried reg table k b held = (after : Table) × SpellsKind reg table k b after × Corresponds after held
 
 module _ (reg : List Entity) (table : Table) (k : Kind) (held : Names) (named : list_all is_named reg ≡ true) (is : is_type reg k ≡ true) (c : Corresponds table held) where
-  held_kind : is_simple k ≡ false → holds (name_of k) held ≡ true → KindCarried reg table k (class_code (class_of k) ∷ slot_bytes (slot_for (name_of k) held)) (used (name_of k) held)
+  held_kind : is_simple k ≡ false → holds (name_of k) held ≡ true
+      → KindCarried reg table k (class_code (class_of k) ∷ slot_bytes (slot_for (name_of k) held)) (used (name_of k) held)
   held_kind other there =
       let name = name_of k in (
         table,

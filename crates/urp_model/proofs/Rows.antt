@@ -23,7 +23,8 @@ unfolding value_at value_step bytes_at raw_at length_at byte_at
 bytes_row s = refl
 
 -- two longs
-longs_row : (s : Tables) → value_at 3 [] (kd.sequence kd.long) s (2 ∷ 0 ∷ 0 ∷ 0 ∷ 1 ∷ 255 ∷ 255 ∷ 255 ∷ 255 ∷ []) ≡ Ok (plain.list kd.long (more (plain.long (pos 1)) (more (plain.long (negsuc 0)) none)), s, [])
+longs_row : (s : Tables)
+    → value_at 3 [] (kd.sequence kd.long) s (2 ∷ 0 ∷ 0 ∷ 0 ∷ 1 ∷ 255 ∷ 255 ∷ 255 ∷ 255 ∷ []) ≡ Ok (plain.list kd.long (more (plain.long (pos 1)) (more (plain.long (negsuc 0)) none)), s, [])
 unfolding value_at value_step list_at elements_at length_at byte_at number_at
 longs_row s = refl
 

@@ -9,7 +9,9 @@ use Rattle.uno_model.specs.Kinds.{Kind}
 use Rattle.uno_model.specs.Kinds as kd
 use Rattle.uno_model.specs.Recast.{recast, recast_each, recast_all}
 use Rattle.uno_model.specs.Sound.{is_named}
-use Rattle.uno_model.specs.Values.{Plain, Plains, depth, depth_in, void, char, boolean, byte, short, unsigned_short, long, unsigned_long, hyper, unsigned_hyper, str, kind, any, enum, tuple, list, bytes, ref, none, more}
+use Rattle.uno_model.specs.Values.{
+  Plain, Plains, depth, depth_in, void, char, boolean, byte, short, unsigned_short, long, unsigned_long, hyper, unsigned_hyper, str, kind, any, enum,
+  tuple, list, bytes, ref, none, more}
 use Rattle.uno_model.specs.Weights.{count}
 use Rattle.urp_model.specs.Carried.{abroad, abroad_each, carried, IsSpellable, AreSpellable, AllCorrespond}
 use Rattle.urp_model.specs.Spelling.{SpellsAll, SpellsEach, SpellsStep, Spells}
@@ -52,7 +54,8 @@ module _ (reg : List Entity) (named : list_all is_named reg ≡ true) where
   mutual
     unfolding recast recast_each recast_all abroad abroad_each spelling spellings after afters Spells SpellsStep SpellsAll SpellsEach Fits FitEach FitAll IsSpellable AreSpellable IsSized AreSized depth depth_in
 
-    pub value_sent : (v : Plain) (d : ℕ) (k : Kind) (s : Tables) (h : HeldNames) → depth v ≤ d → Fits reg v k → IsSpellable v → IsSized v → AllCorrespond s h → Carries reg d k s v h
+    pub value_sent : (v : Plain) (d : ℕ) (k : Kind) (s : Tables) (h : HeldNames) → depth v ≤ d → Fits reg v k → IsSpellable v → IsSized v
+        → AllCorrespond s h → Carries reg d k s v h
     value_sent v zero k s h deep fits ranged sized c = let some = some_depth v in absurd (omega arith)
     value_sent void (suc d) k s h deep fits ranged sized c = leaf (suc d) k kd.void s void h fits (s, (refl, refl, refl), c)
     value_sent (char n) (suc d) k s h deep fits ranged sized c = leaf (suc d) k kd.char s (char n) h fits (s, (n, refl, number_2 n ranged, refl), c)

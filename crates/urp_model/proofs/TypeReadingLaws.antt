@@ -171,7 +171,8 @@ AtByte reg table = Then (λ b used. used ≡ b ∷ []) (BehindByte reg table)
 at_byte : (reg : List Entity) (table : Table) (b : ℕ) (x : Kind × Table) (used q : List ℕ) → used ≡ b ∷ q → BehindByte reg table b x q → AtByte reg table x used
 at_byte reg table b x used q split behind = (b, b ∷ [], q, split, refl, behind)
 
-kind_known_by : (reg : List Entity) (k : Kind) → list_all is_named reg ≡ true → is_type reg k ≡ true → (name : List ℕ) → name ≡ name_of k → kind_named reg (class_of k) name ≡ Some k
+kind_known_by : (reg : List Entity) (k : Kind) → list_all is_named reg ≡ true → is_type reg k ≡ true → (name : List ℕ) → name ≡ name_of k
+    → kind_named reg (class_of k) name ≡ Some k
 kind_known_by reg k named is name same = ap (kind_named reg (class_of k)) same ∙ kind_named_back reg k named is
 
 -- bytes that spell a type are read as it

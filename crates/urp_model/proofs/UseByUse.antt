@@ -32,7 +32,8 @@ with_new : (uses : List (List ℕ)) (name : List ℕ) (names : List (List ℕ)) 
 unfolding with_use
 with_new uses name names among room = rw (among, lt-ltb (length names) 256 room) refl
 
-with_over : (uses : List (List ℕ)) (name : List ℕ) (names : List (List ℕ)) → is_among name names ≡ false → 256 ≤ length names → with_use uses name names ≡ set names (stalest uses names) name
+with_over : (uses : List (List ℕ)) (name : List ℕ) (names : List (List ℕ)) → is_among name names ≡ false → 256 ≤ length names
+    → with_use uses name names ≡ set names (stalest uses names) name
 unfolding with_use
 with_over uses name names among full = rw (among, le-ltb (length names) 256 full) refl
 
@@ -41,18 +42,22 @@ last_apart : {E : Type 0} (d : E) (es : List E) → length es ≡ 256 → take 2
 last_apart d es long = sym (take_more es 255 d (omega arith)) ∙ take_all 256 es (omega arith)
 
 -- one use more
-use_again : (uses names : List (List ℕ)) (held : List (List ℕ × ℕ)) (name : List ℕ) (s : ℕ) → Agrees uses names held → lookup (bytes_eq name) held ≡ Some s → Agrees (name ∷ uses) (with_use uses name names) (used name held)
+use_again : (uses names : List (List ℕ)) (held : List (List ℕ × ℕ)) (name : List ℕ) (s : ℕ) → Agrees uses names held
+    → lookup (bytes_eq name) held ≡ Some s → Agrees (name ∷ uses) (with_use uses name names) (used name held)
 unfolding used
 use_again uses names held name s agrees look =
     rw (slot_again name held s look, with_again uses name names (is_there uses names held name agrees s look)) (held_again uses names held name s agrees look)
 
-use_new : (uses names : List (List ℕ)) (held : List (List ℕ × ℕ)) (name : List ℕ) → Agrees uses names held → lookup (bytes_eq name) held ≡ None → length held < 256 → Agrees (name ∷ uses) (with_use uses name names) (used name held)
+use_new : (uses names : List (List ℕ)) (held : List (List ℕ × ℕ)) (name : List ℕ) → Agrees uses names held → lookup (bytes_eq name) held ≡ None
+    → length held < 256 → Agrees (name ∷ uses) (with_use uses name names) (used name held)
 unfolding used
 use_new uses names held name agrees look room =
     let count = agrees.count in
     rw (slot_new name held look room, with_new uses name names (is_not_there uses names held name agrees look) (omega arith)) (held_new uses names held name agrees look room)
 
-use_over : (uses names : List (List ℕ)) (held front : List (List ℕ × ℕ)) (last : List ℕ × ℕ) (name : List ℕ) → front ++ last ∷ [] ≡ held → length front ≡ 255 → last ≡ get_or held 255 ([], 0) → Agrees uses names held → lookup (bytes_eq name) held ≡ None → 256 ≤ length held → Agrees (name ∷ uses) (with_use uses name names) (used name held)
+use_over : (uses names : List (List ℕ)) (held front : List (List ℕ × ℕ)) (last : List ℕ × ℕ) (name : List ℕ) → front ++ last ∷ [] ≡ held
+    → length front ≡ 255 → last ≡ get_or held 255 ([], 0) → Agrees uses names held → lookup (bytes_eq name) held ≡ None → 256 ≤ length held
+    → Agrees (name ∷ uses) (with_use uses name names) (used name held)
 unfolding used
 use_over uses names held front last name apart long is agrees look full =
     let count = agrees.count in
@@ -62,7 +67,8 @@ use_over uses names held front last name apart long is agrees look full =
     let goes = oldest_goes uses names front last name before none in
     rw (slot, with_over uses name names (is_not_there uses names held name agrees look) (omega arith), goes) (subst (λ es. Agrees (name ∷ uses) (set names last.1 name) ((name, last.1) ∷ take 255 (remove_entry (bytes_eq name) es))) apart (held_over uses names front last name before none long))
 
-use_full : (uses names : List (List ℕ)) (held : List (List ℕ × ℕ)) (name : List ℕ) → Agrees uses names held → lookup (bytes_eq name) held ≡ None → 256 ≤ length held → Agrees (name ∷ uses) (with_use uses name names) (used name held)
+use_full : (uses names : List (List ℕ)) (held : List (List ℕ × ℕ)) (name : List ℕ) → Agrees uses names held → lookup (bytes_eq name) held ≡ None
+    → 256 ≤ length held → Agrees (name ∷ uses) (with_use uses name names) (used name held)
 use_full uses names held name agrees look full =
     let few = agrees.few in
     let long = length-take 255 held in
@@ -88,7 +94,8 @@ unfolding used
 in_front name held = found_first bytes_eq bytes_eq-Decides name (name, slot_for name held) (take 255 (remove_entry (bytes_eq name) held)) refl
 
 -- so its slot is its place among the names in the slots
-taken_at : (uses names : List (List ℕ)) (held : List (List ℕ × ℕ)) (name : List ℕ) (s : ℕ) → Agrees uses names held → lookup (bytes_eq name) held ≡ Some s → (place name names ≡ s) × (s < 256)
+taken_at : (uses names : List (List ℕ)) (held : List (List ℕ × ℕ)) (name : List ℕ) (s : ℕ) → Agrees uses names held
+    → lookup (bytes_eq name) held ≡ Some s → (place name names ≡ s) × (s < 256)
 taken_at uses names held name s agrees look =
     let placed = all_found bytes_eq bytes_eq-Decides (IsAt names) name s held agrees.placed look in
     let within = placed.inside in

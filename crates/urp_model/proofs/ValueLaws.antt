@@ -1,5 +1,7 @@
 -- Values of all types are read as they are spelled.
-use Rattle.std.proofs.Common.{◌≡◌, ◌≢◌, ℕ, zero, suc, ◌<◌, Bool, true, false, ◌==◌, nat_lt, List, [], ◌∷◌, ◌++◌, length, Option, Result, Ok, if◌then◌else◌, refl, sym, ap, subst, ◌∙◌, ◌⊎◌, inl, inr, arith}
+use Rattle.std.proofs.Common.{
+  ◌≡◌, ◌≢◌, ℕ, zero, suc, ◌<◌, Bool, true, false, ◌==◌, nat_lt, List, [], ◌∷◌, ◌++◌, length, Option, Result, Ok, if◌then◌else◌, refl, sym, ap, subst,
+  ◌∙◌, ◌⊎◌, inl, inr, arith}
 use Rattle.std.specs.List.{list_all}
 use Rattle.std.proofs.lemmas.List.{append-nil}
 use Rattle.std.proofs.lemmas.Bool.{ltb-true}
@@ -190,7 +192,8 @@ any_value reg r S h s named =
 
 -- ---- all types
 
-step_agrees : (reg : List Entity) (r : Kind → Reads) (S : Kind → Spelled) → list_all is_named reg ≡ true → ((k : Kind) (s : Tables) → ReadsAs (r k s) (S k s)) → (k : Kind) (s : Tables)
+step_agrees : (reg : List Entity) (r : Kind → Reads) (S : Kind → Spelled) → list_all is_named reg ≡ true
+    → ((k : Kind) (s : Tables) → ReadsAs (r k s) (S k s)) → (k : Kind) (s : Tables)
     → ReadsAs (value_step reg r k s) (SpellsStep reg S k s)
 unfolding value_step SpellsStep
 step_agrees reg r S named h kd.void s =

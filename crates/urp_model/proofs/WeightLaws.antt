@@ -10,7 +10,9 @@ use Rattle.uno_model.specs.Weights.{compressed_weight, text_weight, kind_weight,
 use Rattle.urp_model.specs.Carried.{IsNewKind, IsNewRef, IsNew, AreNew}
 use Rattle.urp_model.specs.Held.{holds, slot_for}
 use Rattle.urp_model.specs.NamedKinds.{is_simple}
-use Rattle.urp_model.specs.Writing.{Names, HeldNames, holding_types, compressed, measured, slot_bytes, kind_written, kind_spelling, kind_after, name_spelling, ref_spelling, after, spelling, spellings}
+use Rattle.urp_model.specs.Writing.{
+  Names, HeldNames, holding_types, compressed, measured, slot_bytes, kind_written, kind_spelling, kind_after, name_spelling, ref_spelling, after,
+  spelling, spellings}
 
 -- ---- parts
 
@@ -61,7 +63,8 @@ written_long k slot = omega (arith, length-append (slot_bytes slot) (measured (n
 
 module _ (k : Kind) (held : Names) where
   -- the class and a slot, or all of it
-  by_held : (t : Bool) → length (if t then class_code (class_of k) ∷ slot_bytes (slot_for (name_of k) held) else kind_written k (slot_for (name_of k) held)) ≤ 3 + text_weight (name_of k)
+  by_held : (t : Bool)
+      → length (if t then class_code (class_of k) ∷ slot_bytes (slot_for (name_of k) held) else kind_written k (slot_for (name_of k) held)) ≤ 3 + text_weight (name_of k)
   by_held true = omega (arith, slot_long (slot_for (name_of k) held))
   by_held false = omega (arith, written_long k (slot_for (name_of k) held))
 

@@ -62,7 +62,8 @@ good_front s t good = record { size = λ long. small long; count = λ long. some
     some long = let same = count_said-append s t long in let said = good.count (more long) in rw same at said
 
 -- the two numbers of eight bytes, and their four bytes each
-pub read_header : (s behind : List ℕ) (size count : ℕ) → AreBytes s → length s ≤ 8 → behind ≡ drop 4 s → 4 ≤ length behind → size ≡ from_be_bytes w32 (take 4 s) → count ≡ from_be_bytes w32 (take 4 behind) → IsSaid s size count
+pub read_header : (s behind : List ℕ) (size count : ℕ) → AreBytes s → length s ≤ 8 → behind ≡ drop 4 s → 4 ≤ length behind
+    → size ≡ from_be_bytes w32 (take 4 s) → count ≡ from_be_bytes w32 (take 4 behind) → IsSaid s size count
 unfolding size_said count_said
 read_header s behind size count bytes most b long p q =
     let eight : length s ≡ 8 = omega (arith, ap length b, length-drop 4 s) in

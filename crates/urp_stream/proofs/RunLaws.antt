@@ -74,7 +74,8 @@ same_stream x y p q = ap (λ n. stream n x.held) p ∙ ap (stream y.place) q
     stream place held = record { place = place; held = held }
 
 -- and two runs over the same bytes agree
-pub runs_agree : (s : List ℕ) (given others : List PlacedBlock) (now other : Stream) → Run s given now → Run s others other → ¬ BeginsWhole now.held → ¬ BeginsWhole other.held → (given ≡ others) × (now ≡ other)
+pub runs_agree : (s : List ℕ) (given others : List PlacedBlock) (now other : Stream) → Run s given now → Run s others other → ¬ BeginsWhole now.held
+    → ¬ BeginsWhole other.held → (given ≡ others) × (now ≡ other)
 runs_agree s given others now other p q v w =
     let same = stands_as_one s given others now.held other.held (run_stands s given now p v) (run_stands s others other q w) in
     (same.0, same_stream now other ((run_keeps p).place ∙ ap (λ x. length (spell_blocks x)) same.0 ∙ sym (run_keeps q).place) same.1)

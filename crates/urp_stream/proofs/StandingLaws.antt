@@ -65,7 +65,8 @@ others_placed from b blocks placed before x after e =
     (rw (spell_blocks-cons b before) (omega arith)) (placed (b ∷ before) x after (ap (λ y. b ∷ y) e))
 
 -- a block at a place, and others from where it ends
-pub placed_cons : (from : ℕ) (b : PlacedBlock) (blocks : List PlacedBlock) → IsBlockAt from b → ArePlacedFrom (from + length (spell_block b.count b.body)) blocks → ArePlacedFrom from (b ∷ blocks)
+pub placed_cons : (from : ℕ) (b : PlacedBlock) (blocks : List PlacedBlock) → IsBlockAt from b
+    → ArePlacedFrom (from + length (spell_block b.count b.body)) blocks → ArePlacedFrom from (b ∷ blocks)
 placed_cons from b blocks is placed [] x after e =
     let same : b ≡ x = cc in
     at_place from (from + length (spell_blocks [])) x (rw spell_blocks-nil (omega arith)) (rw same at is)
@@ -143,7 +144,8 @@ pub blocks_and_more : (s more : List ℕ) (blocks : List PlacedBlock) (rest : Li
 blocks_and_more s more blocks rest are = record { whole = ap (λ x. x ++ more) are.whole ∙ append_assoc (spell_blocks blocks) rest more; placed = are.placed }
 
 -- and change no block before them
-pub later_bytes : (s more : List ℕ) (blocks others : List PlacedBlock) (rest other : List ℕ) → AreBlocksAnd s blocks rest → StandsAs (s ++ more) others other → (behind : List PlacedBlock) × (others ≡ blocks ++ behind)
+pub later_bytes : (s more : List ℕ) (blocks others : List PlacedBlock) (rest other : List ℕ) → AreBlocksAnd s blocks rest
+    → StandsAs (s ++ more) others other → (behind : List PlacedBlock) × (others ≡ blocks ++ behind)
 later_bytes s more blocks others rest other p q =
     let behind = blocks_more (s ++ more) blocks others (rest ++ more) other (blocks_and_more s more blocks rest p) q.blocks_first q.no_block in
     (behind.0, behind.1)

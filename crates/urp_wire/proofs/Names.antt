@@ -14,12 +14,14 @@ pub name_written : (name : List ℕ) (held : Names) (known : Known) (slot : ℕ)
 unfolding name_spelling
 name_written name held known slot a b c at was first second = rw (second, first, at, was, append_assoc) (by_held (holds name held))
   where
-    by_held : (t : Bool) → a ++ (name_or_nothing (known_if t) name ++ slot_bytes (slot_for name held)) ≡ a ++ ((if t then 0 ∷ [] else measured name) ++ slot_bytes (slot_for name held))
+    by_held : (t : Bool)
+        → a ++ (name_or_nothing (known_if t) name ++ slot_bytes (slot_for name held)) ≡ a ++ ((if t then 0 ∷ [] else measured name) ++ slot_bytes (slot_for name held))
     by_held true = refl
     by_held false = refl
 
 -- a type that is not simple; n and m are its name
-pub kind_is_written : (k : Kind) (held : Names) (known : Known) (class slot : ℕ) (n m a b : List ℕ) → is_simple k ≡ false → class ≡ class_code (class_of k) → n ≡ name_of k → m ≡ name_of k
+pub kind_is_written : (k : Kind) (held : Names) (known : Known) (class slot : ℕ) (n m a b : List ℕ) → is_simple k ≡ false
+    → class ≡ class_code (class_of k) → n ≡ name_of k → m ≡ name_of k
     → slot ≡ slot_for n held → known ≡ known_if (holds n held) → b ≡ a ++ class_and_name known class slot m → b ≡ a ++ kind_spelling k held
 unfolding kind_spelling kind_written
 kind_is_written k held known class slot n m a b named of first second at was is = rw (is, at, was, named, of, first, second) (by_held (holds (name_of k) held))

@@ -5,7 +5,8 @@ use Rattle.uno_model.specs.Kinds as kd
 use Rattle.uno_types.specs.TypeNames.{kind_step, kind_of}
 use Rattle.uno_types.specs.declared.type_name.TypeName.{TypeName}
 use Rattle.uno_types.specs.declared.type_name.TypeName.TheFolds.{fold-roll-TypeName}
-use Rattle.uno_types.specs.declared.type_name.TypeName.TheVariants.{UnsignedShort, UnsignedLong, UnsignedHyper, Sequence, rolls-UnsignedShort, rolls-UnsignedLong, rolls-UnsignedHyper, rolls-Sequence}
+use Rattle.uno_types.specs.declared.type_name.TypeName.TheVariants.{
+  UnsignedShort, UnsignedLong, UnsignedHyper, Sequence, rolls-UnsignedShort, rolls-UnsignedLong, rolls-UnsignedHyper, rolls-Sequence}
 
 pub kind_unsigned_short : kind_of UnsignedShort ≡ kd.unsigned_short
 kind_unsigned_short = ap kind_of (sym rolls-UnsignedShort) ∙ fold-roll-TypeName Kind kind_step _

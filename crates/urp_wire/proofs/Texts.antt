@@ -43,12 +43,14 @@ no_text_named reg c name sound other = by_found (kind_named reg c name) refl
 pub none_named : (reg : List Entity) (c : TypeClass) (name : List ℕ) → IsSound reg → ((k : Kind) → IsNamed reg name k → ⊥) → None ≡ kind_named reg c name
 none_named reg c name sound none = kind_told reg c name sound.named None none
 
-pub other_named : (reg : List Entity) (c : TypeClass) (name : List ℕ) (k : Kind) → IsSound reg → IsNamed reg name k → (class_code (class_of k) ≡ class_code c → ⊥) → None ≡ kind_named reg c name
+pub other_named : (reg : List Entity) (c : TypeClass) (name : List ℕ) (k : Kind) → IsSound reg → IsNamed reg name k
+    → (class_code (class_of k) ≡ class_code c → ⊥) → None ≡ kind_named reg c name
 other_named reg c name k sound is other =
     let test : (class_code (class_of k) == class_code c) ≡ false = ne_eqb _ _ other in
     rw (is.is, test) at (kind_told reg c name sound.named (Some k) is)
 
-pub same_named : (reg : List Entity) (c : TypeClass) (name : List ℕ) (k : Kind) → IsSound reg → IsNamed reg name k → class_code (class_of k) ≡ class_code c → Some k ≡ kind_named reg c name
+pub same_named : (reg : List Entity) (c : TypeClass) (name : List ℕ) (k : Kind) → IsSound reg → IsNamed reg name k
+    → class_code (class_of k) ≡ class_code c → Some k ≡ kind_named reg c name
 same_named reg c name k sound is same =
     let test : (class_code (class_of k) == class_code c) ≡ true = eq-eqb _ _ same in
     rw (is.is, test) at (kind_told reg c name sound.named (Some k) is)
