@@ -5,7 +5,7 @@ use crate::mark::Mark;
 use crate::stop::Stop;
 
 /// A node on the trail, and the place of the target that is looked at.
-#[derive(Clone, Copy, Debug)]
+#[derive(Clone, Copy)]
 pub(crate) struct Step {
     pub node: usize,
     pub place: usize,

@@ -1,5 +1,7 @@
 -- Whether a name is a base, where it is not there, by its mark, and over levels.
-use Rattle.std.proofs.Common.{◌≡◌, ◌≢◌, ℕ, zero, suc, ◌-◌, ◌<◌, Bool, true, false, ◌&&◌, ◌||◌, List, [], ◌∷◌, length, map, get_or, Option, None, Some, refl, sym, ap, subst, ◌∙◌, inl, inr, arith}
+use Rattle.std.proofs.Common.{
+  ◌≡◌, ◌≢◌, ℕ, zero, suc, ◌-◌, ◌<◌, Bool, true, false, ◌&&◌, ◌||◌, List, [], ◌∷◌, length, map, get_or, Option, None, Some, refl, sym, ap, subst, ◌∙◌,
+  inl, inr, arith}
 use Rattle.std.specs.Prelude.{Contains, slice_get, ◌↔◌}
 use Rattle.std.specs.List.{list_all, list_any}
 use Rattle.std.specs.Str.{bytes_eq}
@@ -7,7 +9,7 @@ use Rattle.std.proofs.lemmas.Option.{slice_get-get_or}
 use Rattle.std.proofs.lemmas.Slice.Eq.{bytes_eq-Decides}
 use Rattle.uno_model.specs.Circles.{Leads, step, on}
 use Rattle.uno_model.specs.Entities.{Entity, Base, Body, interface, struct, exception}
-use Rattle.uno_model.specs.Marks.{Marked, MarksBases}
+use Rattle.uno_model.specs.Marks.{MarksBases}
 use Rattle.uno_model.specs.Reaches.{reaches_within}
 use Rattle.uno_model.specs.Registry.{find_entity, at_most_one, stands_on, stands_on_body, IsBaseOf}
 use Rattle.uno_model.specs.Sound.{IsSound, is_there, is_interface, is_struct, is_exception, body_known}
@@ -16,7 +18,7 @@ use Rattle.uno_model.proofs.PlaceLaws.{contains_cases, at_slice}
 use Rattle.uno_model.proofs.ReachLaws.{found_place}
 use Rattle.uno_model.proofs.ReachesLaws.{required_named}
 use Rattle.uno_types.proofs.SpreadLemmas.{entity_at}
-use Rattle.uno_types.specs.Finding.{IsPlaceOf}
+use Rattle.uno_types.specs.Finding.{IsPlaceOf, IsBaseAt}
 
 -- one level, the last and any other
 pub last_level : (levels : ℕ) (reg : List Entity) (to from : List ℕ) → levels ≡ 0 → reaches_within levels reg to from ≡ bytes_eq from to
@@ -100,19 +102,24 @@ mark_there reg source target marks within below marked =
     let e = entity_at reg source within in
     omega (arith, below, (marked e.0 e.1).one_each)
 
--- the mark at a name's place says whether it is a base
-pub by_mark : (reg : List Entity) (to from : List ℕ) (source target : ℕ) (marks : List Bool) (mark : Bool) → IsPlaceOf from reg source → IsPlaceOf to reg target
-    → MarksAt reg source marks → mark ≡ get_or marks target mark → (mark ≡ true) ↔ IsBaseOf reg to from
-by_mark reg to from source target marks mark above below marked is =
-    let e = entity_at reg source above.within in
-    let f = entity_at reg target below.within in
-    let e_named = (found_place from reg e.0 (above.found ∙ e.1)).2 in
-    let f_named = (found_place to reg f.0 (below.found ∙ f.1)).2 in
+-- the mark at a place says whether the entity there is a base
+pub by_mark : (reg : List Entity) (source target : ℕ) (marks : List Bool) (mark : Bool) → source < length reg → target < length reg → MarksAt reg source marks
+    → mark ≡ get_or marks target mark → IsBaseAt reg source target mark
+by_mark reg source target marks mark within below marked is e f e_at f_at =
     let at : slice_get marks target ≡ Some mark =
-    slice_get-get_or marks target mark (mark_there reg source target marks above.within below.within marked) ∙ ap (λ t. Some t) (sym is) in
-    let both : Marked marks target ↔ IsBaseOf reg to from =
-    subst (λ n. Marked marks target ↔ IsBaseOf reg to n) e_named (subst (λ n. Marked marks target ↔ IsBaseOf reg n e.0.name) f_named ((marked e.0 e.1).marked target f.0 f.1)) in
+    slice_get-get_or marks target mark (mark_there reg source target marks within below marked) ∙ ap (λ t. Some t) (sym is) in
+    let both = (marked e e_at).marked target f f_at in
     (λ m. both.0 (at ∙ ap (λ t. Some t) m), λ base. same_mark mark true (sym at ∙ both.1 base))
   where
     same_mark : (a b : Bool) → Some a ≡ Some b → a ≡ b
     same_mark a b e = cc
+
+-- what holds at the places of two names holds of the names
+pub by_places : (reg : List Entity) (to from : List ℕ) (source target : ℕ) (test : Bool) → IsPlaceOf from reg source → IsPlaceOf to reg target
+    → IsBaseAt reg source target test → (test ≡ true) ↔ IsBaseOf reg to from
+by_places reg to from source target test above below holds =
+    let e = entity_at reg source above.within in
+    let f = entity_at reg target below.within in
+    let e_named = (found_place from reg e.0 (above.found ∙ e.1)).2 in
+    let f_named = (found_place to reg f.0 (below.found ∙ f.1)).2 in
+    subst (λ n. (test ≡ true) ↔ IsBaseOf reg to n) e_named (subst (λ n. (test ≡ true) ↔ IsBaseOf reg n e.0.name) f_named (holds e.0 f.0 e.1 f.1))

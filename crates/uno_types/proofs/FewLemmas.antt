@@ -1,9 +1,10 @@
 -- Which entities have few functions: what is marked by a search that found few, and what is known after each step.
 use Rattle.std.proofs.Common.{◌≡◌, ℕ, zero, suc, ◌+◌, ◌<◌, ◌≤◌, ◌-◌, ◌^◌, min, length, take, set, replicate, get_or, Bool}
 use Rattle.std.proofs.Common.{true, false, ◌||◌, List, [], ◌∷◌, refl, sym, ap, subst, ◌∙◌, ◌⊎◌, inl, inr, arith}
-use Rattle.std.specs.Prelude.{Some, slice_get, Contains, IsTrue, ◌↔◌}
+use Rattle.std.specs.Prelude.{Some, slice_get, Contains, IsTrue, ◌↔◌, if◌then◌else◌}
 use Rattle.std.proofs.lemmas.List.{length-map, length-replicate}
-use Rattle.std.proofs.lemmas.Option.{slice_get_within, get_or_from_slice_get}
+use Rattle.std.proofs.lemmas.Option.{slice_get_within, get_or_from_slice_get, slice_get-get_or}
+use borrow.Author.Count.{below_more}
 use Rattle.uno_model.specs.Circles.{Leads, step, on}
 use Rattle.uno_model.specs.Entities as plain
 use Rattle.uno_model.specs.Marks.{Marked, MarksBases}
@@ -49,27 +50,21 @@ one_marks reg name a b of_a of_b =
         let e = entity_at reg i (omega (arith, low, of_a.one_each)) in
         (λ m. (of_b.marked i e.0 e.1).1 ((of_a.marked i e.0 e.1).0 m), λ m. (of_a.marked i e.0 e.1).1 ((of_b.marked i e.0 e.1).0 m))
 
--- a count by marks that is low says that the entity at the place has few
-pub found_few : (reg : List plain.Entity) (place count : ℕ) (marks shown : List Bool)
+-- the marks of a search from a place say whether the entity there has few
+pub found_few : (reg : List plain.Entity) (place : ℕ) (few : Bool) (marks shown : List Bool) → place < length reg
     → ((e : plain.Entity) → slice_get reg place ≡ Some e → MarksBases reg e.name marks) → shown ≡ marks
-    → count ≡ min (marked_functions shown reg) (2 ^ 64 - 1) → count ≤ 65536 → IsTrue true ↔ FewAt reg place
-found_few reg place count marks shown marked same is low = (λ yes. few, λ there. refl)
+    → IsTrue few ↔ (marked_functions shown reg ≤ 65536) → IsTrue few ↔ FewAt reg place
+found_few reg place few marks shown within marked same says = (λ yes. all (says.0 yes), λ each. says.1 (low each))
   where
-    few : FewAt reg place
-    few e others at both =
+    all : marked_functions shown reg ≤ 65536 → FewAt reg place
+    all low e others at both =
         let one : shown ≡ others = same ∙ one_marks reg e.name marks others (marked e at) both in
-        omega (arith, is, low, ap (λ m. marked_functions m reg) one)
+        omega (arith, low, ap (λ m. marked_functions m reg) one)
 
--- and one that is high, that it has not
-pub found_many : (reg : List plain.Entity) (place count : ℕ) (marks shown : List Bool) → place < length reg
-    → ((e : plain.Entity) → slice_get reg place ≡ Some e → MarksBases reg e.name marks) → shown ≡ marks
-    → count ≡ min (marked_functions shown reg) (2 ^ 64 - 1) → 65536 < count → IsTrue false ↔ FewAt reg place
-found_many reg place count marks shown within marked same is high = (λ bad. absurd (not_true bad), λ few. absurd (many few))
-  where
-    many : FewAt reg place → ⊥
-    many few =
+    low : FewAt reg place → marked_functions shown reg ≤ 65536
+    low each =
         let e = entity_at reg place within in
-        omega (arith, is, high, few e.0 marks e.1 (marked e.0 e.1), ap (λ m. marked_functions m reg) same)
+        omega (arith, each e.0 marks e.1 (marked e.0 e.1), ap (λ m. marked_functions m reg) same)
 
 -- what a list contains stands at a place, and the other way round
 contained_at : {X : Type 0} (xs : List X) (x : X) → Contains xs x → (i : ℕ) × (slice_get xs i ≡ Some x)
@@ -94,6 +89,28 @@ few_at_each reg all place e marks at marked = all e marks (at_contained reg plac
 pub one_has_many : (reg : List plain.Entity) (later : List Bool) (few : Bool) → IsTrue few ↔ AllFewBut later reg → few ≡ false
     → IsTrue false ↔ HasFewFunctions reg
 one_has_many reg later few says many = (λ bad. absurd (not_true bad), λ all. sym many ∙ says.1 (λ place waits. few_at_each reg all place))
+
+-- where each place below one has few, and that one too, so has each below the next
+pub few_at_more : (reg : List plain.Entity) (later : List Bool) (place : ℕ) (waits few : Bool)
+    → ((k : ℕ) → k < place → slice_get later k ≡ Some false → FewAt reg k) → IsTrue few ↔ (get_or later place waits ≡ false → FewAt reg place) → few ≡ true
+    → (k : ℕ) → k < place + 1 → slice_get later k ≡ Some false → FewAt reg k
+few_at_more reg later place waits few below says is = below_more (λ k. slice_get later k ≡ Some false → FewAt reg k) place below here
+  where
+    here : slice_get later place ≡ Some false → FewAt reg place
+    here at = says.0 is (get_or_from_slice_get later place false waits at)
+
+-- where one that is not put off has many, not each that is not has few
+pub one_waits_not : (reg : List plain.Entity) (later : List Bool) (place : ℕ) (waits few : Bool) → place < length later
+    → IsTrue few ↔ (get_or later place waits ≡ false → FewAt reg place) → few ≡ false → IsTrue false ↔ AllFewBut later reg
+one_waits_not reg later place waits few within says is = (λ bad. absurd (not_true bad), λ all. sym is ∙ says.1 (λ at. all place (read at)))
+  where
+    read : get_or later place waits ≡ false → slice_get later place ≡ Some false
+    read at = slice_get-get_or later place waits within ∙ ap (λ w. Some w) at
+
+-- where each place of the list was asked, each that is not put off has few
+pub none_left : (reg : List plain.Entity) (later : List Bool) (count : ℕ) → length later ≤ count
+    → ((k : ℕ) → k < count → slice_get later k ≡ Some false → FewAt reg k) → IsTrue true ↔ AllFewBut later reg
+none_left reg later count all each = (λ yes place at. each place (omega (arith, all, slice_get_within later place false at)) at, λ few. refl)
 
 -- a list without a mark
 unmarked_at : (count i : ℕ) → i < count → slice_get (replicate count false) i ≡ Some false
@@ -193,22 +210,29 @@ pub join_begins : (known : List Bool) → known ≡ joined [] known
 unfolding joined
 join_begins known = refl
 
--- after a search that found few, what it marked is known
-pub known_more : (reg : List plain.Entity) (place count : ℕ) (marks shown again known after : List Bool) → place < length reg
-    → ((e : plain.Entity) → slice_get reg place ≡ Some e → MarksBases reg e.name marks) → shown ≡ marks
-    → count ≡ min (marked_functions shown reg) (2 ^ 64 - 1) → count ≤ 65536 → again ≡ marks
-    → KnownFew reg known → after ≡ joined again known → KnownFew reg after
-known_more reg place count marks shown again known after within marked same is low twice before joins =
-    subst (KnownFew reg) (sym (joins ∙ ap (λ m. joined m known) twice)) (record {
+-- what is marked by a search that found few is known
+joined_few : (reg : List plain.Entity) (place : ℕ) (marks known : List Bool) → place < length reg
+    → ((e : plain.Entity) → slice_get reg place ≡ Some e → MarksBases reg e.name marks) → marked_functions marks reg ≤ 65536
+    → KnownFew reg known → KnownFew reg (joined marks known)
+joined_few reg place marks known within marked low before =
+    let e = entity_at reg place within in
+    record {
       one_each = joined_long marks known ∙ before.one_each;
       few = λ i m. elim (joined_marked marks known i m) [
-        | inl new ↦ few_below reg e.0.name marks (marked e.0 e.1) (omega (arith, is, low, ap (λ l. marked_functions l reg) same)) i new
+        | inl new ↦ few_below reg e.0.name marks (marked e.0 e.1) low i new
         | inr old ↦ before.few i old
       ];
-    })
-  where
-    e : (f : plain.Entity) × (slice_get reg place ≡ Some f)
-    e = entity_at reg place within
+    }
+
+-- after a search, what it marked is known where it found few, and else what was known
+pub known_more : (reg : List plain.Entity) (place : ℕ) (few : Bool) (marks shown known after : List Bool) → place < length reg
+    → ((e : plain.Entity) → slice_get reg place ≡ Some e → MarksBases reg e.name marks) → shown ≡ marks
+    → IsTrue few ↔ (marked_functions shown reg ≤ 65536)
+    → KnownFew reg known → after ≡ (if few then joined shown known else known) → KnownFew reg after
+known_more reg place true marks shown known after within marked same says before joins =
+    let low : marked_functions marks reg ≤ 65536 = omega (arith, says.0 refl, ap (λ m. marked_functions m reg) same) in
+    subst (KnownFew reg) (sym (joins ∙ ap (λ m. joined m known) same)) (joined_few reg place marks known within marked low before)
+known_more reg place false marks shown known after within marked same says before joins = subst (KnownFew reg) (sym joins) before
 
 -- at first nothing is known
 pub none_known : (reg : List plain.Entity) (count : ℕ) (shown known : List Bool) → length reg ≡ count → known ≡ replicate count false → shown ≡ known

@@ -22,7 +22,8 @@ unfolding functions_in
 members_left ms i m within is =
     at_drop_more (λ xs. functions_in (map member_of xs)) ms i m within ∙ ap (λ x. functions_of_member (member_of x) + functions_in (map member_of (drop (i + 1) ms))) (sym is)
 
-pub member_step : (ms : List Member) (i : ℕ) (m : Member) (total next one most all : ℕ) → i < length ms → m ≡ get_or ms i m → min (total + functions_in (map member_of (drop i ms))) most ≡ all
+pub member_step : (ms : List Member) (i : ℕ) (m : Member) (total next one most all : ℕ) → i < length ms → m ≡ get_or ms i m
+    → min (total + functions_in (map member_of (drop i ms))) most ≡ all
     → one ≡ functions_of_member (member_of m) → one ≤ most → next ≡ min (total + one) most → min (next + functions_in (map member_of (drop (i + 1) ms))) most ≡ all
 member_step ms i m total next one most all within is held counts low added =
     goes_on total one (functions_in (map member_of (drop (i + 1) ms))) (functions_in (map member_of (drop i ms))) all most next
@@ -39,7 +40,8 @@ unfolding total_functions
 entities_left es i e within is =
     at_drop_more (λ xs. total_functions (entities_of xs)) es i e within ∙ ap (λ x. own_functions (body_of x.body) + total_functions (entities_of (drop (i + 1) es))) (sym is)
 
-pub entity_step : (es : List Entity) (i : ℕ) (e : Entity) (total next one most all : ℕ) → i < length es → e ≡ get_or es i e → min (total + total_functions (entities_of (drop i es))) most ≡ all
+pub entity_step : (es : List Entity) (i : ℕ) (e : Entity) (total next one most all : ℕ) → i < length es → e ≡ get_or es i e
+    → min (total + total_functions (entities_of (drop i es))) most ≡ all
     → one ≡ min (own_functions (body_of e.body)) most → next ≡ min (total + one) most → min (next + total_functions (entities_of (drop (i + 1) es))) most ≡ all
 entity_step es i e total next one most all within is held counts added =
     goes_on total (own_functions (body_of e.body)) (total_functions (entities_of (drop (i + 1) es))) (total_functions (entities_of (drop i es))) all most next
@@ -71,7 +73,8 @@ mark_step marks es i d e total next one most all within below held counts added 
     goes_on total (if get_or marks i d then own_functions (body_of (get_or es i e).body) else 0) (marked_functions (drop (i + 1) marks) (entities_of (drop (i + 1) es)))
     (marked_functions (drop i marks) (entities_of (drop i es))) all most next (marks_left marks es i d e within below) held (added ∙ ap (λ k. min (total + k) most) counts)
 
-pub marks_end : (marks : List Bool) (es : List Entity) (i total most all : ℕ) → length marks ≤ i → total ≤ most → min (total + marked_functions (drop i marks) (entities_of (drop i es))) most ≡ all
+pub marks_end : (marks : List Bool) (es : List Entity) (i total most all : ℕ) → length marks ≤ i → total ≤ most
+    → min (total + marked_functions (drop i marks) (entities_of (drop i es))) most ≡ all
     → total ≡ all
 unfolding marked_functions
 marks_end marks es i total most all over low held = ends total _ all most (ap (λ ms. marked_functions ms (entities_of (drop i es))) (drop_all i marks over)) low held

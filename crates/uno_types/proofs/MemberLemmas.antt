@@ -30,7 +30,8 @@ from_level reg at left level some is =
 pub behind_none : (reg : List plain.Entity) (left : ℕ) (level : Level) → level.base ≡ None → behind reg left level ≡ []
 behind_none reg left level none = ap (λ b. flat_map (members_within (left - 1) reg) (base_named b)) none
 
-pub behind_base : (reg : List plain.Entity) (left : ℕ) (level : Level) (base : Bor (List ℕ)) → level.base ≡ Some base → behind reg left level ≡ members_within (left - 1) reg base.now
+pub behind_base : (reg : List plain.Entity) (left : ℕ) (level : Level) (base : Bor (List ℕ)) → level.base ≡ Some base
+    → behind reg left level ≡ members_within (left - 1) reg base.now
 behind_base reg left level base one =
     ap (λ b. flat_map (members_within (left - 1) reg) (base_named b)) one ∙ flat_map-cons (members_within (left - 1) reg) base.now [] ∙ append-nil _
 
@@ -46,7 +47,8 @@ pub record Counts (reg : List plain.Entity) (name at : List ℕ) (levels left co
   pub room : count + left * 2 ^ 64 ≤ 2 ^ 128
 
 -- the count where there is no base, where there is one, and where no level is left
-pub counted : (reg : List plain.Entity) (name at : List ℕ) (levels left count : ℕ) (level : Level) → Counts reg name at levels left count → 0 < left → IsLevel level (find_entity at reg)
+pub counted : (reg : List plain.Entity) (name at : List ℕ) (levels left count : ℕ) (level : Level) → Counts reg name at levels left count → 0 < left
+    → IsLevel level (find_entity at reg)
     → level.base ≡ None → count + length level.own.now ≡ length (members_within levels reg name)
 counted reg name at levels left count level counts some is none =
     omega (arith, counts.all, parts_length _ _ level.own.now (from_level reg at left level some is), ap length (behind_none reg left level none))
@@ -59,7 +61,8 @@ counts_on reg name at levels left count level base counts some is one few =
       room = omega (arith, counts.room, few, some);
     }
 
-pub counted_at_end : (reg : List plain.Entity) (name at : List ℕ) (levels left count : ℕ) → Counts reg name at levels left count → left ≡ 0 → count ≡ length (members_within levels reg name)
+pub counted_at_end : (reg : List plain.Entity) (name at : List ℕ) (levels left count : ℕ) → Counts reg name at levels left count → left ≡ 0
+    → count ≡ length (members_within levels reg name)
 counted_at_end reg name at levels left count counts none = omega (arith, counts.all, ap length (no_members left reg at none))
 
 -- ---- finding
@@ -94,7 +97,8 @@ looked_up (Some f) own i all low some at is =
     is ∙ slice_get-map field_of own i ∙ ap (option_map field_of) (slice_get-get_or own i f.now low ∙ ap (λ x. Some x) (sym at))
 
 -- a place that is not before a level's own members is among them
-pub own_found : (reg : List plain.Entity) (name at : List ℕ) (levels left end place : ℕ) (level : Level) (result : Option (Bor Field)) → Narrows reg name at levels left end place → 0 < left
+pub own_found : (reg : List plain.Entity) (name at : List ℕ) (levels left end place : ℕ) (level : Level) (result : Option (Bor Field))
+    → Narrows reg name at levels left end place → 0 < left
     → IsLevel level (find_entity at reg) → end - length level.own.now ≤ place → (place - (end - length level.own.now) < length level.own.now → IsSome result)
     → IfSome result (λ f. f.now ≡ get_or level.own.now (place - (end - length level.own.now)) f.now)
     → MatchOption result ⊥ (λ f. slice_get (members_within levels reg name) place ≡ Some (field_of f.now))
@@ -107,12 +111,14 @@ own_found reg name at levels left end place level result narrows some is high fo
     (sym narrows.same ∙ ap (λ xs. slice_get xs place) parts ∙ get_behind (behind reg left level) (map field_of level.own.now) i place place_is)
 
 -- one before them is among the base's members, so there is a base
-pub none_before : (reg : List plain.Entity) (at : List ℕ) (left end place : ℕ) (level : Level) → end ≡ length (members_within left reg at) → 0 < left → IsLevel level (find_entity at reg)
+pub none_before : (reg : List plain.Entity) (at : List ℕ) (left end place : ℕ) (level : Level) → end ≡ length (members_within left reg at) → 0 < left
+    → IsLevel level (find_entity at reg)
     → place < end - length level.own.now → level.base ≡ None → ⊥
 none_before reg at left end place level long some is low none =
     omega (arith, long, low, parts_length _ _ level.own.now (from_level reg at left level some is), ap length (behind_none reg left level none))
 
-pub narrows_on : (reg : List plain.Entity) (name at : List ℕ) (levels left end place : ℕ) (level : Level) (base : Bor (List ℕ)) → Narrows reg name at levels left end place → 0 < left
+pub narrows_on : (reg : List plain.Entity) (name at : List ℕ) (levels left end place : ℕ) (level : Level) (base : Bor (List ℕ))
+    → Narrows reg name at levels left end place → 0 < left
     → IsLevel level (find_entity at reg) → place < end - length level.own.now → level.base ≡ Some base → Narrows reg name base.now levels (left - 1) (end - length level.own.now) place
 narrows_on reg name at levels left end place level base narrows some is low one =
     let parts = from_level reg at left level some is in

@@ -65,7 +65,8 @@ some_from f p (x ∷ xs) any each =
       | inr later ↦ some_behind (f x) (flat_map f xs) (some_from f p xs later (λ y has. each y (contains_behind x xs y has)))
     ])
 
-some_to : {X Y : Type 0} (f : X → List Y) (p : X → Bool) (xs : List X) → ((x : X) → is_some_list (f x) ≡ true → p x ≡ true) → is_some_list (flat_map f xs) ≡ true → list_any p xs ≡ true
+some_to : {X Y : Type 0} (f : X → List Y) (p : X → Bool) (xs : List X) → ((x : X) → is_some_list (f x) ≡ true → p x ≡ true)
+    → is_some_list (flat_map f xs) ≡ true → list_any p xs ≡ true
 some_to f p [] each some = some
 some_to f p (x ∷ xs) each some =
     elim (some_parts (f x) (flat_map f xs) (subst (λ ys. is_some_list ys ≡ true) (flat_map-cons f x xs) some))
@@ -99,7 +100,8 @@ unfolding members_within
 members_of reg levels name e is = rw is refl
 
 -- where each has one near, what ends has one within as many levels
-near_has : (reg : List Entity) (levels : ℕ) (name : List ℕ) → list_all (member_near reg) reg ≡ true → ends_within (leads_to reg) levels name ≡ true → is_there reg carries name ≡ true
+near_has : (reg : List Entity) (levels : ℕ) (name : List ℕ) → list_all (member_near reg) reg ≡ true → ends_within (leads_to reg) levels name ≡ true
+    → is_there reg carries name ≡ true
     → is_some_list (members_within levels reg name) ≡ true
 near_has reg zero name all ends there = absurd (none_ends_at_once (leads_to reg) name ends)
 near_has reg (suc levels) name all ends there =
@@ -135,7 +137,8 @@ unfolding members_within
 nothing_found reg zero name is = refl
 nothing_found reg (suc levels) name is = rw is refl
 
-carried : (reg : List Entity) (levels : ℕ) (name : List ℕ) (o : Option Entity) → find_entity name reg ≡ o → is_some_list (members_within levels reg name) ≡ true → is_there reg carries name ≡ true
+carried : (reg : List Entity) (levels : ℕ) (name : List ℕ) (o : Option Entity) → find_entity name reg ≡ o
+    → is_some_list (members_within levels reg name) ≡ true → is_there reg carries name ≡ true
 unfolding members_within
 carried reg levels name None is some = let bad : false ≡ true = ap is_some_list (sym (nothing_found reg levels name is)) ∙ some in absurd cc
 carried reg zero name (Some e) is some = let bad : false ≡ true = some in absurd cc

@@ -138,6 +138,10 @@ spreads_nothing reg names marks pending none =
       work = omega arith;
     }
 
+-- nor where there is no name
+pub no_names : (reg : List Entity) (marks : List Bool) (pending : List ℕ) → Spreads reg [] marks pending marks pending
+no_names reg marks pending = spreads_nothing reg [] marks pending (λ i e at has. omega (arith, has.1))
+
 -- a name that is not there is no entity's
 pub absent_nowhere : (reg : List Entity) (name : List ℕ) → IsRising reg → find_entity name reg ≡ None → (i : ℕ) (e : Entity) → slice_get reg i ≡ Some e
     → Contains (name ∷ []) e.name → ⊥

@@ -1,7 +1,7 @@
 -- Entities by their parts.
-use Rattle.std.specs.Prelude.{ℕ, Bool, true, List, [], Some}
+use Rattle.std.specs.Prelude.{ℕ, Bool, true, false, List, [], Some}
 use Rattle.uno_model.specs.Kinds.{Kind}
-use Rattle.uno_model.specs.Entities.{Entity, Body, Method, Param, exception}
+use Rattle.uno_model.specs.Entities.{Entity, Body, Method, Param, Field, Base, exception}
 use Rattle.uno_model.specs.declared.way.Way.TheVariants.{Into}
 
 -- a published entity
@@ -17,3 +17,9 @@ method_named name oneway result_kind params raises = record { name = name; onewa
 
 abbrev pub into_named : List ℕ → Kind → Param
 into_named name of_kind = record { way = Into; name = name; kind = of_kind }
+
+abbrev pub field_named : List ℕ → Kind → Field
+field_named name of_kind = record { name = name; kind = of_kind }
+
+abbrev pub required_base : List ℕ → Base
+required_base name = record { optional = false; name = name }

@@ -1,5 +1,6 @@
 -- The plain tree of a type's name.
-use Rattle.uno_model.specs.Kinds.{Kind}
+use Rattle.std.specs.Prelude.{ℕ, List, codes}
+use Rattle.uno_model.specs.Kinds.{Kind, name_of}
 use Rattle.uno_model.specs.Kinds as kd
 use Rattle.uno_types.specs.declared.type_name.TypeName.{TypeName}
 use Rattle.uno_types.specs.declared.type_name.TypeName.TheOpen.{TypeName-F}
@@ -29,3 +30,8 @@ kind_step (TypeName-F.Sequence inner) = kd.sequence inner.value
 -- the type, as a plain tree
 abbrev pub kind_of : TypeName → Kind
 kind_of = fold-TypeName Kind kind_step
+
+-- the front of a type's name: the brackets of a sequence, and else the whole name
+abbrev pub front_of : Kind → List ℕ
+front_of (kd.sequence k) = codes "[]"
+front_of k = name_of k

@@ -1,17 +1,19 @@
 //! Whether a value of one type may stand where another is asked.
-ghost use Rattle.std.specs.Prelude.{◌≡◌, ◌↔◌, Some, map, IsTrue};
+ghost use Rattle.std.specs.Prelude.{◌≡◌, ◌↔◌, ◌<◌, Some, length, map, IfOk, IsTrue};
 ghost use Rattle.std.specs.List.{list_any};
 ghost use Rattle.uno_model.specs.Kinds as kd;
 ghost use Rattle.uno_model.specs.Reaches.{reaches_within};
-ghost use Rattle.uno_model.specs.Registry.{IsBaseOf, Assignable, stands_on_body, required, at_most_one};
+ghost use Rattle.uno_model.specs.Registry.{IsRising, IsBaseOf, Assignable, stands_on_body, required, at_most_one};
 ghost use Rattle.uno_model.specs.Sound.{IsSound};
-ghost use Rattle.uno_types.specs.Entities.{entity_of, base_of};
+ghost use Rattle.uno_types.specs.Entities.{entity_of, entities_of, base_of};
+ghost use Rattle.uno_types.specs.Finding.{IsBaseAt};
 ghost use Rattle.uno_types.specs.TypeNames.{kind_of};
 
 use crate::bases::bases_of;
 use crate::registry::place_in;
 use crate::{Base, Body, Entity, Name, Registry, TypeName};
 use std::alloc::Global;
+use uno_base::NoMemory;
 
 impl Registry {
     /// Whether a value of the one type may stand where the other is asked.
@@ -157,10 +159,26 @@ fn is_base_of(alloc: Global, registry: &Registry, to: &str, from: &str) -> bool
     let Ok(target) = place_in(entities, to) else {
         return from == to;
     };
-    match bases_of(alloc, entities, source) {
-        Ok(marks) => marks[target],
+    match is_marked(alloc, entities, source, target) {
+        Ok(is) => is,
         Err(_) => reaches(registry, to, from, entities.len()),
     }
+}
+
+/// Whether the entity at the one place is among those on which the one at the other stands.
+fn is_marked(
+    alloc: Global,
+    entities: &[Entity],
+    source: usize,
+    target: usize,
+) -> Result<bool, NoMemory>
+    requires rising { IsRising (entities_of entities.now) }
+    requires source { source < length entities.now }
+    requires target { target < length entities.now }
+    ensures { IfOk result (λ b. IsBaseAt (entities_of entities.now) source target b) }
+{
+    let marks = bases_of(alloc, entities, source)?;
+    Ok(marks[target])
 }
 
 /// Keeps nothing of where it was: it goes each way over bases anew, and as deep as the longest of them.

@@ -82,7 +82,18 @@ fn mark_bases(entities: &[Entity], place: usize, search: &mut Search) -> Result<
     requires place { place < length entities.now }
     ensures { OnOk result (Spreads (entities_of entities.now) (stands_on_body (slice_get (entities_of entities.now) place)) search.old.marks.items search.old.pending.items search.new.marks.items search.new.pending.items) }
 {
-    match &entities[place].body {
+    mark_bases_of(entities, &entities[place], search)?;
+    Ok(())
+}
+
+/// Marks the bases of an entity.
+#[tactic(auto, using(crate::proofs::SpreadLemmas::no_names))]
+fn mark_bases_of(entities: &[Entity], entity: &Entity, search: &mut Search) -> Result<(), NoMemory>
+    requires rising { IsRising (entities_of entities.now) }
+    requires long { length search.old.marks.items ≡ length entities.now }
+    ensures { OnOk result (Spreads (entities_of entities.now) (stands_on_body (Some (entity_of entity.now))) search.old.marks.items search.old.pending.items search.new.marks.items search.new.pending.items) }
+{
+    match &entity.body {
         Body::Interface { bases, .. } => {
             mark_required(entities, bases.as_slice(), search)?;
             Ok(())

@@ -1,7 +1,7 @@
 //! Whether each interface has few functions, those of its bases counted. Where one has few, so has all on which it stands.
-ghost use Rattle.std.specs.Prelude.{◌≡◌, ◌<◌, ◌↔◌, length, IfOk, OnOk, IsTrue, replicate, false};
+ghost use Rattle.std.specs.Prelude.{◌≡◌, ◌<◌, ◌≤◌, ◌↔◌, length, IfOk, OnOk, IsTrue, replicate, false, if◌then◌else◌};
 ghost use Rattle.uno_model.specs.Registry.{IsRising};
-ghost use Rattle.uno_model.specs.Sound.{HasFewFunctions};
+ghost use Rattle.uno_model.specs.Sound.{HasFewFunctions, marked_functions};
 ghost use Rattle.uno_types.specs.Counts.{FewAt, AllFewBut, KnownFew, joined};
 ghost use Rattle.uno_types.specs.Entities.{entities_of};
 
@@ -116,12 +116,22 @@ fn few_are_found(
     ensures after { OnOk result (KnownFew (entities_of entities.now) known.new) }
 {
     let marks = bases_of(alloc, entities, place)?;
-    let count = functions_of_marked(marks.as_slice(), entities);
-    if count > MOST {
-        return Ok(false);
+    let few = few_are_marked(marks.as_slice(), entities, known);
+    Ok(few)
+}
+
+/// Whether few functions are marked. Where they are, it is known of all that is marked.
+fn few_are_marked(marks: &[bool], entities: &[Entity], known: &mut [bool]) -> bool
+    requires marks { length marks.now ≡ length entities.now }
+    requires known { length marks.now ≡ length known.old }
+    ensures few { IsTrue result ↔ (marked_functions marks.now (entities_of entities.now) ≤ 65536) }
+    ensures after { known.new ≡ (if result then joined marks.now known.old else known.old) }
+{
+    if functions_of_marked(marks, entities) > MOST {
+        return false;
     }
-    mark_all(marks.as_slice(), known);
-    Ok(true)
+    mark_all(marks, known);
+    true
 }
 
 /// Marks in the second list what is marked in the first.

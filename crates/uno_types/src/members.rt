@@ -1,5 +1,5 @@
 //! The members of structs and exceptions, those of their bases before their own.
-ghost use Rattle.std.specs.Prelude.{◌≡◌, ◌≤◌, ◌<◌, ◌^◌, ◌↔◌, length, map, IfSome, IsNone, MatchOption, Some, slice_get};
+ghost use Rattle.std.specs.Prelude.{◌≡◌, [], None, ◌≤◌, ◌<◌, ◌^◌, ◌↔◌, length, map, IfSome, IsNone, MatchOption, Some, slice_get};
 ghost use Rattle.std.specs.List.{list_all};
 ghost use Rattle.uno_model.specs.Circles.{HasNoCircle};
 ghost use Rattle.uno_model.specs.Registry.{find_entity, leads_to, at_most_one, members_within, all_members};
@@ -36,10 +36,7 @@ impl Registry {
     {
         match self.find(name) {
             Some(entity) => level_of(entity),
-            None => Level {
-                own: &[],
-                base: None,
-            },
+            None => no_level(),
         }
     }
 }
@@ -107,10 +104,18 @@ fn level_of(entity: &Entity) -> Level<'_>
             own: members.as_slice(),
             base: text_of(base),
         },
-        _ => Level {
-            own: &[],
-            base: None,
-        },
+        _ => no_level(),
+    }
+}
+
+/// The level of a name that has neither members nor a base.
+fn no_level<'a>() -> Level<'a>
+    ensures own { result.own.now ≡ [] }
+    ensures base { result.base ≡ None }
+{
+    Level {
+        own: &[],
+        base: None,
     }
 }
 

@@ -1,5 +1,5 @@
 //! A registry: the entities of a type system, each under its name.
-ghost use Rattle.std.specs.Prelude.{◌≡◌, ◌≢◌, ◌+◌, ◌<◌, ◌≤◌, ◌↔◌, length, take, drop, IfOk, OnOk, OnErr, IfErr, IfSome, IsNone, MatchOption, MatchResult, Some, None, slice_get};
+ghost use Rattle.std.specs.Prelude.{◌≡◌, ◌≢◌, ◌+◌, ◌<◌, ◌≤◌, ◌↔◌, length, take, drop, IfOk, OnOk, OnErr, IfErr, IfSome, IsNone, MatchOption, MatchResult, Some, None, slice_get, insert};
 ghost use Rattle.uno_model.specs.BuiltIn.{built_in};
 ghost use Rattle.uno_model.specs.Registry.{find_entity, Adds, IsRising};
 ghost use Rattle.uno_types.specs.Entities.{entity_of, entities_of};
@@ -77,7 +77,7 @@ impl Registry {
         match place_in(self.entities.as_slice(), entity.name.as_str()) {
             Ok(_) => Err(AddError::Twice),
             Err(gap) => {
-                self.entities.insert(gap, entity)?;
+                insert_at(&mut self.entities, gap, entity)?;
                 Ok(())
             }
         }
@@ -101,6 +101,17 @@ impl Registry {
     {
         self.entities.as_slice()
     }
+}
+
+/// Puts an entity before the one at a place.
+fn insert_at(entities: &mut Vec<Entity>, place: usize, entity: Entity) -> Result<(), AddError>
+    requires { place ≤ length entities.old.items }
+    ensures items { OnOk result (entities.new.items ≡ insert entities.old.items place entity) }
+    ensures err { OnErr result (entities.new.items ≡ entities.old.items) }
+    ensures room { IfErr result (λ e. e ≡ AddError.NoMemory) }
+{
+    entities.insert(place, entity)?;
+    Ok(())
 }
 
 /// The place of the entity of this name, or the gap where one would go.

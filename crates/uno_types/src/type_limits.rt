@@ -36,26 +36,11 @@ impl TypeName {
     pub fn name_len(&self) -> u64
         ensures { result ≡ min (length (name_of (kind_of self.now))) (2 ^ 64 - 1) }
     {
-        match self {
-            TypeName::Void => 4,
-            TypeName::Char => 4,
-            TypeName::Boolean => 7,
-            TypeName::Byte => 4,
-            TypeName::Short => 5,
-            TypeName::UnsignedShort => 14,
-            TypeName::Long => 4,
-            TypeName::UnsignedLong => 13,
-            TypeName::Hyper => 5,
-            TypeName::UnsignedHyper => 14,
-            TypeName::Str => 6,
-            TypeName::Kind => 4,
-            TypeName::Any => 3,
-            TypeName::Enum(name) => name.as_str().len() as u64,
-            TypeName::Struct(name) => name.as_str().len() as u64,
-            TypeName::Exception(name) => name.as_str().len() as u64,
-            TypeName::Interface(name) => name.as_str().len() as u64,
-            TypeName::Sequence(inner) => inner.name_len().saturating_add(2),
-        }
+        let front = self.front().len() as u64;
+        let TypeName::Sequence(inner) = self else {
+            return front;
+        };
+        inner.name_len().saturating_add(front)
     }
 
     /// Whether its name has at most 4,096 bytes and at most 64 sequences.

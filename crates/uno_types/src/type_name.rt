@@ -2,7 +2,7 @@
 ghost use Rattle.std.specs.Prelude.{◌≡◌, ◌↔◌, IfOk, IsTrue};
 ghost use Rattle.uno_model.specs.Kinds as kd;
 ghost use Rattle.uno_model.specs.TypeClasses.{class_of};
-ghost use Rattle.uno_types.specs.TypeNames.{kind_of};
+ghost use Rattle.uno_types.specs.TypeNames.{kind_of, front_of};
 
 use crate::Name;
 use std::alloc::Global;
@@ -59,6 +59,39 @@ impl TypeName {
         }
     }
 
+    /// The front of its name: the brackets of a sequence, and else the whole name.
+    pub fn front(&self) -> &str
+        ensures { result.now ≡ front_of (kind_of self.now) }
+    {
+        match self {
+            TypeName::Void => "void",
+            TypeName::Char => "char",
+            TypeName::Boolean => "boolean",
+            TypeName::Byte => "byte",
+            TypeName::Short => "short",
+            TypeName::UnsignedShort => "unsigned short",
+            TypeName::Long => "long",
+            TypeName::UnsignedLong => "unsigned long",
+            TypeName::Hyper => "hyper",
+            TypeName::UnsignedHyper => "unsigned hyper",
+            TypeName::Str => "string",
+            TypeName::Kind => "type",
+            TypeName::Any => "any",
+            TypeName::Enum(name) => name.as_str(),
+            TypeName::Struct(name) => name.as_str(),
+            TypeName::Exception(name) => name.as_str(),
+            TypeName::Interface(name) => name.as_str(),
+            TypeName::Sequence(_) => "[]",
+        }
+    }
+
+    /// The sequence of these elements.
+    pub(crate) fn sequence(alloc: Global, element: TypeName) -> Result<TypeName, NoMemory>
+        ensures { IfOk result (λ k. kind_of k ≡ kd.sequence (kind_of element)) }
+    {
+        Ok(TypeName::Sequence(Box::new(alloc, element)?))
+    }
+
     /// An equal type.
     pub fn copy(&self, alloc: Global) -> Result<TypeName, NoMemory>
         ensures { IfOk result (λ copy. kind_of copy ≡ kind_of self.now) }
@@ -81,10 +114,7 @@ impl TypeName {
             TypeName::Struct(name) => Ok(TypeName::Struct(name.copy(alloc)?)),
             TypeName::Exception(name) => Ok(TypeName::Exception(name.copy(alloc)?)),
             TypeName::Interface(name) => Ok(TypeName::Interface(name.copy(alloc)?)),
-            TypeName::Sequence(inner) => {
-                let inner = inner.copy(alloc)?;
-                Ok(TypeName::Sequence(Box::new(alloc, inner)?))
-            }
+            TypeName::Sequence(inner) => TypeName::sequence(alloc, inner.copy(alloc)?),
         }
     }
 

@@ -52,7 +52,7 @@ fn within_levels(
     if !is_plain(&inner) {
         return Ok(None);
     }
-    Ok(Some(TypeName::Sequence(Box::new(alloc, inner)?)))
+    Ok(Some(TypeName::sequence(alloc, inner)?))
 }
 
 /// What stands behind the `[]` in front.

@@ -56,7 +56,8 @@ never_empty reg name sound is none = by_find (find_entity name reg) refl
         absurd cc
 
 -- the types of one member more
-kinds_more : (fields : List (Bor Field)) (i : ℕ) (f : Bor Field) → i < length fields → f ≡ get_or fields i f → kinds_at (take (i + 1) fields) ≡ kinds_at (take i fields) ++ kind_of f.now.kind ∷ []
+kinds_more : (fields : List (Bor Field)) (i : ℕ) (f : Bor Field) → i < length fields → f ≡ get_or fields i f
+    → kinds_at (take (i + 1) fields) ≡ kinds_at (take i fields) ++ kind_of f.now.kind ∷ []
 kinds_more fields i f within is =
     ap (map (λ m. m.kind)) (map_more (λ g. field_of g.now) fields i f within ∙ ap (λ g. fields_at (take i fields) ++ field_of g.now ∷ []) (sym is))
     ∙ map-append (λ m. m.kind) (fields_at (take i fields)) (field_of f.now ∷ [])
@@ -69,12 +70,14 @@ one_more_member reg vs more v fields i f within is each one added =
     rw (added, kinds_more fields i f within is) (one_more_default reg vs v (kinds_at (take i fields)) (kind_of f.now.kind) each one)
 
 -- a member's type has the form of one, where all have it
-pub formed_at : (reg : List plain.Entity) (fields : List (Bor Field)) (i : ℕ) (f : Bor Field) → list_all (is_formed reg) (kinds_at fields) ≡ true → i < length fields → f ≡ get_or fields i f
+pub formed_at : (reg : List plain.Entity) (fields : List (Bor Field)) (i : ℕ) (f : Bor Field) → list_all (is_formed reg) (kinds_at fields) ≡ true
+    → i < length fields → f ≡ get_or fields i f
     → is_formed reg (kind_of f.now.kind) ≡ true
 formed_at reg [] i f all within is = absurd (omega (arith, within))
 formed_at reg (g ∷ fields) zero f all within is = rw is (and_parts (is_formed reg (kind_of g.now.kind)) (list_all (is_formed reg) (kinds_at fields)) all).0
 formed_at reg (g ∷ fields) (suc i) f all within is =
     formed_at reg fields i f (and_parts (is_formed reg (kind_of g.now.kind)) (list_all (is_formed reg) (kinds_at fields)) all).1 (omega (arith, within)) is
 
-pub all_formed : (reg : List plain.Entity) (fields : List (Bor Field)) (name : List ℕ) → IsSound reg → fields_at fields ≡ all_members reg name → list_all (is_formed reg) (kinds_at fields) ≡ true
+pub all_formed : (reg : List plain.Entity) (fields : List (Bor Field)) (name : List ℕ) → IsSound reg → fields_at fields ≡ all_members reg name
+    → list_all (is_formed reg) (kinds_at fields) ≡ true
 all_formed reg fields name sound is = ap (λ ms. list_all (is_formed reg) (map (λ m. m.kind) ms)) is ∙ members_formed reg name sound

@@ -1,22 +1,24 @@
 -- Values for members: those of a base stand before a level's own, and each list has as many as the other.
-use Rattle.std.proofs.Common.{◌≡◌, ℕ, suc, ◌+◌, ◌-◌, ◌<◌, ◌≤◌, List, [], ◌∷◌, ◌++◌, length, map, take, drop, None, Some, false, refl, sym, ap, ◌∙◌, arith, eqb-true}
+use Rattle.std.proofs.Common.{◌≡◌, ℕ, suc, ◌+◌, ◌-◌, ◌<◌, ◌≤◌, List, [], ◌∷◌, ◌++◌, length, map, take, drop, get_or, None, Some, true, false, refl, sym, ap, ◌∙◌, arith, eqb-true}
 use Rattle.std.specs.Prelude.{◌↔◌, ◌==◌, IsTrue}
 use Rattle.std.specs.Borrow.{Bor}
-use Rattle.std.proofs.lemmas.List.{length-append, length-map, length-take, map-append}
+use Rattle.std.proofs.lemmas.List.{length-append, length-map, length-take, map-append, drop_all}
 use Rattle.std.proofs.Math.Seq.{take-add}
 use Rattle.uno_model.specs.Kinds.{Kind}
 use Rattle.uno_model.specs.Entities as plain
-use Rattle.uno_model.specs.Fits.{FitEach}
+use Rattle.uno_model.specs.Fits.{Fits, FitEach, FitAll}
 use Rattle.uno_model.specs.Registry.{find_entity, members_within}
 use Rattle.uno_model.proofs.MemberLaws.{no_members}
 use Rattle.uno_types.specs.Entities.{field_of}
 use Rattle.uno_types.specs.Members.{IsLevel}
 use Rattle.uno_types.specs.declared.members.Level.{Level}
+use Rattle.uno_types.specs.TypeNames.{kind_of}
 use Rattle.uno_types.specs.declared.entity.Field.{Field}
 use Rattle.uno_types.proofs.MemberLemmas.{behind, from_level, behind_none, behind_base}
+use Rattle.uno_values.proofs.Parts.{part_at}
 use Rattle.uno_values.specs.declared.value.Value.{Value}
 use Rattle.uno_values.specs.Fitting.{kinds_of}
-use Rattle.uno_values.specs.Values.{plains_of}
+use Rattle.uno_values.specs.Values.{plain_of, plains_of}
 
 -- a test that fails
 pub untrue : IsTrue false → ⊥
@@ -136,7 +138,8 @@ at_root reg at left level vs start end some is none cut within own =
     )
 
 -- where there is a base, all fit exactly where those before the level fit it
-pub at_base : (reg : List plain.Entity) (at : List ℕ) (left : ℕ) (level : Level) (base : Bor (List ℕ)) (vs : List Value) (start end : ℕ) → 0 < left → IsLevel level (find_entity at reg)
+pub at_base : (reg : List plain.Entity) (at : List ℕ) (left : ℕ) (level : Level) (base : Bor (List ℕ)) (vs : List Value) (start end : ℕ) → 0 < left
+    → IsLevel level (find_entity at reg)
     → level.base ≡ Some base → end ≡ start + length level.own.now → end ≤ length vs
     → FitEach reg (plains_of (take (length level.own.now) (drop start vs))) (kinds_of level.own.now)
     → FitEach reg (plains_of (take start vs)) (kinds_within (left - 1) reg base.now) ↔ FitEach reg (plains_of (take end vs)) (kinds_within left reg at)
@@ -150,3 +153,37 @@ at_base reg at left level base vs start end some is one cut within own =
 pub at_end : (reg : List plain.Entity) (at : List ℕ) (left : ℕ) (vs : List Value) (end : ℕ) → left ≡ 0 → end ≤ length vs
     → IsTrue (end == 0) ↔ FitEach reg (plains_of (take end vs)) (kinds_within left reg at)
 at_end reg at left vs end none within = rw (no_members left reg at none) (none_left reg vs end within)
+
+-- ---- one element, and those behind it
+
+pub all_lost : (reg : List plain.Entity) (vs : List Value) (k : Kind) (i : ℕ) (v : Value) → i < length vs → v ≡ get_or vs i v
+    → (Fits reg (plain_of v) k → ⊥) → IsTrue false ↔ FitAll reg (plains_of (drop i vs)) k
+unfolding FitAll
+all_lost reg vs k i v within is misfit = rw (part_at vs i v within is) (neither (λ all. misfit all.0))
+
+pub all_but_one : (reg : List plain.Entity) (vs : List Value) (k : Kind) (i : ℕ) (v : Value) → i < length vs → v ≡ get_or vs i v → Fits reg (plain_of v) k
+    → FitAll reg (plains_of (drop (i + 1) vs)) k ↔ FitAll reg (plains_of (drop i vs)) k
+unfolding FitAll
+all_but_one reg vs k i v within is fit = rw (part_at vs i v within is) ((λ all. (fit, all)), (λ all. all.1))
+
+pub all_passed : (reg : List plain.Entity) (vs : List Value) (k : Kind) (i : ℕ) → length vs ≤ i → IsTrue true ↔ FitAll reg (plains_of (drop i vs)) k
+unfolding FitAll
+all_passed reg vs k i past = rw (drop_all i vs past) ((λ e. tt), (λ all. refl))
+
+pub each_lost : (reg : List plain.Entity) (fields : List Field) (i : ℕ) (f : Field) (vs : List Value) (place : ℕ) (v : Value) → i < length fields
+    → f ≡ get_or fields i f → place < length vs → v ≡ get_or vs place v
+    → (Fits reg (plain_of v) (kind_of f.kind) → ⊥) → IsTrue false ↔ FitEach reg (plains_of (take (length (drop i fields)) (drop place vs))) (kinds_of (drop i fields))
+unfolding FitEach
+each_lost reg fields i f vs place v within is there read misfit = rw (part_at fields i f within is, part_at vs place v there read) (neither (λ each. misfit each.0))
+
+pub each_but_one : (reg : List plain.Entity) (fields : List Field) (i : ℕ) (f : Field) (vs : List Value) (place : ℕ) (v : Value) → i < length fields
+    → f ≡ get_or fields i f → place < length vs → v ≡ get_or vs place v
+    → Fits reg (plain_of v) (kind_of f.kind)
+    → FitEach reg (plains_of (take (length (drop (i + 1) fields)) (drop (place + 1) vs))) (kinds_of (drop (i + 1) fields)) ↔ FitEach reg (plains_of (take (length (drop i fields)) (drop place vs))) (kinds_of (drop i fields))
+unfolding FitEach
+each_but_one reg fields i f vs place v within is there read fit = rw (part_at fields i f within is, part_at vs place v there read) ((λ each. (fit, each)), (λ each. each.1))
+
+pub each_passed : (reg : List plain.Entity) (fields : List Field) (i : ℕ) (vs : List Value) (place : ℕ) → length fields ≤ i
+    → IsTrue true ↔ FitEach reg (plains_of (take (length (drop i fields)) (drop place vs))) (kinds_of (drop i fields))
+unfolding FitEach
+each_passed reg fields i vs place past = rw (drop_all i fields past) ((λ e. tt), (λ each. refl))

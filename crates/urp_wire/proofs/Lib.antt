@@ -3,5 +3,4 @@ pub mod Lengths
 pub mod Loops
 pub mod Names
 pub mod Sendings
-pub mod Shapes
 pub mod Texts

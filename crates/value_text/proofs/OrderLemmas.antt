@@ -21,12 +21,14 @@ with_one_more : (xs : List Placed) (p : Placed) (r : Result (List Placed) ℕ) �
 with_one_more xs p (Ok ps) = ap Ok (sym (append_assoc xs (p ∷ []) ps))
 with_one_more xs p (Err left) = refl
 
-pub tokens_end : (n : ℕ) (reg : List Entity) (awaited : Awaited) (outer : List Bracket) (bytes : List ℕ) (xs : List Placed) → 0 < n → is_whole awaited outer bytes ≡ true → with_tokens xs (tokens_at n reg awaited outer bytes) ≡ Ok xs
+pub tokens_end : (n : ℕ) (reg : List Entity) (awaited : Awaited) (outer : List Bracket) (bytes : List ℕ) (xs : List Placed) → 0 < n
+    → is_whole awaited outer bytes ≡ true → with_tokens xs (tokens_at n reg awaited outer bytes) ≡ Ok xs
 unfolding tokens_at
 tokens_end zero reg awaited outer bytes xs some whole = let bad : ⊥ = omega arith in absurd bad
 tokens_end (suc n) reg awaited outer bytes xs some whole = rw whole (ap Ok (append-nil xs))
 
-pub tokens_step : (n : ℕ) (reg : List Entity) (awaited : Awaited) (outer : List Bracket) (bytes : List ℕ) (xs : List Placed) (t : Token) (rest : List ℕ) → 0 < n → is_whole awaited outer bytes ≡ false → token_at reg awaited outer bytes ≡ Ok (t, rest)
+pub tokens_step : (n : ℕ) (reg : List Entity) (awaited : Awaited) (outer : List Bracket) (bytes : List ℕ) (xs : List Placed) (t : Token) (rest : List ℕ)
+    → 0 < n → is_whole awaited outer bytes ≡ false → token_at reg awaited outer bytes ≡ Ok (t, rest)
     → with_tokens xs (tokens_at n reg awaited outer bytes) ≡ with_tokens (xs ++ record { left = length bytes; token = t } ∷ []) (tokens_at (n - 1) reg (behind t) (opened t outer) rest)
 unfolding tokens_at
 tokens_step zero reg awaited outer bytes xs t rest some more read = let bad : ⊥ = omega arith in absurd bad
@@ -35,13 +37,15 @@ tokens_step (suc n) reg awaited outer bytes xs t rest some more read =
     let p : Placed = record { left = length bytes; token = t } in
     rw (more, read) (with_one_more xs p (tokens_at n reg (behind t) (opened t outer) rest) ∙ ap (λ m. with_tokens (xs ++ p ∷ []) (tokens_at m reg (behind t) (opened t outer) rest)) fuel)
 
-pub tokens_stop : (n : ℕ) (reg : List Entity) (awaited : Awaited) (outer : List Bracket) (bytes : List ℕ) (xs : List Placed) (left : ℕ) → 0 < n → is_whole awaited outer bytes ≡ false → token_at reg awaited outer bytes ≡ Err left
+pub tokens_stop : (n : ℕ) (reg : List Entity) (awaited : Awaited) (outer : List Bracket) (bytes : List ℕ) (xs : List Placed) (left : ℕ) → 0 < n
+    → is_whole awaited outer bytes ≡ false → token_at reg awaited outer bytes ≡ Err left
     → with_tokens xs (tokens_at n reg awaited outer bytes) ≡ Err left
 unfolding tokens_at
 tokens_stop zero reg awaited outer bytes xs left some more read = let bad : ⊥ = omega arith in absurd bad
 tokens_stop (suc n) reg awaited outer bytes xs left some more read = rw (more, read) refl
 
-pub tokens_out : (n : ℕ) (reg : List Entity) (awaited : Awaited) (outer : List Bracket) (bytes : List ℕ) (xs : List Placed) → n ≡ 0 → with_tokens xs (tokens_at n reg awaited outer bytes) ≡ Err 0
+pub tokens_out : (n : ℕ) (reg : List Entity) (awaited : Awaited) (outer : List Bracket) (bytes : List ℕ) (xs : List Placed) → n ≡ 0
+    → with_tokens xs (tokens_at n reg awaited outer bytes) ≡ Err 0
 unfolding tokens_at
 tokens_out n reg awaited outer bytes xs none = rw none refl
 
@@ -57,7 +61,8 @@ handed_on view (Ok x) e verdict is stopped = let bad : ⊥ = cc in absurd bad
 handed_on view (Err f) e verdict is stopped = subst (λ g. StoppedBy g verdict) (sym is.1) stopped
 
 -- one more token
-pub tokens_next : (n m : ℕ) (reg : List Entity) (a b : Awaited) (outer inner : List Bracket) (bytes rest : List ℕ) (xs ys : List Placed) (t : Token) (verdict : Result (List Placed) ℕ) → 0 < n → m ≡ n - 1
+pub tokens_next : (n m : ℕ) (reg : List Entity) (a b : Awaited) (outer inner : List Bracket) (bytes rest : List ℕ) (xs ys : List Placed) (t : Token) (verdict : Result (List Placed) ℕ)
+    → 0 < n → m ≡ n - 1
     → is_whole a outer bytes ≡ false → token_at reg a outer bytes ≡ Ok (t, rest) → b ≡ behind t → inner ≡ opened t outer → ys ≡ xs ++ record { left = length bytes; token = t } ∷ [] → with_tokens xs (tokens_at n reg a outer bytes) ≡ verdict
     → with_tokens ys (tokens_at m reg b inner rest) ≡ verdict
 tokens_next n m reg a b outer inner bytes rest xs ys t verdict some fuel more read next brackets pushed is = rw (fuel, next, brackets, pushed) (sym (tokens_step n reg a outer bytes xs t rest some more read) ∙ is)

@@ -23,17 +23,20 @@ unfolding joined_on
 joined_on_none is_first = refl
 
 -- one more is written
-pub joins_on : (is_first : Bool) (t : List ℕ) (ts : List (List ℕ)) (a b c d : List ℕ) → a ++ joined_on is_first (t ∷ ts) ≡ d → b ≡ a ++ comma_before is_first → c ≡ b ++ t → c ++ joined_on false ts ≡ d
+pub joins_on : (is_first : Bool) (t : List ℕ) (ts : List (List ℕ)) (a b c d : List ℕ) → a ++ joined_on is_first (t ∷ ts) ≡ d
+    → b ≡ a ++ comma_before is_first → c ≡ b ++ t → c ++ joined_on false ts ≡ d
 unfolding joined_on
 joins_on is_first t ts a b c d all comma text = rw (text, comma, append_assoc (a ++ comma_before is_first) t (joined_on false ts), append_assoc a (comma_before is_first) (t ++ joined_on false ts)) all
 
 -- the same over what is left of a list
-pub joins_next : {X : Type 0} (f : List X → List (List ℕ)) (g : X → List ℕ) (xs : List X) (i : ℕ) (x : X) (is_first : Bool) (a b c d : List ℕ) → ((y : X) (ys : List X) → f (y ∷ ys) ≡ g y ∷ f ys)
+pub joins_next : {X : Type 0} (f : List X → List (List ℕ)) (g : X → List ℕ) (xs : List X) (i : ℕ) (x : X) (is_first : Bool) (a b c d : List ℕ)
+    → ((y : X) (ys : List X) → f (y ∷ ys) ≡ g y ∷ f ys)
     → i < length xs → x ≡ get_or xs i x → a ++ joined_on is_first (f (drop i xs)) ≡ d → b ≡ a ++ comma_before is_first → c ≡ b ++ g x → c ++ joined_on false (f (drop (i + 1) xs)) ≡ d
 joins_next f g xs i x is_first a b c d more within read all comma text =
     let left : drop i xs ≡ x ∷ drop (i + 1) xs = drop_more xs i x within ∙ ap (λ y. y ∷ drop (i + 1) xs) (sym read) in
     let next : a ++ joined_on is_first (g x ∷ f (drop (i + 1) xs)) ≡ d = rw (left, more x (drop (i + 1) xs)) at all in
     joins_on is_first (g x) (f (drop (i + 1) xs)) a b c d next comma text
 
-pub joins_all : {X : Type 0} (f : List X → List (List ℕ)) (xs : List X) (i : ℕ) (is_first : Bool) (a d : List ℕ) → f [] ≡ [] → length xs ≤ i → a ++ joined_on is_first (f (drop i xs)) ≡ d → a ≡ d
+pub joins_all : {X : Type 0} (f : List X → List (List ℕ)) (xs : List X) (i : ℕ) (is_first : Bool) (a d : List ℕ) → f [] ≡ [] → length xs ≤ i
+    → a ++ joined_on is_first (f (drop i xs)) ≡ d → a ≡ d
 joins_all f xs i is_first a d none past all = sym (append-nil a) ∙ ap (λ t. a ++ t) (sym (joined_on_none is_first)) ∙ ap (λ ts. a ++ joined_on is_first ts) (sym none) ∙ ap (λ ys. a ++ joined_on is_first (f ys)) (sym (drop_all i xs past)) ∙ all

@@ -14,7 +14,8 @@ use Rattle.value_text.specs.Reading.{Reads}
 use Rattle.value_text.specs.declared.read.TextError.{TextError}
 use Rattle.value_text.specs.declared.read.TextError.TheVariants as error
 
-pub read_found : (reg : List Entity) (k : Kind) (text : List ℕ) (result : Result Value TextError) → IsSound reg → Reads plain_of result (verdict reg k text) → IfOk result (λ v. IsLiteral reg k text (plain_of v))
+pub read_found : (reg : List Entity) (k : Kind) (text : List ℕ) (result : Result Value TextError) → IsSound reg
+    → Reads plain_of result (verdict reg k text) → IfOk result (λ v. IsLiteral reg k text (plain_of v))
 read_found reg k text (Ok v) sound reads = found_is_literal reg k text (plain_of v) sound.named reads
 read_found reg k text (Err e) sound reads = tt
 
@@ -27,7 +28,8 @@ one_found : (m : Result Plain Wrong) (v w : Plain) → m ≡ Ok v → (m ≡ Ok 
 one_found m v w is (inl found) = let both : Ok v ≡ Ok w = sym is ∙ found in cc
 one_found m v w is (inr deeper) = let both : Ok v ≡ Err too_deep = sym is ∙ deeper in let worse : ⊥ = cc in absurd worse
 
-pub read_only : (reg : List Entity) (k : Kind) (text : List ℕ) (result : Result Value TextError) → IsSound reg → Reads plain_of result (verdict reg k text) → (w : Plain) → IsLiteral reg k text w → IsSized w
+pub read_only : (reg : List Entity) (k : Kind) (text : List ℕ) (result : Result Value TextError) → IsSound reg
+    → Reads plain_of result (verdict reg k text) → (w : Plain) → IsLiteral reg k text w → IsSized w
     → MatchResult result (λ v. plain_of v ≡ w) (λ e. e ≡ error.NoMemory)
 read_only reg k text (Ok v) sound reads w is sized = one_found (verdict reg k text) (plain_of v) w reads (literal_is_found reg k text w sound is sized)
 read_only reg k text (Err error.NoMemory) sound reads w is sized = refl

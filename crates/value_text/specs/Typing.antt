@@ -1,10 +1,13 @@
 -- What a reading of tokens gives: what the verdict gives, unless memory ran out.
 use Rattle.std.specs.Borrow.{Bor}
-use Rattle.std.specs.Prelude.{◌≡◌, Bool, List, map, Result, Ok, Err}
+use Rattle.std.specs.Prelude.{◌≡◌, Bool, List, map, Option, None, Result, Ok, Err}
 use Rattle.uno_model.specs.Entities as plain
 use Rattle.uno_model.specs.Kinds.{Kind}
-use Rattle.uno_model.specs.Readings.{Fault, misfit, is_comma, opens_square, closes_square, opens_curly, closes_curly}
+use Rattle.uno_model.specs.Kinds as kd
+use Rattle.uno_model.specs.Readings.{Fault, misfit, some_as, and_then, number_in, unsigned_of, signed_of, is_comma, opens_square, closes_square, opens_curly, closes_curly}
 use Rattle.uno_model.specs.Shapes.{Token}
+use Rattle.uno_model.specs.Values.{Plain}
+use Rattle.uno_model.specs.Values as v
 use Rattle.uno_types.specs.Members.{fields_at}
 use Rattle.uno_types.specs.declared.entity.Field.{Field}
 use Rattle.value_text.specs.declared.misread.Misread.{Misread}
@@ -31,3 +34,15 @@ mark_test mark.ClosesCurly = closes_curly
 -- the types of members that are borrowed
 abbrev pub kinds_at : List (Bor Field) → List Kind
 kinds_at fields = map (λ (f : plain.Field). f.kind) (fields_at fields)
+
+-- the number of a token as a value of a type of numbers
+abbrev pub numeric : Kind → Token → Option Plain
+numeric kd.char t = some_as v.char (and_then (number_in t) (unsigned_of 16))
+numeric kd.byte t = some_as v.byte (and_then (number_in t) (signed_of 7))
+numeric kd.short t = some_as v.short (and_then (number_in t) (signed_of 15))
+numeric kd.unsigned_short t = some_as v.unsigned_short (and_then (number_in t) (unsigned_of 16))
+numeric kd.long t = some_as v.long (and_then (number_in t) (signed_of 31))
+numeric kd.unsigned_long t = some_as v.unsigned_long (and_then (number_in t) (unsigned_of 32))
+numeric kd.hyper t = some_as v.hyper (and_then (number_in t) (signed_of 63))
+numeric kd.unsigned_hyper t = some_as v.unsigned_hyper (and_then (number_in t) (unsigned_of 64))
+numeric k t = None

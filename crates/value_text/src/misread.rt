@@ -5,7 +5,7 @@ ghost use Rattle.value_text.specs.declared.misread.Misread.TheVariants.{NoMemory
 use std::alloc::{AllocError, AllocFailed};
 
 /// Want of memory, or the bytes that are left from the front of the first value that is none of its type.
-#[derive(Clone, Copy, Debug, PartialEq, Eq, Hash)]
+#[derive(Clone, Copy)]
 pub(crate) enum Misread {
     NoMemory,
     Misfit(usize),

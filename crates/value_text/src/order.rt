@@ -13,7 +13,7 @@ use std::alloc::Global;
 use uno_types::{Registry, TypeName};
 
 /// What may stand next: a value; a value or the end of a sequence without elements; or what stands behind a value.
-#[derive(Clone, Copy, Debug, PartialEq, Eq, Hash)]
+#[derive(Clone, Copy)]
 enum Awaited {
     Value,
     Element,

@@ -197,29 +197,11 @@ fn push_type(text: &mut Vec<u8>, kind: &TypeName, front: u8, back: u8) -> Result
 fn push_name(text: &mut Vec<u8>, kind: &TypeName) -> Result<(), NoMemory>
     ensures { OnOk result (text.new.items ≡ text.old.items ++ name_of (kind_of kind.now)) }
 {
-    match kind {
-        TypeName::Void => push_text(text, "void"),
-        TypeName::Char => push_text(text, "char"),
-        TypeName::Boolean => push_text(text, "boolean"),
-        TypeName::Byte => push_text(text, "byte"),
-        TypeName::Short => push_text(text, "short"),
-        TypeName::UnsignedShort => push_text(text, "unsigned short"),
-        TypeName::Long => push_text(text, "long"),
-        TypeName::UnsignedLong => push_text(text, "unsigned long"),
-        TypeName::Hyper => push_text(text, "hyper"),
-        TypeName::UnsignedHyper => push_text(text, "unsigned hyper"),
-        TypeName::Str => push_text(text, "string"),
-        TypeName::Kind => push_text(text, "type"),
-        TypeName::Any => push_text(text, "any"),
-        TypeName::Enum(name) => push_text(text, name.as_str()),
-        TypeName::Struct(name) => push_text(text, name.as_str()),
-        TypeName::Exception(name) => push_text(text, name.as_str()),
-        TypeName::Interface(name) => push_text(text, name.as_str()),
-        TypeName::Sequence(inner) => {
-            push_text(text, "[]")?;
-            push_name(text, inner)
-        }
-    }
+    push_text(text, kind.front())?;
+    let TypeName::Sequence(inner) = kind else {
+        return Ok(());
+    };
+    push_name(text, inner)
 }
 
 /// The first item of the number, or the number where the enum has none of it.

@@ -103,6 +103,9 @@ fn whole(length: usize, value: Value, rest: &[Placed]) -> Result<Value, TextErro
 {
     match rest.first() {
         None => Ok(value),
-        Some(next) => Err(TextError::WrongType(place_of(length, next.left))),
+        Some(next) => {
+            drop(value);
+            Err(TextError::WrongType(place_of(length, next.left)))
+        }
     }
 }

@@ -1,13 +1,14 @@
 //! Values of one token.
 ghost use Rattle.std.specs.Prelude.{◌≡◌, IfOk, codes, option_map};
 ghost use Rattle.uno_model.specs.Defaults.{items_of};
-ghost use Rattle.uno_model.specs.Readings.{single, number_in, word_in, string_in, named_in, cast_in, and_then, some_as, unsigned_of, signed_of, truth_of, word_as, number_named, item_of_word, item_of_number, item_in, byte_in};
+ghost use Rattle.uno_model.specs.Readings.{single, number_in, word_in, string_in, named_in, cast_in, and_then, some_as, truth_of, word_as, number_named, item_of_word, item_of_number, item_in, byte_in};
 ghost use Rattle.uno_model.specs.Registry.{find_entity};
 ghost use Rattle.uno_model.specs.Values as plain;
 ghost use Rattle.uno_types.specs.Entities.{item_of};
 ghost use Rattle.uno_types.specs.TypeNames.{kind_of};
 ghost use Rattle.uno_values.specs.Values.{plain_of};
 ghost use Rattle.value_text.specs.Scanning.{token_of};
+ghost use Rattle.value_text.specs.Typing.{numeric};
 
 mod item;
 mod range;
@@ -31,15 +32,15 @@ pub(crate) fn single(
 {
     match kind {
         TypeName::Void => Ok(void_in(token)),
-        TypeName::Char => Ok(char_in(token)),
         TypeName::Boolean => Ok(boolean_in(token)),
-        TypeName::Byte => Ok(byte_in(token)),
-        TypeName::Short => Ok(short_in(token)),
-        TypeName::UnsignedShort => Ok(unsigned_short_in(token)),
-        TypeName::Long => Ok(long_in(token)),
-        TypeName::UnsignedLong => Ok(unsigned_long_in(token)),
-        TypeName::Hyper => Ok(hyper_in(token)),
-        TypeName::UnsignedHyper => Ok(unsigned_hyper_in(token)),
+        TypeName::Char
+        | TypeName::Byte
+        | TypeName::Short
+        | TypeName::UnsignedShort
+        | TypeName::Long
+        | TypeName::UnsignedLong
+        | TypeName::Hyper
+        | TypeName::UnsignedHyper => Ok(number_as(kind, token)),
         TypeName::Str => string_in(alloc, token),
         TypeName::Kind => kind_in(alloc, token),
         TypeName::Enum(name) => enum_in(alloc, registry, name, token),
@@ -89,62 +90,38 @@ fn null_in(token: &Token) -> Option<Value>
 fn boolean_in(token: &Token) -> Option<Value>
     ensures { option_map plain_of result ≡ some_as plain.boolean (and_then (word_in (token_of token.now)) truth_of) }
 {
-    let word = word_in(token)?;
-    if word == "true" {
-        return Some(Value::Boolean(true));
+    match word_in(token)? {
+        "true" => Some(Value::Boolean(true)),
+        "false" => Some(Value::Boolean(false)),
+        _ => None,
     }
-    if word == "false" {
-        return Some(Value::Boolean(false));
+}
+
+/// The number of a token as a value of a type of numbers, where it is within the type's range.
+fn number_as(kind: &TypeName, token: &Token) -> Option<Value>
+    ensures { option_map plain_of result ≡ numeric (kind_of kind.now) (token_of token.now) }
+{
+    let number = number_in(token)?;
+    match kind {
+        TypeName::Char => Some(Value::Char(to_u16(number)?)),
+        TypeName::Byte => Some(Value::Byte(to_i8(number)?)),
+        TypeName::Short => Some(Value::Short(to_i16(number)?)),
+        TypeName::UnsignedShort => Some(Value::UnsignedShort(to_u16(number)?)),
+        TypeName::Long => Some(Value::Long(to_i32(number)?)),
+        TypeName::UnsignedLong => Some(Value::UnsignedLong(to_u32(number)?)),
+        TypeName::Hyper => Some(Value::Hyper(to_i64(number)?)),
+        TypeName::UnsignedHyper => Some(Value::UnsignedHyper(to_u64(number)?)),
+        TypeName::Void
+        | TypeName::Boolean
+        | TypeName::Str
+        | TypeName::Kind
+        | TypeName::Any
+        | TypeName::Enum(_)
+        | TypeName::Struct(_)
+        | TypeName::Exception(_)
+        | TypeName::Interface(_)
+        | TypeName::Sequence(_) => None,
     }
-    None
-}
-
-fn char_in(token: &Token) -> Option<Value>
-    ensures { option_map plain_of result ≡ some_as plain.char (and_then (number_in (token_of token.now)) (unsigned_of 16)) }
-{
-    Some(Value::Char(to_u16(number_in(token)?)?))
-}
-
-fn byte_in(token: &Token) -> Option<Value>
-    ensures { option_map plain_of result ≡ some_as plain.byte (and_then (number_in (token_of token.now)) (signed_of 7)) }
-{
-    Some(Value::Byte(to_i8(number_in(token)?)?))
-}
-
-fn short_in(token: &Token) -> Option<Value>
-    ensures { option_map plain_of result ≡ some_as plain.short (and_then (number_in (token_of token.now)) (signed_of 15)) }
-{
-    Some(Value::Short(to_i16(number_in(token)?)?))
-}
-
-fn unsigned_short_in(token: &Token) -> Option<Value>
-    ensures { option_map plain_of result ≡ some_as plain.unsigned_short (and_then (number_in (token_of token.now)) (unsigned_of 16)) }
-{
-    Some(Value::UnsignedShort(to_u16(number_in(token)?)?))
-}
-
-fn long_in(token: &Token) -> Option<Value>
-    ensures { option_map plain_of result ≡ some_as plain.long (and_then (number_in (token_of token.now)) (signed_of 31)) }
-{
-    Some(Value::Long(to_i32(number_in(token)?)?))
-}
-
-fn unsigned_long_in(token: &Token) -> Option<Value>
-    ensures { option_map plain_of result ≡ some_as plain.unsigned_long (and_then (number_in (token_of token.now)) (unsigned_of 32)) }
-{
-    Some(Value::UnsignedLong(to_u32(number_in(token)?)?))
-}
-
-fn hyper_in(token: &Token) -> Option<Value>
-    ensures { option_map plain_of result ≡ some_as plain.hyper (and_then (number_in (token_of token.now)) (signed_of 63)) }
-{
-    Some(Value::Hyper(to_i64(number_in(token)?)?))
-}
-
-fn unsigned_hyper_in(token: &Token) -> Option<Value>
-    ensures { option_map plain_of result ≡ some_as plain.unsigned_hyper (and_then (number_in (token_of token.now)) (unsigned_of 64)) }
-{
-    Some(Value::UnsignedHyper(to_u64(number_in(token)?)?))
 }
 
 fn string_in(alloc: Global, token: &Token) -> Result<Option<Value>, NoMemory>

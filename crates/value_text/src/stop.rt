@@ -5,7 +5,7 @@ ghost use Rattle.value_text.specs.declared.stop.Stop.TheVariants.{NoMemory};
 use std::alloc::{AllocError, AllocFailed};
 
 /// Want of memory, or the bytes that are left from the first bad one on.
-#[derive(Clone, Copy, Debug, PartialEq, Eq, Hash)]
+#[derive(Clone, Copy)]
 pub(crate) enum Stop {
     NoMemory,
     Bad(usize),

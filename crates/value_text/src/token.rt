@@ -3,14 +3,14 @@
 use uno_types::{Name, Text, TypeName};
 
 /// The brackets of a sequence, and those of a struct or an exception.
-#[derive(Clone, Copy, Debug, PartialEq, Eq, Hash)]
+#[derive(Clone, Copy)]
 pub(crate) enum Bracket {
     Square,
     Curly,
 }
 
 /// A bracket, a comma, or a value that is one token; `Cast` is a type that stands before a value of it.
-#[derive(Debug, Drop)]
+#[derive(Drop)]
 pub(crate) enum Token {
     Opens(Bracket),
     Closes(Bracket),
@@ -23,7 +23,7 @@ pub(crate) enum Token {
 }
 
 /// A token, and how many bytes of the text are left from its front on.
-#[derive(Debug, Drop)]
+#[derive(Drop)]
 pub(crate) struct Placed {
     pub(crate) left: usize,
     pub(crate) token: Token,

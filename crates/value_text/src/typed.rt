@@ -117,9 +117,9 @@ fn held_by<'a>(
     if is_void(kind) {
         return Ok((any_value(alloc, TypeName::Void, Value::Void)?, tokens));
     }
+    let own = kind.copy(alloc)?;
     let (value, rest) = value_within(alloc, registry, inner, kind, tokens)?;
-    let kind = kind.copy(alloc)?;
-    Ok((any_value(alloc, kind, value)?, rest))
+    Ok((any_value(alloc, own, value)?, rest))
 }
 
 fn is_void(kind: &TypeName) -> bool

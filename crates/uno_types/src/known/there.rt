@@ -8,7 +8,7 @@ ghost use Rattle.uno_types.specs.TypeNames.{kind_of};
 use crate::{Body, Registry, TypeName};
 
 /// The kind of entity that a place asks.
-#[derive(Clone, Copy, Debug, PartialEq, Eq, Hash)]
+#[derive(Clone, Copy)]
 pub(crate) enum Wanted {
     Interface,
     Struct,

@@ -55,6 +55,7 @@ pub(crate) fn reply<'a, E: Expects>(
     let Some(call) = call_awaited(alloc, registry, expect, tid.as_bytes())? else {
         return Err(WireError::Bad(Reason::NobodyWaits));
     };
+    let last = tid.copy(alloc)?;
     let (answer, rest) = answer(
         alloc,
         registry,
@@ -63,7 +64,7 @@ pub(crate) fn reply<'a, E: Expects>(
         &mut heard.caches,
         rest,
     )?;
-    heard.last.tid = Some(tid.copy(alloc)?);
+    heard.last.tid = Some(last);
     let message = Message::Reply {
         tid,
         face: call.face,

@@ -91,28 +91,10 @@ fn is_simple(kind: &TypeName) -> bool
 fn put_kind_name(kind: &TypeName, to: &mut Vec<u8>) -> Result<(), NoMemory>
     ensures { OnOk result (to.new.items ≡ to.old.items ++ name_of (kind_of kind.now)) }
 {
-    match kind {
-        TypeName::Void => Ok(to.extend_from_slice(b"void")?),
-        TypeName::Char => Ok(to.extend_from_slice(b"char")?),
-        TypeName::Boolean => Ok(to.extend_from_slice(b"boolean")?),
-        TypeName::Byte => Ok(to.extend_from_slice(b"byte")?),
-        TypeName::Short => Ok(to.extend_from_slice(b"short")?),
-        TypeName::UnsignedShort => Ok(to.extend_from_slice(b"unsigned short")?),
-        TypeName::Long => Ok(to.extend_from_slice(b"long")?),
-        TypeName::UnsignedLong => Ok(to.extend_from_slice(b"unsigned long")?),
-        TypeName::Hyper => Ok(to.extend_from_slice(b"hyper")?),
-        TypeName::UnsignedHyper => Ok(to.extend_from_slice(b"unsigned hyper")?),
-        TypeName::Str => Ok(to.extend_from_slice(b"string")?),
-        TypeName::Kind => Ok(to.extend_from_slice(b"type")?),
-        TypeName::Any => Ok(to.extend_from_slice(b"any")?),
-        TypeName::Enum(name) => Ok(to.extend_from_slice(name.as_str().as_bytes())?),
-        TypeName::Struct(name) => Ok(to.extend_from_slice(name.as_str().as_bytes())?),
-        TypeName::Exception(name) => Ok(to.extend_from_slice(name.as_str().as_bytes())?),
-        TypeName::Interface(name) => Ok(to.extend_from_slice(name.as_str().as_bytes())?),
-        TypeName::Sequence(element) => {
-            to.extend_from_slice(b"[]")?;
-            put_kind_name(element, to)?;
-            Ok(())
-        }
-    }
+    to.extend_from_slice(kind.front().as_bytes())?;
+    let TypeName::Sequence(element) = kind else {
+        return Ok(());
+    };
+    put_kind_name(element, to)?;
+    Ok(())
 }

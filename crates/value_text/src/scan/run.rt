@@ -6,7 +6,7 @@ ghost use Rattle.uno_model.specs.Shapes.{front, rest};
 ghost use Rattle.value_text.specs.Scanning.{test_of};
 
 /// The bytes of a word are letters, digits and `_`, those of a type's name also `.`, `[`, `]` and blanks.
-#[derive(Clone, Copy, Debug, PartialEq, Eq, Hash)]
+#[derive(Clone, Copy)]
 pub(crate) enum Run {
     Word,
     Name,

@@ -41,7 +41,7 @@ fn is_known(registry: &Registry, word: &str) -> bool
 fn is_own(word: &str) -> bool
     ensures { result ≡ is_own_word word.now }
 {
-    (word == "true" || word == "false") || (word == "void" || word == "null")
+    matches!(word, "true" | "false" | "void" | "null")
 }
 
 fn is_item_of_some(entities: &[Entity], word: &str) -> bool

@@ -8,7 +8,7 @@ use crate::misread::Misread;
 use crate::token::{Bracket, Placed, Token};
 
 /// A bracket or a comma.
-#[derive(Clone, Copy, Debug, PartialEq, Eq, Hash)]
+#[derive(Clone, Copy)]
 pub(crate) enum Mark {
     Comma,
     OpensSquare,

@@ -1,23 +1,18 @@
-use Rattle.std.proofs.Common.{◌≡◌, None, sym, subst, ap, ◌∙◌, length, arith}
+use Rattle.std.proofs.Common.{◌≡◌, None, sym, subst, ap, ◌∙◌, length}
 use Rattle.std.proofs.lemmas.List.{length-map}
 use Rattle.uno_model.specs.Registry.{find_entity}
 use Rattle.uno_model.proofs.ReachesLaws.{reaches_bases}
 use Rattle.uno_types.specs.Entities.{entity_of}
-use Rattle.uno_types.proofs.AssignableLemmas.{absent_target, mark_there, by_mark}
+use Rattle.uno_types.proofs.AssignableLemmas.{absent_target, by_places}
 use Rattle.uno_types.proofs.assignable.is_base_of.Goals as goal
 
 pub returns-in_default-place_in : goal.returns-in_default-place_in
 returns-in_default-place_in c =
     rw c.eq-in_default-place_in.ensures (absent_target _ _ _ c.requires (subst (λ r. find_entity c.args.to.now r ≡ None) c.entities-entities.ensures.all c.in_default-place_in.ensures.gap.absent))
 
-pub index-requires : goal.index-requires
-index-requires c =
-    let marked = mark_there _ _ _ _ c.in-Ok.ensures.place.within c.in-Ok-place_in.ensures.place.within c.in-Ok-bases_of.ensures in
-    omega (arith, marked, c.in-Ok-bases_of.marks.ok)
-
-pub returns-in-Ok-bases_of : goal.returns-in-Ok-bases_of
-returns-in-Ok-bases_of c =
-    rw (← c.entities-entities.ensures.all) (by_mark _ _ _ _ _ _ _ c.in-Ok.ensures.place c.in-Ok-place_in.ensures.place c.in-Ok-bases_of.ensures c.index.ensures)
+pub returns-in-Ok-is_marked : goal.returns-in-Ok-is_marked
+returns-in-Ok-is_marked c =
+    rw (← c.entities-entities.ensures.all) (by_places _ _ _ _ _ _ c.in-Ok.ensures.place c.in-Ok-place_in.ensures.place c.in-Ok-is_marked.ensures)
 
 pub returns-in-Err : goal.returns-in-Err
 returns-in-Err c =
