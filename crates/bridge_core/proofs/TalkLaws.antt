@@ -1,7 +1,32 @@
 -- Blocks say where they end, so two talks at the front of the same bytes go on from one another.
 use Rattle.std.proofs.Common.{
-  ◌≡◌, ◌≢◌, ℕ, ◌^◌, ◌<◌, ◌≤◌, Bool, true, false, List, [], ◌∷◌, ◌++◌, length, refl, sym, ap, ◌∙◌, append_assoc, append-nil, length-append, subst,
-  inl, inr, lit<, arith}
+  ◌≡◌,
+  ◌≢◌,
+  ℕ,
+  ◌^◌,
+  ◌<◌,
+  ◌≤◌,
+  Bool,
+  true,
+  false,
+  List,
+  [],
+  ◌∷◌,
+  ◌++◌,
+  length,
+  refl,
+  sym,
+  ap,
+  ◌∙◌,
+  append_assoc,
+  append-nil,
+  length-append,
+  subst,
+  inl,
+  inr,
+  lit<,
+  arith,
+}
 use Rattle.std.proofs.lemmas.Bool.{cases_lt}
 use Rattle.std.proofs.lemmas.List.{nil_from_length, flat_map_more}
 use Rattle.urp_model.specs.Blocks.{IsBlock}

@@ -10,6 +10,3 @@ pub use talk_laws::{
     a_talk_is_a_front_of_the_longest, one_talk_is_the_longest, some_talk_is_the_longest,
 };
 pub use urp_message::Tag;
-
-#[cfg(test)]
-mod tests;

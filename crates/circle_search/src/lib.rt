@@ -10,6 +10,3 @@ mod visit;
 
 pub use graph::Graph;
 pub use search::has_no_circle;
-
-#[cfg(test)]
-mod tests;

@@ -5,8 +5,6 @@ mod function;
 mod met;
 mod numbered;
 mod table;
-#[cfg(test)]
-mod tests;
 mod threads;
 mod walk;
 

@@ -1,7 +1,6 @@
 -- The tokens of a value that fits a type are read as that value, unless it is nested too deep.
-use Rattle.std.proofs.Common.{
-  ◌≡◌, ◌≢◌, ℕ, zero, suc, ◌+◌, ◌<◌, ◌≤◌, ◌^◌, ℤ, pos, negsuc, Bool, true, false, not, List, [], ◌∷◌, ◌++◌, length, map, Option, None, Some, Result,
-  Ok, Err, ◌⊎◌, inl, inr, All, refl, sym, ap, subst, ◌∙◌, codes, arith, nat_lt, length-append}
+use Rattle.std.proofs.Common.{◌≡◌, ◌≢◌, ℕ, zero, suc, ◌+◌, ◌<◌, ◌≤◌, ◌^◌, ℤ, pos, negsuc, Bool, true, false, not, List, [], ◌∷◌, ◌++◌, length, map, Option}
+use Rattle.std.proofs.Common.{None, Some, Result, Ok, Err, ◌⊎◌, inl, inr, All, refl, sym, ap, subst, ◌∙◌, codes, arith, nat_lt, length-append}
 use Rattle.std.proofs.lemmas.Bool.{and_parts, lt-ltb, ltb-true, ltb-false, not-true, or_parts}
 use Rattle.std.proofs.lemmas.Bool.Decides.{Decides-int_eq}
 use Rattle.std.proofs.lemmas.Int.{of_z-to_z}
@@ -20,10 +19,9 @@ use Rattle.uno_model.specs.Fits.{Fits, FitEach, FitAll, RefFits, IsTupleKind, me
 use Rattle.uno_model.specs.Kinds.{Kind}
 use Rattle.uno_model.specs.Kinds as kd
 use Rattle.uno_model.specs.Literals.{first_item}
-use Rattle.uno_model.specs.Readings.{
-  Fault, deep, Reads, left_at, unsigned_of, signed_of, number_named, item_in, some_as, single, of_token, only_token, cast_in, is_comma, opens_square,
-  opens_curly, closes_square, closes_curly, expect, elements_on, elements_in, sequence_of, comma_at, members_on, tuple_of, is_void, any_of, byte_in,
-  value_step, value_within}
+use Rattle.uno_model.specs.Readings.{Fault, deep, Reads, left_at, unsigned_of, signed_of, number_named, item_in, some_as, single, of_token, only_token}
+use Rattle.uno_model.specs.Readings.{cast_in, is_comma, opens_square, opens_curly, closes_square, closes_curly, expect, elements_on, elements_in}
+use Rattle.uno_model.specs.Readings.{sequence_of, comma_at, members_on, tuple_of, is_void, any_of, byte_in, value_step, value_within}
 use Rattle.uno_model.specs.Registry.{find_entity}
 use Rattle.uno_model.specs.Shapes.{Token, opens, closes, comma, number, word, string, named, cast, square, curly, Placed, on_ok}
 use Rattle.uno_model.specs.Sound.{all_differ, items_differ}

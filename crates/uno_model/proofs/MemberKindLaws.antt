@@ -1,7 +1,6 @@
 -- In a sound registry a struct or an exception has a member, and each of its members is of a type of the registry, neither void nor an exception.
-use Rattle.std.proofs.Common.{
-  ◌≡◌, ℕ, zero, suc, Bool, true, false, not, ◌||◌, ◌&&◌, List, [], ◌∷◌, ◌++◌, length, map, Option, None, Some, refl, sym, subst, inl, inr,
-  if◌then◌else◌}
+use Rattle.std.proofs.Common.{◌≡◌, ℕ, zero, suc, Bool, true, false, not, ◌||◌, ◌&&◌, List, [], ◌∷◌, ◌++◌, length}
+use Rattle.std.proofs.Common.{map, Option, None, Some, refl, sym, subst, inl, inr, if◌then◌else◌}
 use Rattle.std.specs.List.{list_all, flat_map}
 use Rattle.std.specs.Str.{bytes_eq}
 use Rattle.std.proofs.lemmas.Bool.{and_parts, and_from}
@@ -11,9 +10,8 @@ use Rattle.uno_model.specs.Fits.{IsTupleKind, member_kinds}
 use Rattle.uno_model.specs.Kinds.{Kind}
 use Rattle.uno_model.specs.Kinds as kd
 use Rattle.uno_model.specs.Registry.{find_entity, member_bases, at_most_one, own_members, members_within, all_members}
-use Rattle.uno_model.specs.Sound.{
-  IsSound, is_allowed, body_allowed, body_known, elements_plain, few_modules, short_name, is_value, is_plain, is_result, is_struct, is_exception,
-  is_there, has_member, is_some_list, kind_known, is_namable}
+use Rattle.uno_model.specs.Sound.{IsSound, is_allowed, body_allowed, body_known, elements_plain, few_modules, short_name, is_value, is_plain}
+use Rattle.uno_model.specs.Sound.{is_result, is_struct, is_exception, is_there, has_member, is_some_list, kind_known, is_namable}
 use Rattle.uno_model.specs.Types.{is_type, is_formed}
 use Rattle.uno_model.proofs.Options.{same_some, none_some}
 

@@ -1,7 +1,6 @@
 -- What is reached over as many levels as there are entities is a base, and each base is reached.
-use Rattle.std.proofs.Common.{
-  ◌≡◌, ℕ, zero, suc, Bool, true, false, ◌||◌, List, [], ◌∷◌, length, map, filter, not, if◌then◌else◌, Option, None, Some, refl, ap, subst, ◌∙◌, ◌⊎◌,
-  inl, inr, arith}
+use Rattle.std.proofs.Common.{◌≡◌, ℕ, zero, suc, Bool, true, false, ◌||◌, List, [], ◌∷◌, length, map, filter, not}
+use Rattle.std.proofs.Common.{if◌then◌else◌, Option, None, Some, refl, ap, subst, ◌∙◌, ◌⊎◌, inl, inr, arith}
 use Rattle.std.specs.Prelude.{Contains, ◌↔◌}
 use Rattle.std.specs.List.{list_any}
 use Rattle.std.specs.Str.{bytes_eq}

@@ -1,7 +1,6 @@
 -- What is scanned of a text is spelled there.
-use Rattle.std.proofs.Common.{
-  ◌≡◌, ℕ, zero, suc, ◌+◌, ◌-◌, ◌*◌, ◌/◌, ◌%◌, ◌^◌, ◌<◌, ◌≤◌, pos, Bool, true, false, ◌&&◌, ◌||◌, ◌==◌, List, [], ◌∷◌, ◌++◌, length, Option, None,
-  Some, MatchOption, Result, Ok, Err, IsTrue, refl, sym, ap, subst, ◌∙◌, arith, nat_le}
+use Rattle.std.proofs.Common.{◌≡◌, ℕ, zero, suc, ◌+◌, ◌-◌, ◌*◌, ◌/◌, ◌%◌, ◌^◌, ◌<◌, ◌≤◌, pos, Bool, true, false, ◌&&◌, ◌||◌, ◌==◌, List, [], ◌∷◌, ◌++◌}
+use Rattle.std.proofs.Common.{length, Option, None, Some, MatchOption, Result, Ok, Err, IsTrue, refl, sym, ap, subst, ◌∙◌, arith, nat_le}
 use Rattle.std.proofs.lemmas.Bool.{and_parts, leb-true, eqb-true}
 use Rattle.std.proofs.lemmas.Fmt.{decimal_digit, decimal_step}
 use Rattle.std.proofs.lemmas.List.{append_assoc}
@@ -15,10 +14,9 @@ use Rattle.uno_model.specs.Kinds as kd
 use Rattle.uno_model.specs.Literals.{escaped}
 use Rattle.uno_model.specs.NamedTypes.{IsNamed, type_of_text}
 use Rattle.uno_model.specs.Names.{begins_identifier, goes_on_identifier}
-use Rattle.uno_model.specs.Shapes.{
-  Bracket, square, curly, Token, opens, closes, comma, number, word, string, named, cast, spell, spells, largest, lowest, is_known_word, front, rest,
-  digits_on, digits_at, on_ok, with_byte, escape_of, string_at, is_name_byte, type_at, cast_of, word_at, negative_of, number_at, value_at, Awaited,
-  value, element, separator, behind, opened, closing, separator_at, element_at, token_at, Placed, with_token, is_whole, tokens_at}
+use Rattle.uno_model.specs.Shapes.{Bracket, square, curly, Token, opens, closes, comma, number, word, string, named, cast, spell, spells, largest, lowest, is_known_word, front, rest}
+use Rattle.uno_model.specs.Shapes.{digits_on, digits_at, on_ok, with_byte, escape_of, string_at, is_name_byte, type_at, cast_of, word_at, negative_of, number_at, value_at, Awaited}
+use Rattle.uno_model.specs.Shapes.{value, element, separator, behind, opened, closing, separator_at, element_at, token_at, Placed, with_token, is_whole, tokens_at}
 use Rattle.uno_model.specs.Sound.{is_named}
 use Rattle.uno_model.specs.Types.{is_type}
 

@@ -1,7 +1,6 @@
 -- A value that fits has a shape: its literal is cut into just its tokens.
-use Rattle.std.proofs.Common.{
-  ◌≡◌, ◌≢◌, ℕ, zero, suc, ◌<◌, ◌≤◌, ◌^◌, ℤ, pos, negsuc, Bool, true, false, not, ◌&&◌, ◌||◌, ◌==◌, List, [], ◌∷◌, ◌++◌, length, map, Option, None,
-  Some, Result, Ok, Err, inl, inr, IsTrue, All, refl, sym, ap, subst, ◌∙◌, arith, length-append}
+use Rattle.std.proofs.Common.{◌≡◌, ◌≢◌, ℕ, zero, suc, ◌<◌, ◌≤◌, ◌^◌, ℤ, pos, negsuc, Bool, true, false, not, ◌&&◌, ◌||◌, ◌==◌, List, [], ◌∷◌, ◌++◌, length}
+use Rattle.std.proofs.Common.{map, Option, None, Some, Result, Ok, Err, inl, inr, IsTrue, All, refl, sym, ap, subst, ◌∙◌, arith, length-append}
 use Rattle.std.proofs.lemmas.Bool.{and_parts, and_from, both_ways, or_left, or_right, eqb-true}
 use Rattle.std.proofs.lemmas.Bool.Decides.{Decides-int_eq}
 use Rattle.std.proofs.lemmas.Fmt.{decimal_nonempty}
@@ -26,13 +25,11 @@ use Rattle.uno_model.specs.Literals.{first_item, escaped, print}
 use Rattle.uno_model.specs.Names.{is_identifier, is_entity_name, parts_of, begins_identifier, goes_on_identifier}
 use Rattle.uno_model.specs.Readings.{is_void}
 use Rattle.uno_model.specs.Registry.{find_entity, all_members}
-use Rattle.uno_model.specs.Shapes.{
-  Bracket, square, curly, Token, opens, closes, comma, number, word, string, named, cast, spell, spells, is_some_name, is_first_name, is_own_word,
-  is_known_word, is_word, on_ok, is_name_byte, type_at, cast_of, string_at, value_at, Awaited, value, element, separator, behind_cast, behind,
-  opened, separator_at, element_at, token_at, Placed, is_whole, tokens_at, judge}
-use Rattle.uno_model.specs.Sound.{
-  IsSound, is_named, inner_names, is_there, is_enum, is_struct, is_exception, is_interface, kind_known, elements_plain, is_namable, is_some_list,
-  has_member}
+use Rattle.uno_model.specs.Shapes.{Bracket, square, curly, Token, opens, closes, comma, number, word, string, named, cast, spell, spells, is_some_name}
+use Rattle.uno_model.specs.Shapes.{is_first_name, is_own_word, is_known_word, is_word, on_ok, is_name_byte, type_at, cast_of, string_at, value_at, Awaited, value}
+use Rattle.uno_model.specs.Shapes.{element, separator, behind_cast, behind, opened, separator_at, element_at, token_at, Placed, is_whole, tokens_at, judge}
+use Rattle.uno_model.specs.Sound.{IsSound, is_named, inner_names, is_there, is_enum, is_struct, is_exception}
+use Rattle.uno_model.specs.Sound.{is_interface, kind_known, elements_plain, is_namable, is_some_list, has_member}
 use Rattle.uno_model.specs.Tokens.{InRange, IsSized, AllSized, tokens_of, tokens_in, byte_tokens, comma_tokens, item_token}
 use Rattle.uno_model.specs.Types.{is_formed, is_type}
 use Rattle.uno_model.specs.Values.{Ref, null, own, peer, Plain, Plains, none, more, refs, refs_in, held}

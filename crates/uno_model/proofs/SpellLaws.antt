@@ -8,9 +8,8 @@ use Rattle.uno_model.specs.Literals.{first_item, joined, print, print_each, item
 use Rattle.uno_model.specs.Registry.{find_entity}
 use Rattle.uno_model.specs.Shapes.{Token, closes, word, square, curly, spell, spells}
 use Rattle.uno_model.specs.Tokens.{tokens_of, tokens_in, byte_tokens, comma_tokens, item_token}
-use Rattle.uno_model.specs.Values.{
-  Ref, null, own, peer, Plain, Plains, void, char, boolean, byte, short, unsigned_short, long, unsigned_long, hyper, unsigned_hyper, str, kind, any,
-  enum, tuple, list, bytes, ref, none, more, refs, refs_in}
+use Rattle.uno_model.specs.Values.{Ref, null, own, peer, Plain, Plains, void, char, boolean, byte, short, unsigned_short, long, unsigned_long}
+use Rattle.uno_model.specs.Values.{hyper, unsigned_hyper, str, kind, any, enum, tuple, list, bytes, ref, none, more, refs, refs_in}
 
 pub spells-append : (xs ys : List Token) → spells (xs ++ ys) ≡ spells xs ++ spells ys
 spells-append [] ys = refl

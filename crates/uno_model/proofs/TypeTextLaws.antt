@@ -1,7 +1,6 @@
 -- The reading of a type's name finds the type that it names, and none where it names none.
-use Rattle.std.proofs.Common.{
-  ◌≡◌, ℕ, zero, suc, Bool, true, false, List, ◌++◌, length, take, drop, nat_le, Option, None, Some, MatchOption, refl, sym, ap, ◌∙◌, codes, arith,
-  add-one}
+use Rattle.std.proofs.Common.{◌≡◌, ℕ, zero, suc, Bool, true, false, List, ◌++◌, length, take, drop, nat_le, Option}
+use Rattle.std.proofs.Common.{None, Some, MatchOption, refl, sym, ap, ◌∙◌, codes, arith, add-one}
 use Rattle.std.proofs.lemmas.Bool.{and_parts, and_from, both_ways, leb-true, le-leb}
 use Rattle.std.proofs.lemmas.List.{take-append-drop}
 use Rattle.std.proofs.lemmas.Slice.Eq.{bytes_eq-Decides}

@@ -1,7 +1,6 @@
 -- What is read of tokens at a type fits it, and its own tokens are those that were read.
-use Rattle.std.proofs.Common.{
-  ◌≡◌, ◌≢◌, ℕ, zero, suc, ◌<◌, ◌^◌, ℤ, pos, negsuc, Bool, true, false, List, [], ◌∷◌, ◌++◌, length, map, Option, None, Some, Result, Ok, Err, inl,
-  inr, IsTrue, refl, sym, ap, subst, ◌∙◌, codes, nat_lt, if◌then◌else◌}
+use Rattle.std.proofs.Common.{◌≡◌, ◌≢◌, ℕ, zero, suc, ◌<◌, ◌^◌, ℤ, pos, negsuc, Bool, true, false, List, [], ◌∷◌, ◌++◌, length, map, Option}
+use Rattle.std.proofs.Common.{None, Some, Result, Ok, Err, inl, inr, IsTrue, refl, sym, ap, subst, ◌∙◌, codes, nat_lt, if◌then◌else◌}
 use Rattle.std.proofs.lemmas.Bool.{both_ways, ltb-true}
 use Rattle.std.proofs.lemmas.List.{append-nil, append_assoc}
 use Rattle.std.proofs.lemmas.Int.{to_z-of_z}
@@ -15,11 +14,9 @@ use Rattle.uno_model.specs.Fits.{Fits, FitEach, FitAll, IsTupleKind, member_kind
 use Rattle.uno_model.specs.Kinds.{Kind}
 use Rattle.uno_model.specs.Kinds as kd
 use Rattle.uno_model.specs.Literals.{first_item}
-use Rattle.uno_model.specs.Readings.{
-  Fault, deep, misfit, Reads, left_at, number_in, word_in, string_in, named_in, cast_in, and_then, unsigned_of, signed_of, truth_of, word_as,
-  number_named, item_in, none_of_number, some_as, single, only_token, is_comma, opens_square, opens_curly, closes_square, closes_curly, expect,
-  with_first, behind_element, elements_on, elements_in, sequence_of, comma_at, members_on, tuple_of, is_void, any_of, bits_of, map_option, byte_in,
-  value_step, value_within}
+use Rattle.uno_model.specs.Readings.{Fault, deep, misfit, Reads, left_at, number_in, word_in, string_in, named_in, cast_in, and_then, unsigned_of, signed_of, truth_of, word_as, number_named}
+use Rattle.uno_model.specs.Readings.{item_in, none_of_number, some_as, single, only_token, is_comma, opens_square, opens_curly, closes_square, closes_curly, expect, with_first, behind_element}
+use Rattle.uno_model.specs.Readings.{elements_on, elements_in, sequence_of, comma_at, members_on, tuple_of, is_void, any_of, bits_of, map_option, byte_in, value_step, value_within}
 use Rattle.uno_model.specs.Registry.{find_entity}
 use Rattle.uno_model.specs.Shapes.{Token, opens, closes, comma, number, word, string, named, cast, square, curly, Placed, on_ok, is_some_name}
 use Rattle.uno_model.specs.Tokens.{tokens_of, tokens_in, byte_tokens, comma_tokens, item_token}

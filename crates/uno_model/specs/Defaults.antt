@@ -6,9 +6,8 @@ use Rattle.uno_model.specs.Entities.{Entity, Body, Item}
 use Rattle.uno_model.specs.Entities as plain
 use Rattle.uno_model.specs.Registry.{find_entity}
 use Rattle.uno_model.specs.Fits.{IsTupleKind, member_kinds}
-use Rattle.uno_model.specs.Values.{
-  Ref, null, Plain, Plains, void, char, boolean, byte, short, unsigned_short, long, unsigned_long, hyper, unsigned_hyper, str, kind, any, enum,
-  tuple, list, bytes, ref, none, more}
+use Rattle.uno_model.specs.Values.{Ref, null, Plain, Plains, void, char, boolean, byte, short, unsigned_short, long, unsigned_long}
+use Rattle.uno_model.specs.Values.{hyper, unsigned_hyper, str, kind, any, enum, tuple, list, bytes, ref, none, more}
 
 -- the items of an enum
 abbrev pub items_in : Body → List Item

@@ -5,9 +5,8 @@ use Rattle.uno_model.specs.Kinds as kd
 use Rattle.uno_model.specs.Entities.{Entity, Field}
 use Rattle.uno_model.specs.Registry.{IsBaseOf, all_members}
 use Rattle.uno_model.specs.Types.{is_type}
-use Rattle.uno_model.specs.Values.{
-  Ref, null, own, peer, Plain, Plains, void, char, boolean, byte, short, unsigned_short, long, unsigned_long, hyper, unsigned_hyper, str, kind, any,
-  enum, tuple, list, bytes, ref, none, more}
+use Rattle.uno_model.specs.Values.{Ref, null, own, peer, Plain, Plains, void, char, boolean, byte, short, unsigned_short, long}
+use Rattle.uno_model.specs.Values.{unsigned_long, hyper, unsigned_hyper, str, kind, any, enum, tuple, list, bytes, ref, none, more}
 
 -- a type of the registry, and an interface of it
 abbrev pub IsInterface : List Entity → List ℕ → Type 0

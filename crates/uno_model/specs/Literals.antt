@@ -10,9 +10,8 @@ use Rattle.uno_model.specs.Entities.{Entity, Item}
 use Rattle.uno_model.specs.Registry.{find_entity}
 use Rattle.uno_model.specs.Defaults.{items_of}
 use Rattle.uno_model.specs.Fits.{Fits}
-use Rattle.uno_model.specs.Values.{
-  Ref, null, own, peer, Plain, Plains, void, char, boolean, byte, short, unsigned_short, long, unsigned_long, hyper, unsigned_hyper, str, kind, any,
-  enum, tuple, list, bytes, ref, none, more, refs}
+use Rattle.uno_model.specs.Values.{Ref, null, own, peer, Plain, Plains, void, char, boolean, byte, short, unsigned_short, long}
+use Rattle.uno_model.specs.Values.{unsigned_long, hyper, unsigned_hyper, str, kind, any, enum, tuple, list, bytes, ref, none, more, refs}
 
 -- in a quoted text `"` and `\` follow a `\`, and a line feed is `\n`; every other character stands for itself
 abbrev pub escaped : ℕ → List ℕ

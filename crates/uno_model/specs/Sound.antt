@@ -6,9 +6,8 @@ use Rattle.uno_model.specs.Circles.{HasNoCircle}
 use Rattle.uno_model.specs.Kinds.{Kind, name_of, nesting}
 use Rattle.uno_model.specs.Kinds as kd
 use Rattle.uno_model.specs.Names.{is_identifier, is_entity_name, parts_of}
-use Rattle.uno_model.specs.Entities.{
-  Entity, Body, Base, Member, attribute, method, Constructor, Part, face, subservice, property, interface, struct, exception, enum, constants,
-  typedef, new_service, old_service, new_singleton, old_singleton}
+use Rattle.uno_model.specs.Entities.{Entity, Body, Base, Member, attribute, method, Constructor, Part, face, subservice, property, interface}
+use Rattle.uno_model.specs.Entities.{struct, exception, enum, constants, typedef, new_service, old_service, new_singleton, old_singleton}
 use Rattle.uno_model.specs.Registry.{find_entity, at_most_one, required, all_members, leads_to}
 use Rattle.uno_model.specs.Marks.{MarksBases}
 

@@ -6,9 +6,8 @@ use Rattle.uno_model.specs.Entities.{Entity}
 use Rattle.uno_model.specs.Literals.{first_item}
 use Rattle.uno_model.specs.Registry.{find_entity}
 use Rattle.uno_model.specs.Shapes.{Token, opens, closes, comma, number, word, string, named, cast, square, curly}
-use Rattle.uno_model.specs.Values.{
-  Plain, Plains, void, char, boolean, byte, short, unsigned_short, long, unsigned_long, hyper, unsigned_hyper, str, kind, any, enum, tuple, list,
-  bytes, ref, none, more}
+use Rattle.uno_model.specs.Values.{Plain, Plains, void, char, boolean, byte, short, unsigned_short, long, unsigned_long, hyper}
+use Rattle.uno_model.specs.Values.{unsigned_hyper, str, kind, any, enum, tuple, list, bytes, ref, none, more}
 
 -- each number is one of its type
 abbrev pub InRange : ℕ → ℤ → Type 0

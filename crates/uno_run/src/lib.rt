@@ -11,6 +11,3 @@ mod words;
 pub use lines::report;
 pub use status::Status;
 pub use top::run;
-
-#[cfg(test)]
-mod tests;

@@ -1,5 +1,6 @@
 -- Names that are looked up, from the last to the first, among those behind them.
-use Rattle.std.proofs.Common.{◌≡◌, ℕ, ◌-◌, ◌<◌, ◌≤◌, zero, suc, List, [], ◌∷◌, Bool, true, false, not, refl, length, map, drop, ap, ◌∙◌, arith, get_or, drop-cons, Bor, Ordering}
+use Rattle.std.proofs.Common.{◌≡◌, ℕ, ◌-◌, ◌<◌, ◌≤◌, zero, suc, List, [], ◌∷◌, Bool, true, false, not, refl}
+use Rattle.std.proofs.Common.{length, map, drop, ap, ◌∙◌, arith, get_or, drop-cons, Bor, Ordering}
 use Rattle.std.specs.List.{list_any}
 use Rattle.std.specs.BTreeSet.{BTreeSet, contains_by, contains, IsEmpty, Updates}
 use Rattle.std.specs.BTreeMap.{is_at}

@@ -16,8 +16,6 @@ mod name;
 mod registry;
 mod sound;
 mod tag;
-#[cfg(test)]
-mod tests;
 mod text;
 mod threads;
 mod tid;

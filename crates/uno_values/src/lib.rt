@@ -7,8 +7,6 @@ mod depth;
 mod fitting;
 mod reference;
 mod references;
-#[cfg(test)]
-mod tests;
 mod threads;
 mod value;
 mod weigh;

@@ -1,7 +1,6 @@
 -- What the entries of the library's cache say, as names with their slots.
-use Rattle.std.proofs.Common.{
-  ◌≡◌, ℕ, ◌-◌, ◌<◌, ◌≤◌, Bool, true, false, List, [], ◌∷◌, length, take, cond, Option, Some, None, Vec, bytes_eq, is_some, MatchOption, slice_get,
-  refl, sym, ◌∙◌, ap, subst, arith}
+use Rattle.std.proofs.Common.{◌≡◌, ℕ, ◌-◌, ◌<◌, ◌≤◌, Bool, true, false, List, [], ◌∷◌, length, take, cond, Option, Some, None}
+use Rattle.std.proofs.Common.{Vec, bytes_eq, is_some, MatchOption, slice_get, refl, sym, ◌∙◌, ap, subst, arith}
 use Rattle.std.specs.Option.{option_map, option_map_or}
 use Rattle.std.specs.Map.{lookup, lookup_entry, remove_entry}
 use Rattle.std.proofs.lemmas.Bool.{le-ltb, lt-ltb}

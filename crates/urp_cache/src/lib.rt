@@ -5,8 +5,6 @@ mod read_cache;
 mod read_caches;
 mod send_cache;
 mod send_caches;
-#[cfg(test)]
-mod tests;
 mod threads;
 
 pub use read_cache::ReadCache;

@@ -13,8 +13,6 @@ mod raising;
 mod reason;
 mod saying;
 mod speaker;
-#[cfg(test)]
-mod tests;
 mod weighing;
 
 pub use error::ReadError;

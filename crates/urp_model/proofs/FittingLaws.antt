@@ -1,7 +1,6 @@
 -- What is spelled as a type is one of the registry, and what is spelled as an object is an identity.
-use Rattle.std.proofs.Common.{
-  ◌≡◌, ◌≢◌, ℕ, ◌≤◌, nat_le, nat_lt, Bool, true, false, ◌&&◌, List, [], ◌∷◌, length, get_or, set, replicate, None, Some, refl, sym, ◌∙◌, ap, subst,
-  ◌⊎◌, inl, inr, if◌then◌else◌, arith}
+use Rattle.std.proofs.Common.{◌≡◌, ◌≢◌, ℕ, ◌≤◌, nat_le, nat_lt, Bool, true, false, ◌&&◌, List, [], ◌∷◌, length, get_or, set}
+use Rattle.std.proofs.Common.{replicate, None, Some, refl, sym, ◌∙◌, ap, subst, ◌⊎◌, inl, inr, if◌then◌else◌, arith}
 use Rattle.std.proofs.lemmas.Bool.{and_parts, and_from, leb-true, le-leb, ltb-true, cases_eq, cases_lt}
 use Rattle.std.proofs.lemmas.List.{get_or-set_same, get_or-set_other, set_past, get_or-replicate}
 use Rattle.uno_model.specs.Entities.{Entity}
@@ -12,9 +11,8 @@ use Rattle.uno_model.specs.Sound.{kind_known, elements_plain, is_plain, is_namab
 use Rattle.uno_model.specs.Types.{is_type, is_formed}
 use Rattle.urp_model.specs.Carried.{MeansIdentities}
 use Rattle.urp_model.specs.NamedKinds.{is_simple}
-use Rattle.urp_model.specs.Spelling.{
-  IsTextName, Spelled, SpellsKind, simple, SpellsName, SpellsOid, SpellsAll, SpellsEach, SpellsBytes, SpellsList, SpellsSequence, SpellsTuple,
-  SpellsStep, Spells}
+use Rattle.urp_model.specs.Spelling.{IsTextName, Spelled, SpellsKind, simple, SpellsName, SpellsOid, SpellsAll, SpellsEach}
+use Rattle.urp_model.specs.Spelling.{SpellsBytes, SpellsList, SpellsSequence, SpellsTuple, SpellsStep, Spells}
 use Rattle.urp_model.specs.Spelling as spell
 use Rattle.urp_model.specs.Slots.{no_meanings, announced}
 use Rattle.urp_model.specs.Tables.{Table, no_tables, meaning, noted}

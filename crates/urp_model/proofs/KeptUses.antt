@@ -1,7 +1,6 @@
 -- What a sender keeps of its uses agrees with the list of all uses, use by use.
-use Rattle.std.proofs.Common.{
-  ◌≡◌, ℕ, suc, ◌<◌, ◌≤◌, nat_lt, nat_eq, true, false, List, [], ◌∷◌, ◌++◌, length, get_or, take, set, cond, Some, None, is_some, refl, sym, ◌∙◌, ap,
-  subst, arith, bytes_eq}
+use Rattle.std.proofs.Common.{◌≡◌, ℕ, suc, ◌<◌, ◌≤◌, nat_lt, nat_eq, true, false, List, [], ◌∷◌, ◌++◌, length, get_or}
+use Rattle.std.proofs.Common.{take, set, cond, Some, None, is_some, refl, sym, ◌∙◌, ap, subst, arith, bytes_eq}
 use Rattle.std.specs.List.{AllByRecursion}
 use Rattle.std.specs.Map.{lookup, remove_entry}
 use Rattle.std.proofs.lemmas.Bool.{ltb-true, ltb-false, eqb-true, eqb-false}
@@ -9,9 +8,8 @@ use Rattle.std.proofs.lemmas.List.{length-set, take_all, take_at, get_or-set_sam
 use Rattle.std.proofs.lemmas.Slice.Eq.{bytes_eq-Decides}
 use Rattle.urp_model.specs.Held.{holds}
 use Rattle.urp_model.specs.Slots.{age, stalest, is_among}
-use Rattle.urp_model.proofs.Entries.{
-  all_at_last, all_before, all_taken, all_weaker, all_left, one_less, none_less, all_found, found_left, found_before, Grows, grows_taken, grows_left,
-  others_left, last_is_above, grows_again}
+use Rattle.urp_model.proofs.Entries.{all_at_last, all_before, all_taken, all_weaker, all_left, one_less, none_less, all_found, found_left}
+use Rattle.urp_model.proofs.Entries.{found_before, Grows, grows_taken, grows_left, others_left, last_is_above, grows_again}
 use Rattle.urp_model.proofs.NamesInSlots.{among_at_place, not_among, stalest_place}
 
 -- a name stands at a slot

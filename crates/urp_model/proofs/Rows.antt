@@ -11,7 +11,8 @@ use Rattle.urp_model.specs.Reading.{elements_at, bytes_at, list_at, content_at, 
 use Rattle.urp_model.specs.ReadingNames.{written_kind, written_kind_at, kind_behind, kind_at, oid_at}
 use Rattle.urp_model.specs.Slots.{announced}
 use Rattle.urp_model.specs.Held.{holds, next_slot, slot_for, used}
-use Rattle.urp_model.specs.Writing.{no_names, compressed, measured, slot_bytes, kind_written, kind_spelling, kind_after, name_spelling, after, afters, spelling, spellings}
+use Rattle.urp_model.specs.Writing.{no_names, compressed, measured, slot_bytes, kind_written, kind_spelling}
+use Rattle.urp_model.specs.Writing.{kind_after, name_spelling, after, afters, spelling, spellings}
 use Rattle.urp_model.specs.Tables.{Table, Tables, noted, with_types}
 use Rattle.urp_model.proofs.Utf8Laws.{is_utf8_ascii}
 use Rattle.urp_model.specs.declared.fault.Fault.TheVariants.{Short, Bad}

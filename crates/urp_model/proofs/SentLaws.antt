@@ -9,9 +9,8 @@ use Rattle.uno_model.specs.Kinds.{Kind}
 use Rattle.uno_model.specs.Kinds as kd
 use Rattle.uno_model.specs.Recast.{recast, recast_each, recast_all}
 use Rattle.uno_model.specs.Sound.{is_named}
-use Rattle.uno_model.specs.Values.{
-  Plain, Plains, depth, depth_in, void, char, boolean, byte, short, unsigned_short, long, unsigned_long, hyper, unsigned_hyper, str, kind, any, enum,
-  tuple, list, bytes, ref, none, more}
+use Rattle.uno_model.specs.Values.{Plain, Plains, depth, depth_in, void, char, boolean, byte, short, unsigned_short, long}
+use Rattle.uno_model.specs.Values.{unsigned_long, hyper, unsigned_hyper, str, kind, any, enum, tuple, list, bytes, ref, none, more}
 use Rattle.uno_model.specs.Weights.{count}
 use Rattle.urp_model.specs.Carried.{abroad, abroad_each, carried, IsSpellable, AreSpellable, AllCorrespond}
 use Rattle.urp_model.specs.Spelling.{SpellsAll, SpellsEach, SpellsStep, Spells}

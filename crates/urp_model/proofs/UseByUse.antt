@@ -1,5 +1,6 @@
 -- Each use keeps what a sender keeps in agreement with the list of all uses; so its answers are those of that list.
-use Rattle.std.proofs.Common.{◌≡◌, ℕ, ◌<◌, ◌≤◌, nat_lt, true, false, List, [], ◌∷◌, ◌++◌, length, get_or, take, set, Some, None, refl, sym, ◌∙◌, ap, subst, arith, bytes_eq}
+use Rattle.std.proofs.Common.{◌≡◌, ℕ, ◌<◌, ◌≤◌, nat_lt, true, false, List, [], ◌∷◌, ◌++◌, length, get_or}
+use Rattle.std.proofs.Common.{take, set, Some, None, refl, sym, ◌∙◌, ap, subst, arith, bytes_eq}
 use Rattle.std.specs.Map.{lookup, remove_entry}
 use Rattle.std.proofs.lemmas.Bool.{le-ltb, lt-ltb, ltb-true, ltb-false}
 use Rattle.std.proofs.lemmas.List.{length-take, take_all, take_more}

@@ -1,7 +1,6 @@
 -- Values of all types are read as they are spelled.
-use Rattle.std.proofs.Common.{
-  ◌≡◌, ◌≢◌, ℕ, zero, suc, ◌<◌, Bool, true, false, ◌==◌, nat_lt, List, [], ◌∷◌, ◌++◌, length, Option, Result, Ok, if◌then◌else◌, refl, sym, ap, subst,
-  ◌∙◌, ◌⊎◌, inl, inr, arith}
+use Rattle.std.proofs.Common.{◌≡◌, ◌≢◌, ℕ, zero, suc, ◌<◌, Bool, true, false, ◌==◌, nat_lt, List, [], ◌∷◌, ◌++◌, length}
+use Rattle.std.proofs.Common.{Option, Result, Ok, if◌then◌else◌, refl, sym, ap, subst, ◌∙◌, ◌⊎◌, inl, inr, arith}
 use Rattle.std.specs.List.{list_all}
 use Rattle.std.proofs.lemmas.List.{append-nil}
 use Rattle.std.proofs.lemmas.Bool.{ltb-true}
@@ -16,7 +15,8 @@ use Rattle.uno_model.specs.Values as plain
 use Rattle.urp_model.specs.NamedKinds.{is_any, is_byte}
 use Rattle.urp_model.specs.Parts.{◌>>=◌}
 use Rattle.urp_model.specs.Reading.{ref_of, Reads, elements_at, members_at, bytes_at, list_at, tuple_at, content_at, any_at, value_step, value_at}
-use Rattle.urp_model.specs.Spelling.{IsLength, Spelled, SpellsKind, SpellsOid, SpellsAll, SpellsEach, SpellsBytes, SpellsList, SpellsSequence, SpellsTuple, SpellsStep, Spells}
+use Rattle.urp_model.specs.Spelling.{IsLength, Spelled, SpellsKind, SpellsOid, SpellsAll, SpellsEach, SpellsBytes}
+use Rattle.urp_model.specs.Spelling.{SpellsList, SpellsSequence, SpellsTuple, SpellsStep, Spells}
 use Rattle.urp_model.specs.Tables.{Table, Tables, with_types, with_oids}
 use Rattle.urp_model.specs.declared.fault.Fault.{Fault}
 use Rattle.urp_model.specs.declared.reason.Reason.TheVariants.{BadBoolean, BadAny, Deep}

@@ -10,9 +10,8 @@ use Rattle.uno_model.specs.Weights.{compressed_weight, text_weight, kind_weight,
 use Rattle.urp_model.specs.Carried.{IsNewKind, IsNewRef, IsNew, AreNew}
 use Rattle.urp_model.specs.Held.{holds, slot_for}
 use Rattle.urp_model.specs.NamedKinds.{is_simple}
-use Rattle.urp_model.specs.Writing.{
-  Names, HeldNames, holding_types, compressed, measured, slot_bytes, kind_written, kind_spelling, kind_after, name_spelling, ref_spelling, after,
-  spelling, spellings}
+use Rattle.urp_model.specs.Writing.{Names, HeldNames, holding_types, compressed, measured, slot_bytes, kind_written}
+use Rattle.urp_model.specs.Writing.{kind_spelling, kind_after, name_spelling, ref_spelling, after, spelling, spellings}
 
 -- ---- parts
 

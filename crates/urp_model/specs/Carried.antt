@@ -7,9 +7,8 @@ use Rattle.uno_model.specs.Entities.{Entity}
 use Rattle.uno_model.specs.Fits.{IsIdentity}
 use Rattle.uno_model.specs.Kinds.{Kind, name_of}
 use Rattle.uno_model.specs.Recast.{recast}
-use Rattle.uno_model.specs.Values.{
-  Ref, null, own, peer, Plain, Plains, char, byte, short, unsigned_short, long, unsigned_long, hyper, unsigned_hyper, str, kind, any, enum, tuple,
-  list, ref, none, more}
+use Rattle.uno_model.specs.Values.{Ref, null, own, peer, Plain, Plains, char, byte, short, unsigned_short, long, unsigned_long}
+use Rattle.uno_model.specs.Values.{hyper, unsigned_hyper, str, kind, any, enum, tuple, list, ref, none, more}
 use Rattle.urp_model.specs.Held.{holds, StandsFor}
 use Rattle.urp_model.specs.NamedKinds.{is_simple}
 use Rattle.urp_model.specs.Tables.{Table, Tables, meaning}

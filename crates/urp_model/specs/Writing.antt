@@ -3,9 +3,8 @@ use Rattle.std.specs.Prelude.{ℕ, ◌+◌, nat_lt, List, [], ◌∷◌, ◌++�
 use Rattle.std.specs.Int.{w8, w16, w32, w64, to_be_bytes, cast_unsigned, from_bool}
 use Rattle.uno_model.specs.Kinds.{Kind, name_of}
 use Rattle.uno_model.specs.TypeClasses.{class_code, class_of}
-use Rattle.uno_model.specs.Values.{
-  Ref, null, own, peer, Plain, Plains, void, char, boolean, byte, short, unsigned_short, long, unsigned_long, hyper, unsigned_hyper, str, kind, any,
-  enum, tuple, list, bytes, ref, none, more}
+use Rattle.uno_model.specs.Values.{Ref, null, own, peer, Plain, Plains, void, char, boolean, byte, short, unsigned_short, long}
+use Rattle.uno_model.specs.Values.{unsigned_long, hyper, unsigned_hyper, str, kind, any, enum, tuple, list, bytes, ref, none, more}
 use Rattle.uno_model.specs.Weights.{count}
 use Rattle.urp_model.specs.Held.{holds, slot_for, used}
 use Rattle.urp_model.specs.NamedKinds.{is_simple}

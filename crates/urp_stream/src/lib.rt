@@ -6,8 +6,6 @@ mod blocks;
 mod error;
 mod header;
 mod laws;
-#[cfg(test)]
-mod tests;
 mod threads;
 
 pub use block::Block;

@@ -3,8 +3,6 @@
 
 mod error;
 mod read;
-#[cfg(test)]
-mod tests;
 mod write;
 
 pub use error::WireError;

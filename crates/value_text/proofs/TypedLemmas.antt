@@ -1,15 +1,13 @@
 -- The values of tokens, one after the other.
-use Rattle.std.proofs.Common.{
-  ◌≡◌, ◌≤◌, ◌+◌, length, drop, get_or, Bor, ℕ, zero, suc, ◌<◌, ◌-◌, Bool, List, [], ◌∷◌, ◌++◌, Result, Ok, Err, IsErr, true, false, refl, sym, ap,
-  subst, ◌∙◌, arith, if◌then◌else◌}
+use Rattle.std.proofs.Common.{◌≡◌, ◌≤◌, ◌+◌, length, drop, get_or, Bor, ℕ, zero, suc, ◌<◌, ◌-◌, Bool, List, [], ◌∷◌, ◌++◌}
+use Rattle.std.proofs.Common.{Result, Ok, Err, IsErr, true, false, refl, sym, ap, subst, ◌∙◌, arith, if◌then◌else◌}
 use Rattle.std.proofs.lemmas.List.{append_assoc, append-nil, drop_more, drop_all}
 use Rattle.uno_model.specs.Entities.{Entity}
 use Rattle.uno_model.specs.Fits.{member_kinds}
 use Rattle.uno_model.specs.Kinds.{Kind}
 use Rattle.uno_model.specs.Kinds as kd
-use Rattle.uno_model.specs.Readings.{
-  Fault, misfit, Reads, value_within, value_step, left_at, elements_on, behind_element, members_on, with_first, comma_at, expect, is_comma,
-  closes_square, closes_curly, opens_curly}
+use Rattle.uno_model.specs.Readings.{Fault, misfit, Reads, value_within, value_step, left_at, elements_on, behind_element, members_on}
+use Rattle.uno_model.specs.Readings.{with_first, comma_at, expect, is_comma, closes_square, closes_curly, opens_curly}
 use Rattle.uno_model.specs.Shapes.{Placed, on_ok}
 use Rattle.uno_model.specs.Types.{is_type}
 use Rattle.uno_model.specs.Values.{Plain}

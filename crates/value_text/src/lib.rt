@@ -10,8 +10,6 @@ mod read;
 mod scan;
 mod single;
 mod stop;
-#[cfg(test)]
-mod tests;
 mod token;
 mod typed;
 

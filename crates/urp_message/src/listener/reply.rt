@@ -1,25 +1,25 @@
 //! Replies (URP specification, messages).
-ghost use Rattle.std.specs.Prelude.{◌≡◌, ◌&&◌, not, IfOk, option_map};
+ghost use Rattle.std.specs.Prelude.{◌≡◌, ◌&&◌, not, IfOk, option_map, Some};
 ghost use Rattle.message_model.specs.Calls.{numbered, may_raise, waiting};
 ghost use Rattle.message_model.specs.ReadingMessages.{returned_at, exception_at, raised_at, answer_at, awaited, reply_at};
 ghost use Rattle.type_registry.specs.Functions.{function_of};
 ghost use Rattle.uno_model.specs.Sound.{IsSound};
 ghost use Rattle.uno_types.specs.TypeNames.{kind_of};
-ghost use Rattle.urp_message.specs.Messages.{message_of, answer_of, heard_of};
+ghost use Rattle.urp_message.specs.Messages.{message_of, answer_of, heard_of, last_of};
 ghost use Rattle.urp_message.specs.Waiting.{awaited_of};
 ghost use Rattle.urp_wire.specs.Gives.{Gives, tables_of};
 
 use super::target::thread_named;
 use super::values::{MOST_LEVELS, values};
 use crate::flags::{EXCEPTION, NEW_TID, has};
-use crate::last::Heard;
+use crate::last::{Heard, Last};
 use crate::params::{Phase, kinds};
 use crate::raising::may_raise;
 use crate::{Answer, Expects, Message};
 use std::alloc::Global;
 use type_registry::{Function, function_numbered};
 use uno_base::NoMemory;
-use uno_types::{Name, Registry, TypeName};
+use uno_types::{Name, Registry, Tid, TypeName};
 use uno_values::AnyValue;
 use urp_cache::ReadCaches;
 use urp_wire::{Reason, WireError, read_kind, read_value_within};
@@ -64,7 +64,7 @@ pub(crate) fn reply<'a, E: Expects>(
         &mut heard.caches,
         rest,
     )?;
-    heard.last.tid = Some(last);
+    remember(&mut heard.last, last);
     let message = Message::Reply {
         tid,
         face: call.face,
@@ -72,6 +72,13 @@ pub(crate) fn reply<'a, E: Expects>(
         answer,
     };
     Ok((message, rest))
+}
+
+/// The thread of a reply is the last one from now on; the last type and object are still those of a request.
+fn remember(last: &mut Last, tid: Tid)
+    ensures { last_of last.new ≡ record { kind = (last_of last.old).kind; oid = (last_of last.old).oid; tid = Some tid } }
+{
+    last.tid = Some(tid);
 }
 
 /// The call for which a thread waits.

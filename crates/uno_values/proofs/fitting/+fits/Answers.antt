@@ -1,6 +1,6 @@
 use Rattle.std.proofs.Common.{refl, rules, arith}
-use Rattle.uno_values.proofs.FitLemmas.{
-  untrue, neither, through, too_few, level_parts, at_root, at_base, at_end, all_lost, all_but_one, all_passed, each_lost, each_but_one, each_passed}
+use Rattle.uno_values.proofs.FitLemmas.{untrue, neither, through, too_few, level_parts, at_root, at_base, at_end}
+use Rattle.uno_values.proofs.FitLemmas.{all_lost, all_but_one, all_passed, each_lost, each_but_one, each_passed}
 use Rattle.uno_values.proofs.fitting.+fits.Goals as goal
 
 pub members_fit-returns-in_default : goal.members_fit-returns-in_default

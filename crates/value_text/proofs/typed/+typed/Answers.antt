@@ -5,9 +5,8 @@ use Rattle.uno_model.specs.Entities.{Field}
 use Rattle.uno_model.specs.Registry.{all_members}
 use Rattle.uno_types.specs.TypeNames.{kind_of}
 use Rattle.uno_values.specs.Values.{plain_of}
-use Rattle.value_text.proofs.TypedLemmas.{
-  element_fails, element_alone, element_last, element_lost, element_next, handed_over, member_next, member_fails, comma_fails, members_end,
-  members_lost, kinds_more, kinds_done, tuple_fails}
+use Rattle.value_text.proofs.TypedLemmas.{element_fails, element_alone, element_last, element_lost, element_next, handed_over, member_next}
+use Rattle.value_text.proofs.TypedLemmas.{member_fails, comma_fails, members_end, members_lost, kinds_more, kinds_done, tuple_fails}
 use Rattle.value_text.specs.Scanning.{all_placed, placed_of}
 use Rattle.value_text.specs.Typing.{kinds_at}
 use Rattle.value_text.proofs.typed.+typed.Goals as goal

@@ -1,0 +1,158 @@
+//! Entities as lines of words: what each is, its name, and its parts, which `parts` reads.
+//!
+//! `interface t.X +t.XBase +?t.XMaybe a:long -b:long go(in:a:long,out:b:long)void!t.Bad,t.Worse` (`-`: read-only), `~tell()void` (`~`: oneway)
+//! `struct t.S +t.Base a:[]struct/t.T`, `exception t.F +t.Base a:long`, `enum t.E A B=2`, `constants t.C A:long`, `typedef t.T long`
+//! `service t.V t.X make(a:long,+rest)!t.Bad`, `old_service t.W interface/t.X ?service/t.V a:long`
+//! `singleton t.One t.X`, `old_singleton t.Two t.W`
+ghost use Rattle.std.specs.Prelude.{IfOk};
+ghost use Rattle.uno_model.specs.Sound.{IsSound};
+
+pub(crate) mod many;
+mod parts;
+pub(crate) mod texts;
+
+use crate::types::{cut, type_of};
+use many::{Lines, spelled};
+use parts::{added, all_of};
+use std::alloc::Global;
+use texts::KNOWN;
+use uno_base::NoMemory;
+use uno_types::{Body, Entity, Name, Registry, Service, Singleton};
+
+/// The built-in entities, and those of the lines, with `;` between them.
+pub(crate) fn registry_of(alloc: Global, lines: Lines) -> Result<Registry, NoMemory> {
+    let mut registry = Registry::new(alloc)?;
+    let text = spelled(alloc, lines)?;
+    add_lines(alloc, &mut registry, &text)?;
+    Ok(registry)
+}
+
+/// The same with the known entities too.
+pub(crate) fn with_known(alloc: Global, lines: Lines) -> Result<Registry, NoMemory> {
+    let mut registry = registry_of(alloc, (KNOWN, "", 0))?;
+    let text = spelled(alloc, lines)?;
+    add_lines(alloc, &mut registry, &text)?;
+    Ok(registry)
+}
+
+/// The built-in entities and those of the lines, if they are sound.
+pub(crate) fn sound_of(alloc: Global, lines: Lines) -> Result<Registry, NoMemory>
+    ensures { IfOk result (λ registry. IsSound registry) }
+{
+    sound(registry_of(alloc, lines)?)
+}
+
+/// The built-in entities alone, if they are sound.
+pub(crate) fn built_in(alloc: Global) -> Result<Registry, NoMemory>
+    ensures { IfOk result (λ registry. IsSound registry) }
+{
+    sound(Registry::new(alloc)?)
+}
+
+/// The registry, if it is sound.
+fn sound(registry: Registry) -> Result<Registry, NoMemory>
+    ensures { IfOk result (λ registry. IsSound registry) }
+{
+    if registry.is_sound()? {
+        return Ok(registry);
+    }
+    Err(NoMemory)
+}
+
+pub(crate) fn add_lines(
+    alloc: Global,
+    registry: &mut Registry,
+    lines: &str,
+) -> Result<(), NoMemory> {
+    for line in lines.split(';') {
+        add_line(alloc, registry, line)?;
+    }
+    Ok(())
+}
+
+/// A name that is there already is a slip in the lines.
+fn add_line(alloc: Global, registry: &mut Registry, line: &str) -> Result<(), NoMemory> {
+    match registry.add(entity_of(alloc, line)?) {
+        Ok(()) => Ok(()),
+        Err(_) => Err(NoMemory),
+    }
+}
+
+pub(crate) fn entity_of(alloc: Global, line: &str) -> Result<Entity, NoMemory> {
+    let (what, rest) = cut(line.trim_start(), ' ');
+    let (name, parts) = cut(rest, ' ');
+    Ok(Entity {
+        name: Name::of(alloc, name)?,
+        published: false,
+        body: body_of(alloc, what, parts)?,
+    })
+}
+
+fn body_of(alloc: Global, what: &str, parts: &str) -> Result<Body, NoMemory> {
+    match what {
+        "interface" => interface_of(alloc, parts),
+        "struct" => struct_of(alloc, parts),
+        "exception" => exception_of(alloc, parts),
+        "enum" => enum_of(alloc, parts),
+        "constants" => constants_of(alloc, parts),
+        "typedef" => typedef_of(alloc, parts),
+        "service" | "old_service" => service_of(alloc, what, parts),
+        _ => singleton_of(alloc, what, parts),
+    }
+}
+
+fn interface_of(alloc: Global, parts: &str) -> Result<Body, NoMemory> {
+    let bases = all_of(alloc, parts, ' ', true)?;
+    let members = all_of(alloc, parts, ' ', false)?;
+    Ok(Body::Interface { bases, members })
+}
+
+fn struct_of(alloc: Global, parts: &str) -> Result<Body, NoMemory> {
+    let base = added(alloc, parts, ' ')?;
+    let members = all_of(alloc, parts, ' ', false)?;
+    Ok(Body::Struct { base, members })
+}
+
+fn exception_of(alloc: Global, parts: &str) -> Result<Body, NoMemory> {
+    let base = added(alloc, parts, ' ')?;
+    let members = all_of(alloc, parts, ' ', false)?;
+    Ok(Body::Exception { base, members })
+}
+
+fn enum_of(alloc: Global, parts: &str) -> Result<Body, NoMemory> {
+    let items = all_of(alloc, parts, ' ', false)?;
+    Ok(Body::Enum { items })
+}
+
+fn constants_of(alloc: Global, parts: &str) -> Result<Body, NoMemory> {
+    let constants = all_of(alloc, parts, ' ', false)?;
+    Ok(Body::Constants { constants })
+}
+
+fn typedef_of(alloc: Global, parts: &str) -> Result<Body, NoMemory> {
+    let kind = type_of(alloc, parts)?;
+    Ok(Body::Typedef { kind })
+}
+
+fn service_of(alloc: Global, what: &str, parts: &str) -> Result<Body, NoMemory> {
+    if what == "service" {
+        return new_service_of(alloc, parts);
+    }
+    let parts = all_of(alloc, parts, ' ', false)?;
+    Ok(Body::Service(Service::Old { parts }))
+}
+
+fn new_service_of(alloc: Global, parts: &str) -> Result<Body, NoMemory> {
+    let (base, rest) = cut(parts, ' ');
+    let base = Name::of(alloc, base)?;
+    let constructors = all_of(alloc, rest, ' ', false)?;
+    Ok(Body::Service(Service::New { base, constructors }))
+}
+
+fn singleton_of(alloc: Global, what: &str, parts: &str) -> Result<Body, NoMemory> {
+    let name = Name::of(alloc, parts)?;
+    if what == "singleton" {
+        return Ok(Body::Singleton(Singleton::New { base: name }));
+    }
+    Ok(Body::Singleton(Singleton::Old { service: name }))
+}

@@ -1,0 +1,61 @@
+//! The tests of the library, over public calls alone.
+#![tactic(auto)]
+
+#[cfg(test)]
+mod blocks;
+#[cfg(test)]
+mod circles;
+#[cfg(test)]
+mod defaults;
+#[cfg(test)]
+mod entities;
+#[cfg(test)]
+mod fitting;
+#[cfg(test)]
+mod limits;
+#[cfg(test)]
+mod listening;
+#[cfg(test)]
+mod literals;
+#[cfg(test)]
+mod members;
+#[cfg(test)]
+mod memory;
+#[cfg(test)]
+mod names;
+#[cfg(test)]
+mod nesting;
+#[cfg(test)]
+mod order;
+#[cfg(test)]
+mod refusing;
+#[cfg(test)]
+mod run_streams;
+#[cfg(test)]
+mod runs;
+#[cfg(test)]
+mod slots;
+#[cfg(test)]
+mod soundness;
+#[cfg(test)]
+mod speaking;
+#[cfg(test)]
+mod standing;
+#[cfg(test)]
+mod streams;
+#[cfg(test)]
+mod tables;
+#[cfg(test)]
+mod talk;
+#[cfg(test)]
+mod telling;
+#[cfg(test)]
+mod types;
+#[cfg(test)]
+mod values;
+#[cfg(test)]
+mod waiting;
+#[cfg(test)]
+mod weights;
+#[cfg(test)]
+mod wire;

@@ -1,0 +1,217 @@
+//! Messages that are written, each as a block.
+ghost use Rattle.uno_model.specs.Sound.{IsSound};
+
+use crate::entities::sound_of;
+use crate::entities::texts::CALLED;
+use crate::types::type_of;
+use crate::values::value_of;
+use crate::waiting::NODE;
+use std::alloc::Global;
+use std::process::Abort;
+use std::test::Fail;
+use uno_base::NoMemory;
+use uno_types::{Name, Registry, Text, Tid};
+use uno_values::{AnyValue, Value};
+use urp_message::{Answer, Message, Speaker, may_be_said, weight_of};
+
+const MANY: &str = "demo.XMany";
+
+/// What is said of the object `S;1`; on the thread `T` where no other is named.
+enum Said {
+    /// A call of the function of the interface, with one argument.
+    Calls(&'static str, u16, &'static str),
+    /// A release on the thread `U`.
+    Releases,
+    /// The value that answers `twice`.
+    Returns(&'static str),
+    /// The type and the value of the exception that answers `check`.
+    Raises(&'static str, &'static str),
+}
+
+/// What is said, and its block.
+type Row = (Said, &'static [u8]);
+
+/// What speakers say, each from the start.
+const TALKS: &[&[Row]] = &[
+    &[
+        (
+            Said::Calls(MANY, 3, "byte=7"),
+            b"\0\0\0\x1B\0\0\0\x01\xF8\x03\x96\0\0\x0Ademo.XMany\x03S;1\0\0\x01T\0\0\x07",
+        ),
+        (
+            Said::Calls(MANY, 63, "byte=7"),
+            b"\0\0\0\x02\0\0\0\x01\x3F\x07",
+        ),
+        (
+            Said::Calls(MANY, 64, "byte=7"),
+            b"\0\0\0\x03\0\0\0\x01\x40\x40\x07",
+        ),
+        (
+            Said::Calls(MANY, 300, "byte=7"),
+            b"\0\0\0\x03\0\0\0\x01\x41\x2C\x07",
+        ),
+        (
+            Said::Calls(MANY, 16_383, "byte=7"),
+            b"\0\0\0\x03\0\0\0\x01\x7F\xFF\x07",
+        ),
+        (
+            Said::Calls(MANY, 16_384, "byte=7"),
+            b"\0\0\0\x04\0\0\0\x01\xC4\x40\0\x07",
+        ),
+    ],
+    &[
+        (
+            Said::Calls(NODE, 3, "long=21"),
+            b"\0\0\0\x1E\0\0\0\x01\xF8\x03\x96\0\0\x0Ademo.XNode\x03S;1\0\0\x01T\0\0\0\0\0\x15",
+        ),
+        (
+            Said::Calls(NODE, 5, "string=a"),
+            b"\0\0\0\x05\0\0\0\x01\xC1\xC0\x05\x01a",
+        ),
+        (
+            Said::Raises(
+                "exception/demo.Refused",
+                "string=no null long=7 tuple=3:demo.Refused",
+            ),
+            b"\0\0\0\x1B\0\0\0\x01\xA0\x93\0\x01\x0Cdemo.Refused\x02no\0\xFF\xFF\0\0\0\x07",
+        ),
+        (
+            Said::Returns("long=42"),
+            b"\0\0\0\x05\0\0\0\x01\x80\0\0\0\x2A",
+        ),
+        (Said::Releases, b"\0\0\0\x06\0\0\0\x01\xC8\x02\x01U\0\x01"),
+        (
+            Said::Returns("long=42"),
+            b"\0\0\0\x08\0\0\0\x01\x88\0\0\0\0\0\0\x2A",
+        ),
+        (
+            Said::Calls(NODE, 3, "long=21"),
+            b"\0\0\0\x05\0\0\0\x01\x03\0\0\0\x15",
+        ),
+    ],
+];
+
+/// The message of a row.
+fn message(alloc: Global, said: &Said) -> Result<Message, NoMemory> {
+    match said {
+        Said::Calls(face, function, words) => call(alloc, face, *function, words),
+        Said::Releases => release(alloc),
+        Said::Returns(words) => reply(alloc, 3, returned(alloc, words)?),
+        Said::Raises(kind, words) => reply(alloc, 4, raised(alloc, kind, words)?),
+    }
+}
+
+fn call(alloc: Global, face: &str, function: u16, words: &str) -> Result<Message, NoMemory> {
+    let face = Name::of(alloc, face)?;
+    request(alloc, face, function, args_of(alloc, words)?)
+}
+
+fn args_of(alloc: Global, words: &str) -> Result<Vec<Value>, NoMemory> {
+    let mut args = Vec::new(alloc);
+    args.push(value_of(alloc, words)?)?;
+    Ok(args)
+}
+
+fn request(
+    alloc: Global,
+    face: Name,
+    function: u16,
+    args: Vec<Value>,
+) -> Result<Message, NoMemory> {
+    let tid = Tid::of(alloc, b"T")?;
+    let oid = Text::of(alloc, "S;1")?;
+    Ok(Message::Request {
+        tid,
+        oid,
+        face,
+        function,
+        args,
+    })
+}
+
+fn release(alloc: Global) -> Result<Message, NoMemory> {
+    let tid = Tid::of(alloc, b"U")?;
+    let oid = Text::of(alloc, "S;1")?;
+    let face = Name::of(alloc, NODE)?;
+    Ok(Message::Release { tid, oid, face })
+}
+
+fn returned(alloc: Global, words: &str) -> Result<Answer, NoMemory> {
+    let value = value_of(alloc, words)?;
+    let outs = Vec::new(alloc);
+    Ok(Answer::Returned { value, outs })
+}
+
+fn raised(alloc: Global, kind: &str, words: &str) -> Result<Answer, NoMemory> {
+    let kind = type_of(alloc, kind)?;
+    let value = value_of(alloc, words)?;
+    Ok(Answer::Raised(AnyValue { kind, value }))
+}
+
+fn reply(alloc: Global, function: u16, answer: Answer) -> Result<Message, NoMemory> {
+    let tid = Tid::of(alloc, b"T")?;
+    let face = Name::of(alloc, NODE)?;
+    Ok(Message::Reply {
+        tid,
+        face,
+        function,
+        answer,
+    })
+}
+
+/// The most that a message may weigh.
+const MOST: u64 = 16_777_216;
+
+/// The block of a message.
+fn written(
+    rt: &impl Abort,
+    alloc: Global,
+    registry: &Registry,
+    speaker: &mut Speaker,
+    message: &Message,
+) -> Result<Vec<u8>, Fail>
+    requires { IsSound registry.now }
+{
+    let may = may_be_said(alloc, registry, message)?;
+    assert!(rt; may);
+    assert!(rt; weight_of(registry, message) <= MOST);
+    Ok(speaker.write(registry, message)?)
+}
+
+/// Sees that a message is written as a block.
+fn says(
+    rt: &impl Abort,
+    alloc: Global,
+    registry: &Registry,
+    speaker: &mut Speaker,
+    row: &Row,
+) -> Result<(), Fail>
+    requires { IsSound registry.now }
+{
+    let (said, block) = row;
+    let message = message(alloc, said)?;
+    let written = written(rt, alloc, registry, speaker, &message);
+    drop(message);
+    assert_eq!(rt; written?.as_slice(), *block);
+    Ok(())
+}
+
+/// Sees what one speaker says.
+fn talks(rt: &impl Abort, alloc: Global, registry: &Registry, rows: &[Row]) -> Result<(), Fail>
+    requires { IsSound registry.now }
+{
+    let mut speaker = Speaker::new(alloc)?;
+    for row in rows {
+        says(rt, alloc, registry, &mut speaker, row)?;
+    }
+    Ok(())
+}
+
+#[test]
+fn blocks_are_written(rt: HostRuntime) -> Result<(), Fail> {
+    let registry = sound_of(rt.alloc(), CALLED)?;
+    for rows in TALKS {
+        talks(&rt, rt.alloc(), &registry, rows)?;
+    }
+    Ok(())
+}

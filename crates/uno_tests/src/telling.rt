@@ -1,0 +1,67 @@
+//! Messages as texts.
+use std::alloc::Global;
+use std::test::Fail;
+use uno_types::{Name, Text, Tid};
+use uno_values::Value;
+use urp_message::{Answer, Message};
+
+/// A message as a text.
+pub(crate) fn told(alloc: Global, message: &Message) -> Result<String, Fail> {
+    match message {
+        Message::Request {
+            tid,
+            oid,
+            face,
+            function,
+            args,
+        } => call_told(alloc, tid, oid, face, *function, args),
+        Message::Release { tid, oid, face } => release_told(alloc, tid, oid, face),
+        Message::Reply {
+            tid,
+            face,
+            function,
+            answer,
+        } => reply_told(alloc, tid, face, *function, answer),
+    }
+}
+
+fn call_told(
+    alloc: Global,
+    tid: &Tid,
+    oid: &Text,
+    face: &Name,
+    function: u16,
+    args: &[Value],
+) -> Result<String, Fail> {
+    let (tid, oid, face) = (text(tid)?, oid.as_str(), face.as_str());
+    Ok(format!(in alloc; "{tid} calls {oid} {face} {function} {args:?}")?)
+}
+
+fn release_told(alloc: Global, tid: &Tid, oid: &Text, face: &Name) -> Result<String, Fail> {
+    let (tid, oid, face) = (text(tid)?, oid.as_str(), face.as_str());
+    Ok(format!(in alloc; "{tid} releases {oid} {face}")?)
+}
+
+fn reply_told(
+    alloc: Global,
+    tid: &Tid,
+    face: &Name,
+    function: u16,
+    answer: &Answer,
+) -> Result<String, Fail> {
+    let tid = text(tid)?;
+    match answer {
+        Answer::Returned { value, outs } => {
+            let face = face.as_str();
+            Ok(format!(in alloc; "{tid} answers {face} {function} {value:?} {outs:?}")?)
+        }
+        Answer::Raised(exception) => {
+            let (face, value) = (face.as_str(), &exception.value);
+            Ok(format!(in alloc; "{tid} raises at {face} {function} {value:?}")?)
+        }
+    }
+}
+
+fn text(tid: &Tid) -> Result<&str, Fail> {
+    Ok(std::str::from_utf8(tid.as_bytes())?)
+}

@@ -1,0 +1,57 @@
+//! Types as words.
+use std::alloc::Global;
+use uno_base::NoMemory;
+use uno_types::{Name, TypeName};
+
+/// `[][]long` falls apart into two empty texts, one for each `[]`, and the word.
+pub(crate) fn type_of(alloc: Global, word: &str) -> Result<TypeName, NoMemory> {
+    let mut kind = one_of(alloc, word.trim_start_matches("[]"))?;
+    for between in word.split("[]") {
+        if between.is_empty() {
+            kind = sequence_of(alloc, kind)?;
+        }
+    }
+    Ok(kind)
+}
+
+fn sequence_of(alloc: Global, element: TypeName) -> Result<TypeName, NoMemory> {
+    Ok(TypeName::Sequence(Box::new(alloc, element)?))
+}
+
+fn one_of(alloc: Global, word: &str) -> Result<TypeName, NoMemory> {
+    let (what, name) = cut(word, '/');
+    match what {
+        "enum" => Ok(TypeName::Enum(Name::of(alloc, name)?)),
+        "struct" => Ok(TypeName::Struct(Name::of(alloc, name)?)),
+        "exception" => Ok(TypeName::Exception(Name::of(alloc, name)?)),
+        "interface" => Ok(TypeName::Interface(Name::of(alloc, name)?)),
+        _ => Ok(simple(word)),
+    }
+}
+
+/// Any word that is not here is `long`.
+fn simple(word: &str) -> TypeName {
+    match word {
+        "void" => TypeName::Void,
+        "char" => TypeName::Char,
+        "boolean" => TypeName::Boolean,
+        "byte" => TypeName::Byte,
+        "short" => TypeName::Short,
+        "unsigned_short" => TypeName::UnsignedShort,
+        "unsigned_long" => TypeName::UnsignedLong,
+        "hyper" => TypeName::Hyper,
+        "unsigned_hyper" => TypeName::UnsignedHyper,
+        "string" => TypeName::Str,
+        "type" => TypeName::Kind,
+        "any" => TypeName::Any,
+        _ => TypeName::Long,
+    }
+}
+
+/// What stands before the mark, and what behind it; without a mark, nothing.
+pub(crate) fn cut(text: &str, mark: char) -> (&str, &str) {
+    match text.split_once(mark) {
+        Some(both) => both,
+        None => (text, ""),
+    }
+}
