@@ -30,10 +30,26 @@ const CALL_MINUS_1: &[u8] =
 
 const MINUS_2: &[u8] = b"\x00\x00\x00\x05\x00\x00\x00\x01\x80\xFF\xFF\xFF\xFE";
 
-/// Those behind the query, and the answers.
-const NEGATIVE: &[&[u8]] = &[ASK, CALL_MINUS_1];
+/// The call with the greatest number whose double is a long, and its answer.
+const CALL_GREATEST: &[u8] =
+    b"\x00\x00\x00\x0F\x00\x00\x00\x01\xF0\x03\x16\x00\x01\x03S;1\x00\x01\x3F\xFF\xFF\xFF";
 
-const ANSWERS: &[&[u8]] = &[OBJECT, MINUS_2];
+const TWICE_GREATEST: &[u8] = b"\x00\x00\x00\x05\x00\x00\x00\x01\x80\x7F\xFF\xFF\xFE";
+
+/// The calls with the numbers above and below those whose double is a long, and one of another end's object.
+const CALL_ABOVE: &[u8] =
+    b"\x00\x00\x00\x0F\x00\x00\x00\x01\xF0\x03\x16\x00\x01\x03S;1\x00\x01\x40\x00\x00\x00";
+
+const CALL_BELOW: &[u8] =
+    b"\x00\x00\x00\x0F\x00\x00\x00\x01\xF0\x03\x16\x00\x01\x03S;1\x00\x01\xBF\xFF\xFF\xFF";
+
+const CALL_OTHER: &[u8] =
+    b"\x00\x00\x00\x0F\x00\x00\x00\x01\xF0\x03\x16\x00\x01\x03R;1\x00\x01\x00\x00\x00\x15";
+
+/// Those behind the query, and the answers.
+const NUMBERS: &[&[u8]] = &[ASK, CALL_MINUS_1, CALL_GREATEST];
+
+const ANSWERS: &[&[u8]] = &[OBJECT, MINUS_2, TWICE_GREATEST];
 
 /// Sees what stands in the outputs and the errors.
 fn has_written(rt: &impl Abort, streams: &Streams, output: &[&[u8]], line: &str) {
@@ -71,7 +87,7 @@ const PIECES: &[Row] = &[
     (TALK, &[], &[], &[], BOTH, Status::Done, ""),
     (TALK, &[1], &[], &[], BOTH, Status::Done, ""),
     (TALK, &[7], &[], &[], BOTH, Status::Done, ""),
-    (NEGATIVE, &[], &[], &[], ANSWERS, Status::Done, ""),
+    (NUMBERS, &[], &[], &[], ANSWERS, Status::Done, ""),
     (&[], &[], &[], &[], &[], Status::Done, ""),
 ];
 
@@ -92,6 +108,9 @@ const BREAKS: &[Break] = &[
     (&[ASK, ASK], 66, &[OBJECT], AT_66),
     (&[ASK, TWO], 66, &[OBJECT], AT_66),
     (&[ASK, FRONT], 66, &[OBJECT], AT_66),
+    (&[ASK, CALL_ABOVE], 66, &[OBJECT], AT_66),
+    (&[ASK, CALL_BELOW], 66, &[OBJECT], AT_66),
+    (&[ASK, CALL_OTHER], 66, &[OBJECT], AT_66),
     (&[ASK, CALL, OTHER], 89, BOTH, AT_89),
 ];
 
