@@ -6,7 +6,7 @@ use std::error::Error;
 use std::fmt;
 
 /// Memory ran out.
-#[derive(Clone, Copy, Debug, PartialEq, Eq, Hash)]
+#[derive(Clone, Copy, Debug, PartialEq, Eq)]
 pub struct NoMemory;
 
 impl fmt::Display for NoMemory {

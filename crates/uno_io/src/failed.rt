@@ -5,7 +5,7 @@ use std::error::Error;
 use std::fmt;
 
 /// The stream failed; its count of faults rose in this call.
-#[derive(Clone, Copy, Debug, PartialEq, Eq, Hash)]
+#[derive(Clone, Copy, Debug, PartialEq, Eq)]
 pub struct Failed;
 
 impl fmt::Display for Failed {

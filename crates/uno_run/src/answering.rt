@@ -13,7 +13,7 @@ use uno_io::{Sink, write_all};
 use urp_message::{FirstError, Tag, front_block};
 
 /// What stands behind the requests that were answered.
-#[derive(Clone, Copy, Debug, PartialEq, Eq)]
+#[derive(Clone, Copy)]
 pub enum Behind {
     Nothing,
     Block,
@@ -21,14 +21,14 @@ pub enum Behind {
 }
 
 /// How far the bytes are a talk, and what stands there.
-#[derive(Clone, Copy, Debug, PartialEq, Eq)]
+#[derive(Clone, Copy)]
 pub struct Verdict {
     pub place: usize,
     pub behind: Behind,
 }
 
 /// Why no more was answered, though there may be more to answer.
-#[derive(Clone, Copy, Debug, PartialEq, Eq)]
+#[derive(Clone, Copy)]
 pub enum Stopped {
     Failed,
     NoMemory,
@@ -55,7 +55,7 @@ impl From<uno_base::NoMemory> for Stopped {
 }
 
 /// What became of a whole block.
-#[derive(Clone, Copy, Debug, PartialEq, Eq)]
+#[derive(Clone, Copy)]
 enum Heard {
     Answered,
     Refused,

@@ -13,7 +13,7 @@ const LIMIT: usize = 65_537;
 const PIECE: usize = 4_096;
 
 /// Why reading stopped.
-#[derive(Clone, Copy, Debug, PartialEq, Eq)]
+#[derive(Clone, Copy)]
 pub enum Stop {
     End,
     Fault,

@@ -5,7 +5,7 @@ ghost use Rattle.uno_run.specs.Lines.{code_of};
 use urp_message::Reason;
 
 /// How a run ended; one line on `errors` says so, but after `Done`.
-#[derive(Clone, Copy, Debug, PartialEq, Eq, Hash)]
+#[derive(Clone, Copy, Debug, PartialEq, Eq)]
 pub enum Status {
     Done,
     /// The words are in none of the forms.

@@ -3,7 +3,7 @@
 use crate::Reason;
 
 /// The next part is not whole, or a whole part breaks the protocol.
-#[derive(Clone, Copy, Debug, PartialEq, Eq, Hash)]
+#[derive(Clone, Copy, Debug, PartialEq, Eq)]
 pub enum Fault {
     Short,
     Bad(Reason),

@@ -1,7 +1,7 @@
 //! The reasons for which bytes or messages break the protocol.
 
 /// What was met first, in the order of the bytes.
-#[derive(Clone, Copy, Debug, PartialEq, Eq, Hash)]
+#[derive(Clone, Copy, Debug, PartialEq, Eq)]
 pub enum Reason {
     /// The message runs past the block.
     ShortMessage,

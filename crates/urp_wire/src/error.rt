@@ -6,7 +6,7 @@ use uno_base::NoMemory;
 use urp_model::Reason;
 
 /// Memory ran out; or the next part is not whole; or a whole part breaks the protocol.
-#[derive(Clone, Copy, Debug, PartialEq, Eq, Hash)]
+#[derive(Clone, Copy, Debug, PartialEq, Eq)]
 pub enum WireError {
     NoMemory,
     Short,

@@ -51,7 +51,7 @@ pub fn flat_value<'a>(
             Ok((Value::Str(Text::of(alloc, text)?), rest))
         }
         TypeName::Kind | TypeName::Enum(_) | TypeName::Interface(_) => {
-            Ok(named_value(alloc, registry, caches, kind, bytes)?)
+            named_value(alloc, registry, caches, kind, bytes)
         }
         TypeName::Any | TypeName::Struct(_) | TypeName::Exception(_) | TypeName::Sequence(_) =>
             unreachable!(),

@@ -32,8 +32,7 @@ pub fn read_kind<'a>(
     let Some(class) = class_numbered(unmarked(first)) else {
         return Err(WireError::Bad(Reason::BadClass));
     };
-    let (kind, rest) = behind_class(alloc, registry, first < MARK, class, types, rest)?;
-    Ok((kind, rest))
+    behind_class(alloc, registry, first < MARK, class, types, rest)
 }
 
 /// The class without the mark.
@@ -100,8 +99,7 @@ fn behind_class<'a>(
         let (kind, rest) = held_kind(alloc, registry, class, types, bytes)?;
         return Ok((kind, rest));
     }
-    let (kind, rest) = written_kind(alloc, registry, class, types, bytes)?;
-    Ok((kind, rest))
+    written_kind(alloc, registry, class, types, bytes)
 }
 
 /// A slot, which means the name of the type.
@@ -164,8 +162,7 @@ fn kind_of_bytes(
     let Some(text) = text_of(name) else {
         return Ok(None);
     };
-    let kind = kind_of_text(alloc, registry, class, text)?;
-    Ok(kind)
+    kind_of_text(alloc, registry, class, text)
 }
 
 /// The same of a text.

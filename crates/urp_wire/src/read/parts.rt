@@ -72,8 +72,7 @@ pub fn length(bytes: &[u8]) -> Result<(u32, &[u8]), WireError>
     if first != LONG_FORM {
         return Ok((first as u32, rest));
     }
-    let (number, rest) = four_bytes(rest)?;
-    Ok((number, rest))
+    four_bytes(rest)
 }
 
 /// So many bytes, which are taken only where they are all there.
@@ -92,8 +91,7 @@ pub fn raw(bytes: &[u8]) -> Result<(&[u8], &[u8]), WireError>
     ensures { Gives (λ x. (x.0.now, x.1.now)) result (raw_at bytes.now) }
 {
     let (length, rest) = length(bytes)?;
-    let (raw, rest) = part(rest, length)?;
-    Ok((raw, rest))
+    part(rest, length)
 }
 
 /// Bytes as a text.
@@ -128,8 +126,7 @@ pub fn name(bytes: &[u8], most: u32) -> Result<(&[u8], &[u8]), WireError>
     if length > most {
         return Err(WireError::Bad(Reason::LongName));
     }
-    let (name, rest) = part(rest, length)?;
-    Ok((name, rest))
+    part(rest, length)
 }
 
 /// The name of a type, or the identity of an object.

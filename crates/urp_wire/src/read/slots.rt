@@ -27,8 +27,7 @@ pub fn note(cache: &mut ReadCache, slot: u16, name: &[u8]) -> Result<(), NoMemor
     if slot >= SLOTS {
         return Ok(());
     }
-    cache.announce(slot, name)?;
-    Ok(())
+    cache.announce(slot, name)
 }
 
 /// What a slot means, as a text.

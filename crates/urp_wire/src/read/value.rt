@@ -36,7 +36,7 @@ pub fn value_within<'a>(
     if levels == 0 {
         return Err(WireError::Bad(Reason::Deep));
     }
-    Ok(level_of(alloc, registry, caches, kind, levels - 1, bytes)?)
+    level_of(alloc, registry, caches, kind, levels - 1, bytes)
 }
 
 /// A value, of which what stands in it has at most so many levels.
@@ -54,11 +54,12 @@ fn level_of<'a>(
     ensures { Gives (λ x. (plain_of x.0, tables_of caches.new, x.1.now)) result (value_step registry.now (value_at levels registry.now) (kind_of kind.now) (tables_of caches.old) bytes.now) }
 {
     match kind {
-        TypeName::Any => Ok(any_value(alloc, registry, caches, levels, bytes)?),
-        TypeName::Struct(name) => Ok(tuple_value(alloc, registry, caches, name, levels, bytes)?),
-        TypeName::Exception(name) => Ok(tuple_value(alloc, registry, caches, name, levels, bytes)?),
+        TypeName::Any => any_value(alloc, registry, caches, levels, bytes),
+        TypeName::Struct(name) | TypeName::Exception(name) => {
+            tuple_value(alloc, registry, caches, name, levels, bytes)
+        }
         TypeName::Sequence(element) => {
-            Ok(sequence_value(alloc, registry, caches, element, levels, bytes)?)
+            sequence_value(alloc, registry, caches, element, levels, bytes)
         }
         TypeName::Void
         | TypeName::Char
@@ -73,7 +74,7 @@ fn level_of<'a>(
         | TypeName::Str
         | TypeName::Kind
         | TypeName::Enum(_)
-        | TypeName::Interface(_) => Ok(flat_value(alloc, registry, caches, kind, bytes)?),
+        | TypeName::Interface(_) => flat_value(alloc, registry, caches, kind, bytes),
     }
 }
 
@@ -167,7 +168,7 @@ fn sequence_value<'a>(
         let (raw, rest) = raw(bytes)?;
         return Ok((Value::Bytes(Vec::from_slice(alloc, raw)?), rest));
     }
-    Ok(list_value(alloc, registry, caches, element, levels, bytes)?)
+    list_value(alloc, registry, caches, element, levels, bytes)
 }
 
 fn is_byte(kind: &TypeName) -> bool

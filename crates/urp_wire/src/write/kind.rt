@@ -54,14 +54,12 @@ fn put_class_and_name(
     match known {
         Known::Old => {
             put_byte(class, to)?;
-            put_slot(slot, to)?;
-            Ok(())
+            put_slot(slot, to)
         }
         Known::New => {
             put_byte(class + MARK, to)?;
             put_slot(slot, to)?;
-            put_measured(name, to)?;
-            Ok(())
+            put_measured(name, to)
         }
     }
 }
@@ -95,6 +93,5 @@ fn put_kind_name(kind: &TypeName, to: &mut Vec<u8>) -> Result<(), NoMemory>
     let TypeName::Sequence(element) = kind else {
         return Ok(());
     };
-    put_kind_name(element, to)?;
-    Ok(())
+    put_kind_name(element, to)
 }

@@ -17,8 +17,7 @@ pub fn write_oid(oids: &mut SendCache, oid: &Text, to: &mut Vec<u8>) -> Result<(
     ensures names { OnOk result (oids.new ≡ used oid.now oids.old) }
     ensures text { IsUtf8 oid.now }
 {
-    put_name(oids, oid.as_str().as_bytes(), to)?;
-    Ok(())
+    put_name(oids, oid.as_str().as_bytes(), to)
 }
 
 /// The identity of a thread.
@@ -27,8 +26,7 @@ pub fn write_tid(tids: &mut SendCache, tid: &Tid, to: &mut Vec<u8>) -> Result<()
     ensures bytes { OnOk result (to.new.items ≡ to.old.items ++ name_spelling tid.now tids.old) }
     ensures names { OnOk result (tids.new ≡ used tid.now tids.old) }
 {
-    put_name(tids, tid.as_bytes(), to)?;
-    Ok(())
+    put_name(tids, tid.as_bytes(), to)
 }
 
 fn put_name(cache: &mut SendCache, name: &[u8], to: &mut Vec<u8>) -> Result<(), NoMemory>
@@ -47,7 +45,7 @@ fn put_name_or_nothing(known: Known, name: &[u8], to: &mut Vec<u8>) -> Result<()
     ensures { OnOk result (to.new.items ≡ to.old.items ++ name_or_nothing known name.now) }
 {
     match known {
-        Known::Old => Ok(put_byte(0, to)?),
-        Known::New => Ok(put_measured(name, to)?),
+        Known::Old => put_byte(0, to),
+        Known::New => put_measured(name, to),
     }
 }

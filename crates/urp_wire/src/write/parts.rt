@@ -49,8 +49,7 @@ pub fn put_length(length: usize, to: &mut Vec<u8>) -> Result<(), NoMemory>
         return Ok(());
     }
     put_byte(LONG_FORM, to)?;
-    put_four_bytes(length as u32, to)?;
-    Ok(())
+    put_four_bytes(length as u32, to)
 }
 
 /// A length, and the bytes.
@@ -68,6 +67,5 @@ pub fn put_measured(raw: &[u8], to: &mut Vec<u8>) -> Result<(), NoMemory>
 pub fn put_slot(slot: u16, to: &mut Vec<u8>) -> Result<(), NoMemory>
     ensures { OnOk result (to.new.items ≡ to.old.items ++ slot_bytes slot) }
 {
-    put_two_bytes(slot, to)?;
-    Ok(())
+    put_two_bytes(slot, to)
 }

@@ -36,23 +36,23 @@ pub fn put_value(
 {
     match value {
         Value::Void => Ok(()),
-        Value::Char(unit) => Ok(put_two_bytes(*unit, to)?),
-        Value::Boolean(truth) => Ok(put_byte(u8::from(*truth), to)?),
-        Value::Byte(number) => Ok(put_byte(number.cast_unsigned(), to)?),
-        Value::Short(number) => Ok(put_two_bytes(number.cast_unsigned(), to)?),
-        Value::UnsignedShort(number) => Ok(put_two_bytes(*number, to)?),
-        Value::Long(number) => Ok(put_four_bytes(number.cast_unsigned(), to)?),
-        Value::UnsignedLong(number) => Ok(put_four_bytes(*number, to)?),
-        Value::Hyper(number) => Ok(put_eight_bytes(number.cast_unsigned(), to)?),
-        Value::UnsignedHyper(number) => Ok(put_eight_bytes(*number, to)?),
-        Value::Str(text) => Ok(put_text(text, to)?),
-        Value::Kind(kind) => Ok(write_kind(alloc, &mut caches.types, kind, to)?),
-        Value::Any(any) => Ok(put_any(alloc, caches, any, to)?),
-        Value::Enum(_, number) => Ok(put_four_bytes(number.cast_unsigned(), to)?),
-        Value::Tuple(_, members) => Ok(put_all(alloc, caches, members, to)?),
-        Value::List(_, elements) => Ok(put_list(alloc, caches, elements, to)?),
-        Value::Bytes(bytes) => Ok(put_measured(bytes, to)?),
-        Value::Ref(reference) => Ok(put_reference(&mut caches.oids, reference, to)?),
+        Value::Char(unit) => put_two_bytes(*unit, to),
+        Value::Boolean(truth) => put_byte(u8::from(*truth), to),
+        Value::Byte(number) => put_byte(number.cast_unsigned(), to),
+        Value::Short(number) => put_two_bytes(number.cast_unsigned(), to),
+        Value::UnsignedShort(number) => put_two_bytes(*number, to),
+        Value::Long(number) => put_four_bytes(number.cast_unsigned(), to),
+        Value::UnsignedLong(number) => put_four_bytes(*number, to),
+        Value::Hyper(number) => put_eight_bytes(number.cast_unsigned(), to),
+        Value::UnsignedHyper(number) => put_eight_bytes(*number, to),
+        Value::Str(text) => put_text(text, to),
+        Value::Kind(kind) => write_kind(alloc, &mut caches.types, kind, to),
+        Value::Any(any) => put_any(alloc, caches, any, to),
+        Value::Enum(_, number) => put_four_bytes(number.cast_unsigned(), to),
+        Value::Tuple(_, members) => put_all(alloc, caches, members, to),
+        Value::List(_, elements) => put_list(alloc, caches, elements, to),
+        Value::Bytes(bytes) => put_measured(bytes, to),
+        Value::Ref(reference) => put_reference(&mut caches.oids, reference, to),
     }
 }
 
@@ -61,8 +61,7 @@ fn put_text(text: &Text, to: &mut Vec<u8>) -> Result<(), NoMemory>
     ensures bytes { OnOk result (to.new.items ≡ to.old.items ++ measured text.now) }
     ensures text { IsUtf8 text.now }
 {
-    put_measured(text.as_str().as_bytes(), to)?;
-    Ok(())
+    put_measured(text.as_str().as_bytes(), to)
 }
 
 /// The type, and what the any holds.
@@ -81,8 +80,7 @@ pub fn put_any(
     ensures ranges { OnOk result (IsSpellable (plain_of any.now.value)) }
 {
     write_kind(alloc, &mut caches.types, &any.kind, to)?;
-    put_value(alloc, caches, &any.value, to)?;
-    Ok(())
+    put_value(alloc, caches, &any.value, to)
 }
 
 /// Elements behind their count.
@@ -138,8 +136,9 @@ fn put_reference(
 {
     match reference {
         Reference::Null => Ok(to.extend_from_slice(NULL)?),
-        Reference::Local { oid, face: _ } => Ok(write_oid(oids, oid, to)?),
-        Reference::Remote { oid, face: _ } => Ok(write_oid(oids, oid, to)?),
+        Reference::Local { oid, face: _ } | Reference::Remote { oid, face: _ } => {
+            write_oid(oids, oid, to)
+        }
     }
 }
 
