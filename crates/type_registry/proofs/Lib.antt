@@ -1,2 +1,3 @@
 pub mod MetLemmas
 pub mod TaskLemmas
+pub mod TableLemmas

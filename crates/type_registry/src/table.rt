@@ -1,11 +1,12 @@
 //! The table of an interface: its functions, each at its number.
-ghost use Rattle.std.specs.Prelude.{◌≡◌, ◌↔◌, ◌++◌, ◌∷◌, [], Err, IfOk, OnOk, IsTrue, codes, map, false, true};
+ghost use Rattle.std.specs.Prelude.{◌≡◌, ◌↔◌, ◌++◌, ◌∷◌, [], Err, IfOk, OnOk, IsTrue, codes, map, false, true, if◌then◌else◌};
 ghost use Rattle.std.specs.List.{flat_map};
 ghost use Rattle.uno_model.specs.Functions.{functions_of, declared_by, declared_in, accessors_of, calls_of, getter, setter, call};
 ghost use Rattle.uno_model.specs.Registry.{find_entity};
 ghost use Rattle.uno_model.specs.Sound.{is_there, is_interface};
 ghost use Rattle.uno_types.specs.Entities.{attribute_of, method_of, member_of, param_of, body_of};
 ghost use Rattle.type_registry.specs.Functions.{function_of, functions_at};
+ghost use Rattle.type_registry.specs.Met.{names_at};
 
 use crate::Function;
 use crate::walk::interfaces_of;
@@ -54,7 +55,16 @@ fn has_interface(registry: &Registry, name: &str) -> bool
 fn is_interface(body: &Body) -> bool
     ensures { result ≡ is_interface (body_of body.now) }
 {
-    matches!(body, Body::Interface { .. })
+    match body {
+        Body::Interface { .. } => true,
+        Body::Struct { .. } => false,
+        Body::Exception { .. }
+        | Body::Enum { .. }
+        | Body::Constants { .. }
+        | Body::Typedef { .. }
+        | Body::Service(_)
+        | Body::Singleton(_) => false,
+    }
 }
 
 pub(crate) fn table_of(
@@ -66,10 +76,23 @@ pub(crate) fn table_of(
 {
     let met = interfaces_of(alloc, registry, name)?;
     let mut table = Vec::new(alloc);
-    for owner in met.names() {
-        push_declared(&mut table, alloc, registry, owner)?;
-    }
+    push_all(&mut table, alloc, registry, met.names())?;
     Ok(table)
+}
+
+/// The functions of these interfaces, one after the other.
+fn push_all(
+    table: &mut Vec<Function>,
+    alloc: Global,
+    registry: &Registry,
+    owners: &[&str],
+) -> Result<(), NoMemory>
+    ensures { OnOk result (functions_at table.new.items ≡ functions_at table.old.items ++ flat_map (λ owner. declared_by owner (find_entity owner registry.now)) (names_at owners.now)) }
+{
+    for owner in owners {
+        push_declared(table, alloc, registry, owner)?;
+    }
+    Ok(())
 }
 
 /// The functions that an interface declares itself.
@@ -138,6 +161,18 @@ fn push_accessors(
         return Ok(())
     };
     table.push(getter(alloc, owner, attribute)?)?;
+    push_setter(table, alloc, owner, attribute)
+}
+
+/// The function that writes an attribute, unless it is read-only.
+fn push_setter(
+    table: &mut Vec<Function>,
+    alloc: Global,
+    owner: &str,
+    attribute: &Attribute,
+) -> Result<(), NoMemory>
+    ensures { OnOk result (functions_at table.new.items ≡ functions_at table.old.items ++ (if (attribute_of attribute.now).read_only then [] else setter owner.now (attribute_of attribute.now) ∷ [])) }
+{
     if attribute.read_only {
         return Ok(());
     }
@@ -151,8 +186,8 @@ fn getter(alloc: Global, owner: &str, attribute: &Attribute) -> Result<Function,
 {
     let owner = Name::of(alloc, owner)?;
     let name = prefixed(alloc, "get:", &attribute.name)?;
-    let result = attribute.kind.copy(alloc)?;
     let raises = copies(alloc, &attribute.get_raises)?;
+    let result = attribute.kind.copy(alloc)?;
     Ok(Function {
         owner,
         name,
@@ -169,8 +204,8 @@ fn setter(alloc: Global, owner: &str, attribute: &Attribute) -> Result<Function,
 {
     let owner = Name::of(alloc, owner)?;
     let name = prefixed(alloc, "set:", &attribute.name)?;
-    let params = written(alloc, attribute)?;
     let raises = copies(alloc, &attribute.set_raises)?;
+    let params = written(alloc, attribute)?;
     Ok(Function {
         owner,
         name,
@@ -240,9 +275,9 @@ fn call(alloc: Global, owner: &str, method: &Method) -> Result<Function, NoMemor
 {
     let owner = Name::of(alloc, owner)?;
     let name = method.name.copy(alloc)?;
+    let raises = copies(alloc, &method.raises)?;
     let result = method.result.copy(alloc)?;
     let params = parameters(alloc, &method.params)?;
-    let raises = copies(alloc, &method.raises)?;
     Ok(Function {
         owner,
         name,

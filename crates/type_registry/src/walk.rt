@@ -3,7 +3,7 @@ ghost use Rattle.std.specs.Prelude.{◌≡◌, ◌∷◌, ◌++◌, [], ◌+◌,
 ghost use Rattle.uno_model.specs.Functions.{interfaces_of, met_within};
 ghost use Rattle.uno_model.specs.Registry.{required, at_most_one, stands_on};
 ghost use Rattle.uno_types.specs.Entities.{base_of, body_of};
-ghost use Rattle.type_registry.specs.Tasks.{bases_in, visits, done, cost_within, costs, tasks_of};
+ghost use Rattle.type_registry.specs.Tasks.{bases_in, visits, do_one, done, cost, cost_within, costs, doing_of, tasks_of};
 
 use crate::met::Met;
 use std::alloc::Global;
@@ -28,16 +28,29 @@ pub(crate) fn interfaces_of<'a>(
     ensures { IfOk result (λ met. met ≡ interfaces_of registry.now name.now) }
 {
     let levels = registry.entities().len() as u128 + 1;
-    let mut met = Met::new(alloc);
     let mut tasks = Vec::new(alloc);
     tasks.push(Task::Visit(name, levels))?;
+    let mut met = Met::new(alloc);
     while let Some(task) = tasks.pop() {
-        match task {
-            Task::Visit(next, levels) => visit(registry, &met, &mut tasks, next, levels)?,
-            Task::Leave(last) => met.add(last)?,
-        }
+        do_one(registry, &mut met, &mut tasks, task)?;
     }
     Ok(met)
+}
+
+/// Does a task, which was taken off.
+fn do_one<'a>(
+    registry: &'a Registry,
+    met: &mut Met<'a>,
+    tasks: &mut Vec<Task<'a>>,
+    task: Task<'a>,
+) -> Result<(), NoMemory>
+    ensures done { OnOk result (done registry.now (tasks_of tasks.new.items) met.new ≡ done registry.now (tasks_of tasks.old.items) (do_one registry.now (doing_of task.entry) met.old)) }
+    ensures less { OnOk result (costs registry.now (tasks_of tasks.new.items) < costs registry.now (tasks_of tasks.old.items) + cost registry.now (doing_of task.entry)) }
+{
+    match task {
+        Task::Visit(name, levels) => visit(registry, met, tasks, name, levels),
+        Task::Leave(name) => met.add(name),
+    }
 }
 
 /// An interface that was not met, and for which levels are left, is left behind its bases.

@@ -1,5 +1,5 @@
 //! A sink in memory, which tells what it took.
-ghost use Rattle.std.specs.Prelude.{◌≡◌, ◌<◌, ◌≤◌, ◌+◌, [], true, false, Contains, length, take, IfOk, IsOk, IsErr, OnOk, OnErr, Some};
+ghost use Rattle.std.specs.Prelude.{◌≡◌, ◌<◌, ◌≤◌, ◌+◌, ◌++◌, [], true, false, Contains, length, take, IsTrue, IfOk, IsOk, IsErr, OnOk, OnErr, Some};
 ghost use Rattle.std.specs.Bool.{OnTrue};
 ghost use Rattle.std.specs.Io.{WritesAtMost};
 ghost use Rattle.std.specs.Io.KnownBytes.{WriteAppends, Keeps};
@@ -66,6 +66,25 @@ impl MemSink {
     {
         self.taken.as_slice()
     }
+
+    /// Takes all of the piece, if the sink is open, this call is not to fail, and there is memory.
+    fn takes(&mut self, piece: &[u8]) -> bool
+        ensures open { IsTrue result → self.old.closed ≡ false }
+        ensures unlisted { IsTrue result → Contains self.old.failing self.old.calls → ⊥ }
+        ensures grown { IsTrue result → self.new.taken ≡ self.old.taken ++ piece.now }
+        ensures kept { result ≡ false → self.new.taken ≡ self.old.taken }
+        ensures why { result ≡ false → MayFail self.old (length piece.now) }
+        ensures room { self.old.room ≤ self.new.room }
+        ensures rest { self.new ≡ record self.old { taken = self.new.taken; room = self.new.room } }
+    {
+        if self.closed {
+            return false;
+        }
+        if self.failing.is_next() {
+            return false;
+        }
+        self.taken.extend_from_slice(piece).is_ok()
+    }
 }
 
 impl Sink for MemSink {
@@ -91,15 +110,7 @@ impl Sink for MemSink {
         ensures took { OnOk result (Took self.old self.new piece.now) }
         ensures refused { OnErr result (Refused self.old self.new) }
     {
-        if self.closed {
-            self.failing.fail();
-            return Err(Failed);
-        }
-        if self.failing.is_next() {
-            self.failing.fail();
-            return Err(Failed);
-        }
-        if self.taken.extend_from_slice(piece).is_err() {
+        if !self.takes(piece) {
             self.failing.fail();
             return Err(Failed);
         }

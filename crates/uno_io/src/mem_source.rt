@@ -50,6 +50,22 @@ impl MemSource {
             failing: Failing::new(failing),
         }
     }
+
+    /// Gives the next piece, and says how long it is.
+    fn next_piece(&mut self, into: &mut [u8]) -> usize
+        requires { 0 < length into.old }
+        ensures whole { result ≡ piece_len self.old (length into.old) }
+        ensures front { self.old.left ≡ take result into.new ++ self.new.left }
+        ensures end { result ≡ 0 → self.new.left ≡ [] }
+        ensures given { self.new ≡ gave self.old result }
+    {
+        let most = self.sizes.limit(into.len());
+        let len = give(&self.bytes, self.given, into, most);
+        self.given += len;
+        self.sizes.turn();
+        self.failing.pass();
+        len
+    }
 }
 
 /// Puts the bytes behind those that were given over the front of `into`, and says how many.
@@ -88,11 +104,6 @@ impl Source for MemSource {
             self.failing.fail();
             return Err(Failed);
         }
-        let most = self.sizes.limit(into.len());
-        let len = give(&self.bytes, self.given, into, most);
-        self.given += len;
-        self.sizes.turn();
-        self.failing.pass();
-        Ok(len)
+        Ok(self.next_piece(into))
     }
 }

@@ -148,19 +148,32 @@ no_front reg (kd.exception name) cs named word known e = both_ways _ (no_bracket
 no_front reg (kd.interface name) cs named word known e = both_ways _ (no_bracket cs) (subst (λ n. is_entity_name n ≡ true) e (there_named reg is_interface name named known))
 no_front reg (kd.sequence k) cs named word known e = let bad : ⊥ = cc in absurd bad
 
+-- two words that are known and have one name are one type
+one_word : (reg : List Entity) (k j : Kind) → list_all is_named reg ≡ true → is_word k ≡ true → is_word j ≡ true → kind_known reg k ≡ true
+    → kind_known reg j ≡ true → name_of k ≡ name_of j → k ≡ j
+one_word reg k j named word word_j known known_j same =
+    let first : word_of reg (name_of k) ≡ Some k = word_back reg k named word known in
+    let second : word_of reg (name_of j) ≡ Some j = word_back reg j named word_j known_j in
+    let both : Some k ≡ Some j = sym first ∙ ap (word_of reg) same ∙ second in
+    cc
+
+-- a word and any type
+word_is : (reg : List Entity) (k j : Kind) → list_all is_named reg ≡ true → is_word k ≡ true → kind_known reg k ≡ true → kind_known reg j ≡ true
+    → name_of k ≡ name_of j → k ≡ j
+word_is reg k (kd.sequence j) named word known known_j same = absurd (no_front reg k (93 ∷ name_of j) named word known same)
+word_is reg k j named word known known_j same = one_word reg k j named word refl known known_j same
+
+-- a sequence and any type, where the types behind `[]` are one if their names are
+sequence_is : (reg : List Entity) (k j : Kind) → ((i : Kind) → kind_known reg i ≡ true → name_of k ≡ name_of i → k ≡ i) → list_all is_named reg ≡ true
+    → kind_known reg j ≡ true → name_of (kd.sequence k) ≡ name_of j → kd.sequence k ≡ j
+sequence_is reg k (kd.sequence j) inside named known_j same = let behind : name_of k ≡ name_of j = cc in ap kd.sequence (inside j known_j behind)
+sequence_is reg k j inside named known_j same = absurd (no_front reg j (93 ∷ name_of k) named refl known_j (sym same))
+
 -- two types that are known and have one name are one type
 pub one_type : (reg : List Entity) (k j : Kind) → list_all is_named reg ≡ true → kind_known reg k ≡ true → kind_known reg j ≡ true → name_of k ≡ name_of j → k ≡ j
-one_type reg (kd.sequence k) (kd.sequence j) named known known_j same = let behind : name_of k ≡ name_of j = cc in ap kd.sequence (one_type reg k j named known known_j behind)
-one_type reg (kd.sequence k) j named known known_j same = absurd (no_front reg j (93 ∷ name_of k) named refl known_j (sym same))
-one_type reg k (kd.sequence j) named known known_j same = absurd (no_front reg k (93 ∷ name_of j) named refl known same)
-one_type reg k j named known known_j same = one_word k j refl refl known known_j same
-  where
-    one_word : (k j : Kind) → is_word k ≡ true → is_word j ≡ true → kind_known reg k ≡ true → kind_known reg j ≡ true → name_of k ≡ name_of j → k ≡ j
-    one_word k j word word_j known known_j same =
-        let first : word_of reg (name_of k) ≡ Some k = word_back reg k named word known in
-        let second : word_of reg (name_of j) ≡ Some j = word_back reg j named word_j known_j in
-        let both : Some k ≡ Some j = sym first ∙ ap (word_of reg) same ∙ second in
-        cc
+one_type reg (kd.sequence k) j named known known_j same =
+    sequence_is reg k j (λ i known_i behind. one_type reg k i named known known_i behind) named known_j same
+one_type reg k j named known known_j same = word_is reg k j named refl known known_j same
 
 -- ---- the levels of a name, from the outermost `[]` to the word behind them
 

@@ -1,7 +1,7 @@
 -- Whether a name is a base, where it is not there, by its mark, and over levels.
 use Rattle.std.proofs.Common.{◌≡◌, ◌≢◌, ℕ, zero, suc, ◌-◌, ◌<◌, Bool, true, false, ◌&&◌, ◌||◌, List, [], ◌∷◌, length}
 use Rattle.std.proofs.Common.{map, get_or, Option, None, Some, refl, sym, ap, subst, ◌∙◌, inl, inr, arith}
-use Rattle.std.specs.Prelude.{Contains, slice_get, ◌↔◌}
+use Rattle.std.specs.Prelude.{Contains, slice_get, ◌↔◌, IsTrue}
 use Rattle.std.specs.List.{list_all, list_any}
 use Rattle.std.specs.Str.{bytes_eq}
 use Rattle.std.proofs.lemmas.Option.{slice_get-get_or}
@@ -34,6 +34,10 @@ one_level (suc levels) reg to from some =
     ap (λ n. bytes_eq from to || list_any (reaches_within n reg to) (stands_on reg from)) less
 
 pub ruleset levels = (last_level, one_level)
+
+-- what does not hold is answered by no
+pub stands_for_none : (P : Type 0) → (P → ⊥) → IsTrue false ↔ P
+stands_for_none P fails = (λ bad. let absurdity : false ≡ true = bad in cc, λ holds. absurd (fails holds))
 
 -- both tests passed
 both_passed : (a b : Bool) → (a && b) ≡ true → (a ≡ true) × (b ≡ true)
@@ -90,6 +94,21 @@ led_there reg a b known (on from next to has more) none = led_there reg next to 
 pub absent_target : (reg : List Entity) (to from : List ℕ) → IsSound reg → find_entity to reg ≡ None → (bytes_eq from to ≡ true) ↔ IsBaseOf reg to from
 absent_target reg to from sound none =
     (λ same. inl ((bytes_eq-Decides from to).0 same), λ base. elim base [ inl same ↦ (bytes_eq-Decides from to).1 same | inr way ↦ absurd (led_there reg from to sound.known way none) ])
+
+-- what is not there stands on nothing
+nothing_on : (reg : List Entity) (name base : List ℕ) → find_entity name reg ≡ None → Contains (stands_on reg name) base → ⊥
+nothing_on reg name base none has =
+    let bad : Contains [] base = subst (λ e. Contains (stands_on_body e) base) none has in
+    omega (arith, bad.1)
+
+leads_nowhere : (reg : List Entity) (name base : List ℕ) → find_entity name reg ≡ None → Leads (stands_on reg) name base → ⊥
+leads_nowhere reg name base none (step from to has) = nothing_on reg from to none has
+leads_nowhere reg name base none (on from next to has way) = nothing_on reg from next none has
+
+-- so it stands on itself alone
+pub absent_source : (reg : List Entity) (to from : List ℕ) → find_entity from reg ≡ None → (bytes_eq from to ≡ true) ↔ IsBaseOf reg to from
+absent_source reg to from none =
+    (λ same. inl ((bytes_eq-Decides from to).0 same), λ base. elim base [ inl same ↦ (bytes_eq-Decides from to).1 same | inr way ↦ absurd (leads_nowhere reg from to none way) ])
 
 -- the marks at the bases of what stands at a place
 abbrev pub MarksAt : List Entity → ℕ → List Bool → Type 0

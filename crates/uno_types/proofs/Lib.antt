@@ -1,3 +1,4 @@
+pub mod AllLemmas
 pub mod AssignableLemmas
 pub mod Different
 pub mod FewLemmas

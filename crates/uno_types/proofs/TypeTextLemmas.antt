@@ -1,12 +1,14 @@
 -- What one level of the reading of a type's name gives.
-use Rattle.std.proofs.Common.{◌≡◌, ℕ, ◌+◌, ◌-◌, ◌<◌, Bool, false, List, ◌++◌, Option, None, Some}
-use Rattle.std.proofs.Common.{MatchOption, option_map, Result, Ok, Err, IfOk, IsTrue, sym, subst, codes, arith}
+use Rattle.std.proofs.Common.{◌≡◌, ℕ, ◌+◌, ◌-◌, ◌<◌, Bool, true, false, List, ◌++◌, Option, None, Some}
+use Rattle.std.proofs.Common.{MatchOption, option_map, Result, Ok, Err, IfOk, IsTrue, refl, sym, subst, codes, arith}
 use Rattle.std.specs.List.{list_all}
+use Rattle.std.specs.Str.{bytes_eq}
+use Rattle.std.proofs.lemmas.Slice.Eq.{bytes_eq-Decides}
 use Rattle.uno_base.specs.declared.no_memory.NoMemory.{NoMemory}
 use Rattle.uno_model.proofs.NameLaws.{word_gives, more_levels, none_of_word, none_at_all, none_behind, none_of_bad}
 use Rattle.uno_model.specs.Entities.{Entity}
 use Rattle.uno_model.specs.Kinds.{Kind}
-use Rattle.uno_model.specs.NamedTypes.{IsNamedWithin, word_of}
+use Rattle.uno_model.specs.NamedTypes.{IsNamedWithin, word_of, simple_of}
 use Rattle.uno_model.specs.Sound.{is_named, is_plain}
 use Rattle.uno_types.specs.TypeNames.{kind_of}
 use Rattle.uno_types.specs.declared.type_name.TypeName.{TypeName}
@@ -45,3 +47,17 @@ pub when_read : (reg : List Entity) (text : List ℕ) (levels : ℕ) (read : Res
     → IfOk read (λ found. MatchOption found ((k : Kind) → IsNamedWithin reg text levels k → ⊥) (λ t. IsNamedWithin reg text levels (kind_of t)))
 when_read reg text levels (Ok found) named no_front is = word_found reg text levels found named no_front is
 when_read reg text levels (Err e) named no_front is = tt
+
+-- two texts that are not one fail the test
+not_equal : (a b : List ℕ) → (a ≡ b → ⊥) → bytes_eq a b ≡ false
+not_equal a b other = by_test (bytes_eq a b) refl
+  where
+    by_test : (test : Bool) → bytes_eq a b ≡ test → test ≡ false
+    by_test true same = absurd (other ((bytes_eq-Decides a b).0 same))
+    by_test false same = refl
+
+-- what is none of the words names no simple type
+pub no_simple : (text : List ℕ) → (text ≡ codes "void" → ⊥) → (text ≡ codes "char" → ⊥) → (text ≡ codes "boolean" → ⊥) → (text ≡ codes "byte" → ⊥) → (text ≡ codes "short" → ⊥) → (text ≡ codes "unsigned short" → ⊥) → (text ≡ codes "long" → ⊥) → (text ≡ codes "unsigned long" → ⊥) → (text ≡ codes "hyper" → ⊥) → (text ≡ codes "unsigned hyper" → ⊥) → (text ≡ codes "string" → ⊥) → (text ≡ codes "type" → ⊥) → (text ≡ codes "any" → ⊥) → None ≡ simple_of text
+unfolding simple_of
+no_simple text a b c d e f g h i j k l m =
+    rw (not_equal text _ a, not_equal text _ b, not_equal text _ c, not_equal text _ d, not_equal text _ e, not_equal text _ f, not_equal text _ g, not_equal text _ h, not_equal text _ i, not_equal text _ j, not_equal text _ k, not_equal text _ l, not_equal text _ m) refl

@@ -1,6 +1,7 @@
 //! Whether a value of one type may stand where another is asked.
-ghost use Rattle.std.specs.Prelude.{◌≡◌, ◌↔◌, ◌<◌, Some, length, map, IfOk, IsTrue};
+ghost use Rattle.std.specs.Prelude.{◌≡◌, ◌↔◌, ◌<◌, ℕ, List, Some, length, map, IfOk, IsTrue, MatchOption};
 ghost use Rattle.std.specs.List.{list_any};
+ghost use Rattle.uno_model.specs.Entities as plain;
 ghost use Rattle.uno_model.specs.Kinds as kd;
 ghost use Rattle.uno_model.specs.Reaches.{reaches_within};
 ghost use Rattle.uno_model.specs.Registry.{IsRising, IsBaseOf, Assignable, stands_on_body, required, at_most_one};
@@ -71,8 +72,18 @@ fn interface_assignable(alloc: Global, registry: &Registry, base: &Name, from: &
     requires { IsSound registry.now }
     ensures { IsTrue result ↔ Assignable registry.now (kd.interface base.now) (kind_of from.now) }
 {
+    let Some(name) = interface_name(from) else {
+        return false;
+    };
+    is_base_of(alloc, registry, base.as_str(), name.as_str())
+}
+
+/// The name of an interface; any other type stands for none.
+fn interface_name(from: &TypeName) -> Option<&Name>
+    ensures { MatchOption result ((reg : List plain.Entity) (base : List ℕ) → Assignable reg (kd.interface base) (kind_of from.now) → ⊥) (λ name. kind_of from.now ≡ kd.interface name.now) }
+{
     match from {
-        TypeName::Interface(name) => is_base_of(alloc, registry, base.as_str(), name.as_str()),
+        TypeName::Interface(name) => Some(name),
         TypeName::Void
         | TypeName::Char
         | TypeName::Boolean
@@ -89,7 +100,7 @@ fn interface_assignable(alloc: Global, registry: &Registry, base: &Name, from: &
         | TypeName::Enum(_)
         | TypeName::Struct(_)
         | TypeName::Exception(_)
-        | TypeName::Sequence(_) => false,
+        | TypeName::Sequence(_) => None,
     }
 }
 
@@ -98,8 +109,18 @@ fn struct_assignable(alloc: Global, registry: &Registry, base: &Name, from: &Typ
     requires { IsSound registry.now }
     ensures { IsTrue result ↔ Assignable registry.now (kd.struct base.now) (kind_of from.now) }
 {
+    let Some(name) = struct_name(from) else {
+        return false;
+    };
+    is_base_of(alloc, registry, base.as_str(), name.as_str())
+}
+
+/// The name of a struct; any other type stands for none.
+fn struct_name(from: &TypeName) -> Option<&Name>
+    ensures { MatchOption result ((reg : List plain.Entity) (base : List ℕ) → Assignable reg (kd.struct base) (kind_of from.now) → ⊥) (λ name. kind_of from.now ≡ kd.struct name.now) }
+{
     match from {
-        TypeName::Struct(name) => is_base_of(alloc, registry, base.as_str(), name.as_str()),
+        TypeName::Struct(name) => Some(name),
         TypeName::Void
         | TypeName::Char
         | TypeName::Boolean
@@ -116,7 +137,7 @@ fn struct_assignable(alloc: Global, registry: &Registry, base: &Name, from: &Typ
         | TypeName::Enum(_)
         | TypeName::Exception(_)
         | TypeName::Interface(_)
-        | TypeName::Sequence(_) => false,
+        | TypeName::Sequence(_) => None,
     }
 }
 
@@ -125,8 +146,18 @@ fn exception_assignable(alloc: Global, registry: &Registry, base: &Name, from: &
     requires { IsSound registry.now }
     ensures { IsTrue result ↔ Assignable registry.now (kd.exception base.now) (kind_of from.now) }
 {
+    let Some(name) = exception_name(from) else {
+        return false;
+    };
+    is_base_of(alloc, registry, base.as_str(), name.as_str())
+}
+
+/// The name of an exception; any other type stands for none.
+fn exception_name(from: &TypeName) -> Option<&Name>
+    ensures { MatchOption result ((reg : List plain.Entity) (base : List ℕ) → Assignable reg (kd.exception base) (kind_of from.now) → ⊥) (λ name. kind_of from.now ≡ kd.exception name.now) }
+{
     match from {
-        TypeName::Exception(name) => is_base_of(alloc, registry, base.as_str(), name.as_str()),
+        TypeName::Exception(name) => Some(name),
         TypeName::Void
         | TypeName::Char
         | TypeName::Boolean
@@ -143,7 +174,7 @@ fn exception_assignable(alloc: Global, registry: &Registry, base: &Name, from: &
         | TypeName::Enum(_)
         | TypeName::Struct(_)
         | TypeName::Interface(_)
-        | TypeName::Sequence(_) => false,
+        | TypeName::Sequence(_) => None,
     }
 }
 

@@ -24,11 +24,13 @@ pub(crate) fn all_have_few_functions(alloc: Global, entities: &[Entity]) -> Resu
         return Ok(true);
     }
     let bases = all_bases(alloc, entities)?;
-    let none = none_marked(alloc, entities.len())?;
     let mut known = none_marked(alloc, entities.len())?;
-    if !others_have_few(alloc, entities, bases.as_slice(), known.as_mut_slice())? {
+    let first_few = others_have_few(alloc, entities, bases.as_slice(), known.as_mut_slice())?;
+    drop(bases);
+    if !first_few {
         return Ok(false);
     }
+    let none = none_marked(alloc, entities.len())?;
     let few = others_have_few(alloc, entities, none.as_slice(), known.as_mut_slice())?;
     Ok(few)
 }

@@ -5,7 +5,7 @@ ghost use Rattle.uno_model.specs.Types.{is_type, is_formed};
 ghost use Rattle.uno_types.specs.TypeNames.{kind_of};
 
 use crate::known::{Wanted, is_there, kind_known};
-use crate::sound::elements_plain;
+use crate::sound::{elements_plain, is_namable};
 use crate::{Registry, TypeName};
 
 impl Registry {
@@ -14,7 +14,7 @@ impl Registry {
     pub fn has_type(&self, kind: &TypeName) -> bool
         ensures { result ≡ is_type self.now (kind_of kind.now) }
     {
-        self.has_form(kind) && kind.is_namable()
+        self.has_form(kind) && is_namable(kind)
     }
 
     /// The same, but for the limits of its name.

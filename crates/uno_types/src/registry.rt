@@ -1,5 +1,5 @@
 //! A registry: the entities of a type system, each under its name.
-ghost use Rattle.std.specs.Prelude.{◌≡◌, ◌≢◌, ◌+◌, ◌<◌, ◌≤◌, ◌↔◌, length, take, drop, IfOk, OnOk, OnErr, IfErr, IfSome, IsNone, MatchOption, MatchResult, Some, None, slice_get, insert};
+ghost use Rattle.std.specs.Prelude.{◌≡◌, ◌≢◌, ◌+◌, ◌<◌, ◌≤◌, ◌↔◌, length, take, drop, IfOk, OnOk, OnErr, IfErr, IfSome, IsNone, MatchOption, MatchResult, Some, None, option_map, slice_get, insert};
 ghost use Rattle.uno_model.specs.BuiltIn.{built_in};
 ghost use Rattle.uno_model.specs.Registry.{find_entity, Adds, IsRising};
 ghost use Rattle.uno_types.specs.Entities.{entity_of, entities_of};
@@ -74,13 +74,8 @@ impl Registry {
         ensures twice { (result ≡ Err AddError.Twice) ↔ (find_entity entity.name self.old ≢ None) }
         ensures refused { OnErr result (self.new ≡ self.old) }
     {
-        match place_in(self.entities.as_slice(), entity.name.as_str()) {
-            Ok(_) => Err(AddError::Twice),
-            Err(gap) => {
-                insert_at(&mut self.entities, gap, entity)?;
-                Ok(())
-            }
-        }
+        insert_in(&mut self.entities, entity)?;
+        Ok(())
     }
 
     /// The entity of this name.
@@ -89,7 +84,7 @@ impl Registry {
         ensures found { IfSome result (λ e. find_entity name.now self.now ≡ Some (entity_of e.now)) }
     {
         match place_in(self.entities.as_slice(), name) {
-            Ok(place) => Some(&self.entities[place]),
+            Ok(place) => entity_at(self.entities.as_slice(), place),
             Err(_) => None,
         }
     }
@@ -103,14 +98,38 @@ impl Registry {
     }
 }
 
-/// Puts an entity before the one at a place.
-fn insert_at(entities: &mut Vec<Entity>, place: usize, entity: Entity) -> Result<(), AddError>
-    requires { place ≤ length entities.old.items }
-    ensures items { OnOk result (entities.new.items ≡ insert entities.old.items place entity) }
-    ensures err { OnErr result (entities.new.items ≡ entities.old.items) }
-    ensures room { IfErr result (λ e. e ≡ AddError.NoMemory) }
+/// The entity at a place.
+fn entity_at(entities: &[Entity], place: usize) -> Option<&Entity>
+    ensures { option_map (λ e. entity_of e.now) result ≡ slice_get (entities_of entities.now) place }
 {
-    entities.insert(place, entity)?;
+    entities.get(place)
+}
+
+/// The gap where an entity of this name would go, unless one is there.
+#[tactic(auto, using(crate::proofs::FindingLemmas::place_there))]
+fn gap_in(entities: &[Entity], name: &str) -> Option<usize>
+    requires { IsRising (entities_of entities.now) }
+    ensures { MatchOption result (find_entity name.now (entities_of entities.now) ≢ None) (λ i. IsGapOf name.now (entities_of entities.now) i) }
+{
+    match place_in(entities, name) {
+        Ok(_) => None,
+        Err(gap) => Some(gap),
+    }
+}
+
+/// Puts an entity where its name belongs, unless the name is there.
+fn insert_in(entities: &mut Vec<Entity>, entity: Entity) -> Result<(), AddError>
+    requires { IsRising (entities_of entities.old.items) }
+    ensures rising { IsRising (entities_of entities.new.items) }
+    ensures added { OnOk result (Adds (entities_of entities.old.items) (entities_of entities.new.items) (entity_of entity)) }
+    ensures twice { (result ≡ Err AddError.Twice) ↔ (find_entity entity.name (entities_of entities.old.items) ≢ None) }
+    ensures refused { OnErr result (entities.new.items ≡ entities.old.items) }
+{
+    let Some(gap) = gap_in(entities.as_slice(), entity.name.as_str()) else {
+        drop(entity);
+        return Err(AddError::Twice);
+    };
+    entities.insert(gap, entity)?;
     Ok(())
 }
 

@@ -17,7 +17,7 @@ pub(crate) use allowed::all_allowed;
 pub(crate) use differ::all_items_differ;
 pub use identifier::{is_entity_name, is_identifier};
 pub(crate) use named::all_named;
-pub(crate) use type_rules::{elements_plain, is_plain};
+pub(crate) use type_rules::{elements_plain, is_namable, is_plain};
 use uno_base::NoMemory;
 
 impl Registry {

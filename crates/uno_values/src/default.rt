@@ -2,16 +2,18 @@
 ghost use Rattle.std.specs.Prelude.{◌≡◌, [], IfOk, IsTrue, MatchOption};
 ghost use Rattle.std.specs.List.{list_all};
 ghost use Rattle.uno_model.specs.Defaults.{IsDefault, EachDefault, IsFirst, items_of, items_in};
+ghost use Rattle.uno_model.specs.Fits.{member_kinds};
 ghost use Rattle.uno_model.specs.Kinds as kd;
 ghost use Rattle.uno_model.specs.Registry.{find_entity};
 ghost use Rattle.uno_model.specs.Sound.{IsSound, is_there, is_enum};
 ghost use Rattle.uno_model.specs.Types.{is_formed};
-ghost use Rattle.uno_model.specs.Values.{any, void};
+ghost use Rattle.uno_model.specs.Values.{any, str, void};
 ghost use Rattle.uno_types.specs.Entities.{body_of};
 ghost use Rattle.uno_types.specs.TypeNames.{kind_of};
 ghost use Rattle.uno_values.specs.Fitting.{kinds_at};
 ghost use Rattle.uno_values.specs.Values.{plain_of, plains_of};
 
+use crate::value::{any_holding, item_of, list_of, tuple_of};
 use crate::{AnyValue, Reference, Value};
 use std::alloc::Global;
 use uno_base::NoMemory;
@@ -55,7 +57,7 @@ fn default_within(
         TypeName::UnsignedLong => Ok(Value::UnsignedLong(0)),
         TypeName::Hyper => Ok(Value::Hyper(0)),
         TypeName::UnsignedHyper => Ok(Value::UnsignedHyper(0)),
-        TypeName::Str => Ok(Value::Str(Text::of(alloc, "")?)),
+        TypeName::Str => default_text(alloc),
         TypeName::Kind => Ok(Value::Kind(TypeName::Void)),
         TypeName::Any => default_any(alloc),
         TypeName::Enum(name) => default_item(alloc, registry, name),
@@ -66,6 +68,13 @@ fn default_within(
     }
 }
 
+/// The empty text.
+fn default_text(alloc: Global) -> Result<Value, NoMemory>
+    ensures { IfOk result (λ v. plain_of v ≡ str []) }
+{
+    Ok(Value::Str(Text::of(alloc, "")?))
+}
+
 /// An any of void.
 fn default_any(alloc: Global) -> Result<Value, NoMemory>
     ensures { IfOk result (λ v. plain_of v ≡ any kd.void void) }
@@ -74,7 +83,7 @@ fn default_any(alloc: Global) -> Result<Value, NoMemory>
         kind: TypeName::Void,
         value: Value::Void,
     };
-    Ok(Value::Any(Box::new(alloc, any)?))
+    any_holding(alloc, any)
 }
 
 /// A sequence of no elements.
@@ -85,8 +94,7 @@ fn default_sequence(alloc: Global, registry: &Registry, inner: &TypeName) -> Res
     if matches!(inner, TypeName::Byte) {
         return Ok(Value::Bytes(Vec::new(alloc)));
     }
-    let element = inner.copy(alloc)?;
-    Ok(Value::List(element, Vec::new(alloc)))
+    list_of(alloc, inner, Vec::new(alloc))
 }
 
 /// The first item of an enum.
@@ -100,8 +108,7 @@ fn default_item(alloc: Global, registry: &Registry, name: &Name) -> Result<Value
         unreachable!()
     };
     let number = item.number;
-    let name = name.copy(alloc)?;
-    Ok(Value::Enum(name, number))
+    item_of(alloc, name, number)
 }
 
 /// The first item that the enum of this name has.
@@ -145,13 +152,26 @@ fn default_tuple(
     let Some(inner) = depth.checked_sub(1) else {
         return Err(NoMemory)
     };
-    let fields = registry.members(alloc, name.as_str())?;
-    let members = defaults_of(alloc, registry, &fields, inner)?;
-    let name = name.copy(alloc)?;
-    Ok(Value::Tuple(name, members))
+    let members = default_members(alloc, registry, name, inner)?;
+    tuple_of(alloc, name, members)
 }
 
-/// The default of each member.
+/// The defaults of the members of a struct or an exception, those of its bases first.
+#[cycle(default)]
+fn default_members(
+    alloc: Global,
+    registry: &Registry,
+    name: &Name,
+    depth: u32,
+) -> Result<Vec<Value>, NoMemory>
+    requires sound { IsSound registry.now }
+    ensures { IfOk result (λ vs. EachDefault registry.now (plains_of vs.items) (member_kinds registry.now name.now)) }
+{
+    let fields = registry.members(alloc, name.as_str())?;
+    defaults_of(alloc, registry, &fields, depth)
+}
+
+/// The default of each of these members.
 #[cycle(default)]
 #[tactic(auto, unfolding(uno_model::specs::Defaults::EachDefault))]
 fn defaults_of(

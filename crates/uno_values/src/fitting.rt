@@ -21,32 +21,22 @@ pub fn fits(registry: &Registry, value: &Value, kind: &TypeName) -> bool
     ensures { IsTrue result ↔ Fits registry.now (plain_of value.now) (kind_of kind.now) }
 {
     match value {
-        Value::Void => matches!(kind, TypeName::Void),
-        Value::Char(_) => matches!(kind, TypeName::Char),
-        Value::Boolean(_) => matches!(kind, TypeName::Boolean),
-        Value::Byte(_) => matches!(kind, TypeName::Byte),
-        Value::Short(_) => matches!(kind, TypeName::Short),
-        Value::UnsignedShort(_) => matches!(kind, TypeName::UnsignedShort),
-        Value::Long(_) => matches!(kind, TypeName::Long),
-        Value::UnsignedLong(_) => matches!(kind, TypeName::UnsignedLong),
-        Value::Hyper(_) => matches!(kind, TypeName::Hyper),
-        Value::UnsignedHyper(_) => matches!(kind, TypeName::UnsignedHyper),
-        Value::Str(_) => matches!(kind, TypeName::Str),
+        Value::Void => kind.is(&TypeName::Void),
+        Value::Char(_) => kind.is(&TypeName::Char),
+        Value::Boolean(_) => kind.is(&TypeName::Boolean),
+        Value::Byte(_) => kind.is(&TypeName::Byte),
+        Value::Short(_) => kind.is(&TypeName::Short),
+        Value::UnsignedShort(_) => kind.is(&TypeName::UnsignedShort),
+        Value::Long(_) => kind.is(&TypeName::Long),
+        Value::UnsignedLong(_) => kind.is(&TypeName::UnsignedLong),
+        Value::Hyper(_) => kind.is(&TypeName::Hyper),
+        Value::UnsignedHyper(_) => kind.is(&TypeName::UnsignedHyper),
+        Value::Str(_) => kind.is(&TypeName::Str),
         Value::Kind(named) => type_fits(registry, named, kind),
         Value::Any(any) => any_fits(registry, any, kind),
         Value::Enum(name, _) => enum_fits(registry, name, kind),
-        Value::Tuple(name, members) => {
-            if !is_tuple_type(registry, name, kind) {
-                return false;
-            }
-            members_fit(registry, name.as_str(), members)
-        }
-        Value::List(element, elements) => {
-            if !is_list_type(registry, element, kind) {
-                return false;
-            }
-            all_fit(registry, elements, element)
-        }
+        Value::Tuple(name, members) => tuple_fits(registry, name, members, kind),
+        Value::List(element, elements) => list_fits(registry, elements, element, kind),
         Value::Bytes(_) => is_bytes(kind),
         Value::Ref(reference) => reference_fits(registry, reference, kind),
     }
@@ -89,6 +79,19 @@ fn enum_fits(registry: &Registry, name: &Name, kind: &TypeName) -> bool
         return false;
     }
     registry.has_type(kind)
+}
+
+/// A struct or an exception of the registry, and a value for each member.
+#[cycle(fits)]
+fn tuple_fits(registry: &Registry, name: &Name, members: &[Value], kind: &TypeName) -> bool
+    requires { IsSound registry.now }
+    ensures { IsTrue result ↔ (IsTupleKind name.now (kind_of kind.now) × IsTrue (is_type registry.now (kind_of kind.now))
+        × FitEach registry.now (plains_of members.now) (member_kinds registry.now name.now)) }
+{
+    if !is_tuple_type(registry, name, kind) {
+        return false;
+    }
+    members_fit(registry, name.as_str(), members)
 }
 
 /// A struct or an exception of the registry.
@@ -151,6 +154,19 @@ fn own_fit(registry: &Registry, fields: &[Field], members: &[Value], start: usiz
         place += 1;
     }
     true
+}
+
+/// A sequence of the registry whose elements are no bytes, and elements that fit their type.
+#[cycle(fits)]
+fn list_fits(registry: &Registry, elements: &[Value], element: &TypeName, kind: &TypeName) -> bool
+    requires { IsSound registry.now }
+    ensures { IsTrue result ↔ ((kind_of kind.now ≡ kd.sequence (kind_of element.now)) × (kind_of element.now ≢ kd.byte)
+        × IsTrue (is_type registry.now (kind_of kind.now)) × FitAll registry.now (plains_of elements.now) (kind_of element.now)) }
+{
+    if !is_list_type(registry, element, kind) {
+        return false;
+    }
+    all_fit(registry, elements, element)
 }
 
 /// A sequence of the registry whose elements are no bytes.

@@ -1,6 +1,12 @@
 //! Values, a case for each type.
+ghost use Rattle.std.specs.Prelude.{◌≡◌, IfOk};
+ghost use Rattle.uno_model.specs.Values.{any, enum, tuple, list};
+ghost use Rattle.uno_types.specs.TypeNames.{kind_of};
+ghost use Rattle.uno_values.specs.Values.{plain_of, plains_of};
 
 use crate::Reference;
+use std::alloc::Global;
+use uno_base::NoMemory;
 use uno_types::{Name, Text, TypeName};
 
 /// A value. That it is one of a type of a registry is what `fits` asks.
@@ -37,4 +43,38 @@ pub enum Value {
 pub struct AnyValue {
     pub kind: TypeName,
     pub value: Value,
+}
+
+/// The any that holds this.
+pub(crate) fn any_holding(alloc: Global, held: AnyValue) -> Result<Value, NoMemory>
+    ensures { IfOk result (λ v. plain_of v ≡ any (kind_of held.kind) (plain_of held.value)) }
+{
+    Ok(Value::Any(Box::new(alloc, held)?))
+}
+
+/// The item of the enum of this name that has this number.
+pub(crate) fn item_of(alloc: Global, name: &Name, number: i32) -> Result<Value, NoMemory>
+    ensures { IfOk result (λ v. plain_of v ≡ enum name.now number) }
+{
+    Ok(Value::Enum(name.copy(alloc)?, number))
+}
+
+/// The struct or the exception of this name that has these members.
+pub(crate) fn tuple_of(alloc: Global, name: &Name, members: Vec<Value>) -> Result<Value, NoMemory>
+    ensures { IfOk result (λ v. plain_of v ≡ tuple name.now (plains_of members.items)) }
+{
+    let name = name.copy(alloc)?;
+    Ok(Value::Tuple(name, members))
+}
+
+/// The sequence of elements of this type that has these.
+pub(crate) fn list_of(
+    alloc: Global,
+    kind: &TypeName,
+    elements: Vec<Value>,
+) -> Result<Value, NoMemory>
+    ensures { IfOk result (λ v. plain_of v ≡ list (kind_of kind.now) (plains_of elements.items)) }
+{
+    let kind = kind.copy(alloc)?;
+    Ok(Value::List(kind, elements))
 }

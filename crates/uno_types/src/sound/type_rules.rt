@@ -56,7 +56,8 @@ pub(crate) fn elements_plain(kind: &TypeName) -> bool
     }
 }
 
-fn is_namable(kind: &TypeName) -> bool
+/// Whether its name is within the limits.
+pub(crate) fn is_namable(kind: &TypeName) -> bool
     ensures { result ≡ is_namable (kind_of kind.now) }
 {
     kind.is_namable()

@@ -3,8 +3,12 @@ use Rattle.std.proofs.lemmas.List.{length-map}
 use Rattle.uno_model.specs.Registry.{find_entity}
 use Rattle.uno_model.proofs.ReachesLaws.{reaches_bases}
 use Rattle.uno_types.specs.Entities.{entity_of}
-use Rattle.uno_types.proofs.AssignableLemmas.{absent_target, by_places}
+use Rattle.uno_types.proofs.AssignableLemmas.{absent_source, absent_target, by_places}
 use Rattle.uno_types.proofs.assignable.is_base_of.Goals as goal
+
+pub returns-in_default : goal.returns-in_default
+returns-in_default c =
+    rw c.eq.ensures (absent_source _ _ _ (subst (λ r. find_entity c.args.from.now r ≡ None) c.entities-entities.ensures.all c.in_default.ensures.gap.absent))
 
 pub returns-in_default-place_in : goal.returns-in_default-place_in
 returns-in_default-place_in c =

@@ -12,9 +12,9 @@ others_have_few-requires-clause-before c =
     none_known (entities_of c.args.entities.now) _ _ c.in_ok-known.known.items (length-map c.args.entities.now entity_of) c.in_ok-known.ensures
     c.as_mut_slice.ensures.value
 
-pub returns-then-not-branch : goal.returns-then-not-branch
-returns-then-not-branch c =
-    one_has_many (entities_of c.args.entities.now) _ c.in_ok-others_have_few.field-0 c.in_ok-others_have_few.ensures.few c.if-not-branch.true
+pub returns-then-not-first_few : goal.returns-then-not-first_few
+returns-then-not-first_few c =
+    one_has_many (entities_of c.args.entities.now) _ c.in_ok-first_few.first_few c.in_ok-first_few.ensures.few c.if-not-first_few.true
 
 pub returns : goal.returns
 returns c =

@@ -1,0 +1,9 @@
+use Rattle.uno_types.proofs.FindingLemmas.{rising_insert, adds_insert}
+use Rattle.uno_types.proofs.registry.insert_in.Goals as goal
+
+pub returns-clause-rising : goal.returns-clause-rising
+returns-clause-rising c =
+    rw c.in_ok-insert.ensures.items (rising_insert _ _ _ _ _ c.as_slice.ensures.value c.as_str.ensures c.requires c.in-Some.ensures)
+
+pub returns-clause-added : goal.returns-clause-added
+returns-clause-added c = rw c.in_ok-insert.ensures.items (adds_insert _ _ _)
