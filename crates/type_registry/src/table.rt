@@ -160,8 +160,21 @@ fn push_accessors(
     let Member::Attribute(attribute) = member else {
         return Ok(())
     };
-    table.push(getter(alloc, owner, attribute)?)?;
+    push_getter(table, alloc, owner, attribute)?;
     push_setter(table, alloc, owner, attribute)
+}
+
+/// The function that reads an attribute.
+fn push_getter(
+    table: &mut Vec<Function>,
+    alloc: Global,
+    owner: &str,
+    attribute: &Attribute,
+) -> Result<(), NoMemory>
+    ensures { OnOk result (functions_at table.new.items ≡ functions_at table.old.items ++ getter owner.now (attribute_of attribute.now) ∷ []) }
+{
+    table.push(getter(alloc, owner, attribute)?)?;
+    Ok(())
 }
 
 /// The function that writes an attribute, unless it is read-only.

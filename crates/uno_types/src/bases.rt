@@ -71,8 +71,7 @@ fn mark_unless_optional(
     if base.optional {
         return Ok(());
     }
-    mark_name(entities, base.name.as_str(), search)?;
-    Ok(())
+    mark_name(entities, base.name.as_str(), search)
 }
 
 /// Marks the bases of the entity at a place.
@@ -94,13 +93,9 @@ fn mark_bases_of(entities: &[Entity], entity: &Entity, search: &mut Search) -> R
     ensures { OnOk result (Spreads (entities_of entities.now) (stands_on_body (Some (entity_of entity.now))) search.old.marks.items search.old.pending.items search.new.marks.items search.new.pending.items) }
 {
     match &entity.body {
-        Body::Interface { bases, .. } => {
-            mark_required(entities, bases.as_slice(), search)?;
-            Ok(())
-        }
+        Body::Interface { bases, .. } => mark_required(entities, bases.as_slice(), search),
         Body::Struct { base, .. } | Body::Exception { base, .. } => {
-            mark_base(entities, base, search)?;
-            Ok(())
+            mark_base(entities, base, search)
         }
         Body::Enum { .. }
         | Body::Constants { .. }
@@ -117,10 +112,7 @@ fn mark_base(entities: &[Entity], base: &Option<Name>, search: &mut Search) -> R
     ensures { OnOk result (Spreads (entities_of entities.now) (at_most_one base.now) search.old.marks.items search.old.pending.items search.new.marks.items search.new.pending.items) }
 {
     match base {
-        Some(name) => {
-            mark_name(entities, name.as_str(), search)?;
-            Ok(())
-        }
+        Some(name) => mark_name(entities, name.as_str(), search),
         None => Ok(()),
     }
 }

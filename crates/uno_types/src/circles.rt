@@ -91,10 +91,7 @@ fn push_base(entities: &[Entity], base: &Option<Name>, row: &mut Vec<u32>) -> Re
     ensures { OnOk result (row.new.items ≡ row.old.items ++ places_of (entities_of entities.now) (at_most_one base.now)) }
 {
     match base {
-        Some(name) => {
-            push_name(entities, name.as_str(), row)?;
-            Ok(())
-        }
+        Some(name) => push_name(entities, name.as_str(), row),
         None => Ok(()),
     }
 }
@@ -120,10 +117,7 @@ fn push_struct(entities: &[Entity], kind: &TypeName, row: &mut Vec<u32>) -> Resu
     ensures { OnOk result (row.new.items ≡ row.old.items ++ places_of (entities_of entities.now) (struct_in (kind_of kind.now))) }
 {
     match kind {
-        TypeName::Struct(name) => {
-            push_name(entities, name.as_str(), row)?;
-            Ok(())
-        }
+        TypeName::Struct(name) => push_name(entities, name.as_str(), row),
         TypeName::Void
         | TypeName::Char
         | TypeName::Boolean

@@ -80,8 +80,7 @@ fn waits_or_has_few(
     if later {
         return Ok(true);
     }
-    let few = has_few_functions(alloc, entities, place, known)?;
-    Ok(few)
+    has_few_functions(alloc, entities, place, known)
 }
 
 /// Whether the entity at a place has few functions, searched only where it is not known.
@@ -100,8 +99,7 @@ fn has_few_functions(
     if known[place] {
         return Ok(true);
     }
-    let few = few_are_found(alloc, entities, place, known)?;
-    Ok(few)
+    few_are_found(alloc, entities, place, known)
 }
 
 /// Whether a search from a place finds few functions. Where it does, so it is known of all that it marks.

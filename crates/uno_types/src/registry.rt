@@ -13,7 +13,7 @@ use std::marker::Model;
 use uno_base::NoMemory;
 
 /// Why an entity was not added.
-#[derive(Clone, Copy, Debug, PartialEq, Eq, Hash)]
+#[derive(Clone, Copy, Debug, PartialEq, Eq)]
 pub enum AddError {
     NoMemory,
     /// The name is there already.
@@ -74,8 +74,7 @@ impl Registry {
         ensures twice { (result ≡ Err AddError.Twice) ↔ (find_entity entity.name self.old ≢ None) }
         ensures refused { OnErr result (self.new ≡ self.old) }
     {
-        insert_in(&mut self.entities, entity)?;
-        Ok(())
+        insert_in(&mut self.entities, entity)
     }
 
     /// The entity of this name.

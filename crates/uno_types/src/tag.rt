@@ -10,7 +10,7 @@ use std::marker::Model;
 use uno_base::NoMemory;
 
 /// Why a text is no tag.
-#[derive(Clone, Copy, Debug, PartialEq, Eq, Hash)]
+#[derive(Clone, Copy, Debug, PartialEq, Eq)]
 pub enum TagError {
     NoMemory,
     /// The text is not 1 to 32 of 0-9A-Za-z.

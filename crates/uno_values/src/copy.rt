@@ -1,15 +1,11 @@
 //! Equal values.
 ghost use Rattle.std.specs.Prelude.{◌≡◌, IfOk, map};
-ghost use Rattle.uno_model.specs.Values.{str, kind, any, tuple, list, bytes, ref};
-ghost use Rattle.uno_types.specs.TypeNames.{kind_of};
-ghost use Rattle.uno_values.specs.References.{ref_of};
-ghost use Rattle.uno_values.specs.Values.{plain_of, plains_of, any_of};
+ghost use Rattle.uno_values.specs.Values.{plain_of, any_of};
 
 use crate::value::{any_holding, item_of, list_of, tuple_of};
-use crate::{AnyValue, Reference, Value};
+use crate::{AnyValue, Value};
 use std::alloc::Global;
 use uno_base::NoMemory;
-use uno_types::{Name, Text, TypeName};
 
 impl Value {
     /// An equal value.
@@ -28,14 +24,14 @@ impl Value {
             Value::UnsignedLong(number) => Ok(Value::UnsignedLong(*number)),
             Value::Hyper(number) => Ok(Value::Hyper(*number)),
             Value::UnsignedHyper(number) => Ok(Value::UnsignedHyper(*number)),
-            Value::Str(text) => copy_text(text, alloc),
-            Value::Kind(kind) => copy_kind(kind, alloc),
-            Value::Any(any) => copy_any(any, alloc),
+            Value::Str(text) => Ok(Value::Str(text.copy(alloc)?)),
+            Value::Kind(kind) => Ok(Value::Kind(kind.copy(alloc)?)),
+            Value::Any(any) => any_holding(alloc, any.copy(alloc)?),
             Value::Enum(name, number) => item_of(alloc, name, *number),
-            Value::Tuple(name, members) => copy_tuple(name, members, alloc),
-            Value::List(kind, elements) => copy_list(elements, kind, alloc),
-            Value::Bytes(bytes) => copy_bytes(bytes, alloc),
-            Value::Ref(reference) => copy_reference(reference, alloc),
+            Value::Tuple(name, members) => tuple_of(alloc, name, copy_all(members, alloc)?),
+            Value::List(kind, elements) => list_of(alloc, kind, copy_all(elements, alloc)?),
+            Value::Bytes(bytes) => Ok(Value::Bytes(Vec::from_slice(alloc, bytes)?)),
+            Value::Ref(reference) => Ok(Value::Ref(reference.copy(alloc)?)),
         }
     }
 }
@@ -50,61 +46,6 @@ impl AnyValue {
         let value = self.value.copy(alloc)?;
         Ok(AnyValue { kind, value })
     }
-}
-
-/// An equal text.
-fn copy_text(copied: &Text, alloc: Global) -> Result<Value, NoMemory>
-    ensures { IfOk result (λ copy. plain_of copy ≡ str copied.now) }
-{
-    Ok(Value::Str(copied.copy(alloc)?))
-}
-
-/// An equal type.
-fn copy_kind(copied: &TypeName, alloc: Global) -> Result<Value, NoMemory>
-    ensures { IfOk result (λ copy. plain_of copy ≡ kind (kind_of copied.now)) }
-{
-    Ok(Value::Kind(copied.copy(alloc)?))
-}
-
-/// An equal sequence of byte.
-fn copy_bytes(copied: &[u8], alloc: Global) -> Result<Value, NoMemory>
-    ensures { IfOk result (λ copy. plain_of copy ≡ bytes copied.now) }
-{
-    Ok(Value::Bytes(Vec::from_slice(alloc, copied)?))
-}
-
-/// An equal reference.
-fn copy_reference(copied: &Reference, alloc: Global) -> Result<Value, NoMemory>
-    ensures { IfOk result (λ copy. plain_of copy ≡ ref (ref_of copied.now)) }
-{
-    Ok(Value::Ref(copied.copy(alloc)?))
-}
-
-/// An any of an equal type and an equal value.
-#[cycle(copy)]
-fn copy_any(copied: &AnyValue, alloc: Global) -> Result<Value, NoMemory>
-    ensures { IfOk result (λ copy. plain_of copy ≡ any (kind_of copied.now.kind) (plain_of copied.now.value)) }
-{
-    let copy = copied.copy(alloc)?;
-    any_holding(alloc, copy)
-}
-
-/// The struct or the exception of that name, with equal members.
-#[cycle(copy)]
-fn copy_tuple(name: &Name, members: &[Value], alloc: Global) -> Result<Value, NoMemory>
-    ensures { IfOk result (λ copy. plain_of copy ≡ tuple name.now (plains_of members.now)) }
-{
-    let copies = copy_all(members, alloc)?;
-    tuple_of(alloc, name, copies)
-}
-
-/// A sequence of equal elements, of an equal type.
-#[cycle(copy)]
-fn copy_list(elements: &[Value], kind: &TypeName, alloc: Global) -> Result<Value, NoMemory>
-    ensures { IfOk result (λ copy. plain_of copy ≡ list (kind_of kind.now) (plains_of elements.now)) }
-{
-    let copies = copy_all(elements, alloc)?;
-    list_of(alloc, kind, copies)
 }
 
 /// Equal values, in the same order.

@@ -2,12 +2,11 @@
 ghost use Rattle.std.specs.Prelude.{◌≡◌, [], IfOk, IsTrue, MatchOption};
 ghost use Rattle.std.specs.List.{list_all};
 ghost use Rattle.uno_model.specs.Defaults.{IsDefault, EachDefault, IsFirst, items_of, items_in};
-ghost use Rattle.uno_model.specs.Fits.{member_kinds};
 ghost use Rattle.uno_model.specs.Kinds as kd;
 ghost use Rattle.uno_model.specs.Registry.{find_entity};
 ghost use Rattle.uno_model.specs.Sound.{IsSound, is_there, is_enum};
 ghost use Rattle.uno_model.specs.Types.{is_formed};
-ghost use Rattle.uno_model.specs.Values.{any, str, void};
+ghost use Rattle.uno_model.specs.Values.{any, void};
 ghost use Rattle.uno_types.specs.Entities.{body_of};
 ghost use Rattle.uno_types.specs.TypeNames.{kind_of};
 ghost use Rattle.uno_values.specs.Fitting.{kinds_at};
@@ -57,7 +56,7 @@ fn default_within(
         TypeName::UnsignedLong => Ok(Value::UnsignedLong(0)),
         TypeName::Hyper => Ok(Value::Hyper(0)),
         TypeName::UnsignedHyper => Ok(Value::UnsignedHyper(0)),
-        TypeName::Str => default_text(alloc),
+        TypeName::Str => Ok(Value::Str(Text::of(alloc, "")?)),
         TypeName::Kind => Ok(Value::Kind(TypeName::Void)),
         TypeName::Any => default_any(alloc),
         TypeName::Enum(name) => default_item(alloc, registry, name),
@@ -66,13 +65,6 @@ fn default_within(
         TypeName::Interface(_) => Ok(Value::Ref(Reference::Null)),
         TypeName::Sequence(inner) => default_sequence(alloc, registry, inner),
     }
-}
-
-/// The empty text.
-fn default_text(alloc: Global) -> Result<Value, NoMemory>
-    ensures { IfOk result (λ v. plain_of v ≡ str []) }
-{
-    Ok(Value::Str(Text::of(alloc, "")?))
 }
 
 /// An any of void.
@@ -152,26 +144,12 @@ fn default_tuple(
     let Some(inner) = depth.checked_sub(1) else {
         return Err(NoMemory)
     };
-    let members = default_members(alloc, registry, name, inner)?;
+    let fields = registry.members(alloc, name.as_str())?;
+    let members = defaults_of(alloc, registry, &fields, inner)?;
     tuple_of(alloc, name, members)
 }
 
-/// The defaults of the members of a struct or an exception, those of its bases first.
-#[cycle(default)]
-fn default_members(
-    alloc: Global,
-    registry: &Registry,
-    name: &Name,
-    depth: u32,
-) -> Result<Vec<Value>, NoMemory>
-    requires sound { IsSound registry.now }
-    ensures { IfOk result (λ vs. EachDefault registry.now (plains_of vs.items) (member_kinds registry.now name.now)) }
-{
-    let fields = registry.members(alloc, name.as_str())?;
-    defaults_of(alloc, registry, &fields, depth)
-}
-
-/// The default of each of these members.
+/// The default of each member.
 #[cycle(default)]
 #[tactic(auto, unfolding(uno_model::specs::Defaults::EachDefault))]
 fn defaults_of(

@@ -1,4 +1,4 @@
-use Rattle.std.proofs.Common.{◌≡◌, ◌++◌, ◌∷◌, [], length, refl, sym, ap, ◌∙◌, arith, rules}
+use Rattle.std.proofs.Common.{length, refl, sym, ap, ◌∙◌, arith, rules}
 use Rattle.std.proofs.lemmas.List.{length-map}
 use Rattle.type_registry.proofs.TaskLemmas.{popped, first_task, one_task, taken_off, one_less, none_left, all_levels}
 use Rattle.type_registry.proofs.walk.interfaces_of.Goals as goal

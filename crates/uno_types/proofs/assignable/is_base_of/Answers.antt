@@ -1,4 +1,4 @@
-use Rattle.std.proofs.Common.{◌≡◌, None, sym, subst, ap, ◌∙◌, length}
+use Rattle.std.proofs.Common.{◌≡◌, None, sym, subst, ap, ◌∙◌, length, arith}
 use Rattle.std.proofs.lemmas.List.{length-map}
 use Rattle.uno_model.specs.Registry.{find_entity}
 use Rattle.uno_model.proofs.ReachesLaws.{reaches_bases}
@@ -21,3 +21,9 @@ returns-in-Ok-is_marked c =
 pub returns-in-Err : goal.returns-in-Err
 returns-in-Err c =
     rw c.reaches.ensures (reaches_bases _ _ _ _ c.requires.no_circle (ap length (sym c.entities-entities.ensures.all) ∙ length-map c.entities-entities.result.now entity_of))
+
+pub is_marked-requires-clause-source : goal.is_marked-requires-clause-source
+is_marked-requires-clause-source c = omega (arith, c.in-Ok.ensures.place.within, length-map c.entities-entities.result.now entity_of)
+
+pub is_marked-requires-clause-target : goal.is_marked-requires-clause-target
+is_marked-requires-clause-target c = omega (arith, c.in-Ok-place_in.ensures.place.within, length-map c.entities-entities.result.now entity_of)

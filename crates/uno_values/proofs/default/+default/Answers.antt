@@ -2,8 +2,8 @@ use Rattle.std.proofs.Common.{rules}
 use Rattle.uno_values.proofs.DefaultLemmas.{one_more_member, formed_at, all_formed}
 use Rattle.uno_values.proofs.default.+default.Goals as goal
 
-pub default_members-defaults_of-requires : goal.default_members-defaults_of-requires
-default_members-defaults_of-requires t c = (search rules, (c.requires.sound, rw c.deref.ensures.value (all_formed _ _ _ c.requires.sound c.in_ok-fields.ensures)))
+pub default_tuple-defaults_of-requires : goal.default_tuple-defaults_of-requires
+default_tuple-defaults_of-requires t c = (search rules, (c.requires.sound, rw c.deref.ensures.value (all_formed _ _ _ c.requires.sound c.in_ok-fields.ensures)))
 
 pub defaults_of-default_within-requires : goal.defaults_of-default_within-requires
 defaults_of-default_within-requires t c =

@@ -8,13 +8,10 @@ abbrev pub invariant-defaults_of-loop-field : goal.invariant-defaults_of-loop-fi
 invariant-defaults_of-loop-field l = EachDefault l.registry (plains_of l.values.items) (kinds_at (take l.field-index l.fields))
 
 abbrev pub decreases-default_within : goal.decreases-default_within
-decreases-default_within l = 4 * l.depth + 2
+decreases-default_within l = 3 * l.depth + 2
 
 abbrev pub decreases-default_tuple : goal.decreases-default_tuple
-decreases-default_tuple l = 4 * l.depth + 1
-
-abbrev pub decreases-default_members : goal.decreases-default_members
-decreases-default_members l = 4 * l.depth + 4
+decreases-default_tuple l = 3 * l.depth + 1
 
 abbrev pub decreases-defaults_of : goal.decreases-defaults_of
-decreases-defaults_of l = 4 * l.depth + 3
+decreases-defaults_of l = 3 * l.depth + 3
