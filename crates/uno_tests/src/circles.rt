@@ -1,11 +1,11 @@
 //! That ample memory is enough; `limits` has, through `is_sound`, graphs that are deep or have many ways.
+use crate::judging::see_number;
 use circle_search::{Graph, has_no_circle};
 use std::alloc::Global;
-use std::process::Abort;
-use std::test::Fail;
+use uno_base::NoMemory;
 
 /// The graph with these rows of targets.
-fn graph_of(alloc: Global, rows: &[&[u32]]) -> Result<Graph, Fail> {
+fn graph_of(alloc: Global, rows: &[&[u32]]) -> Result<Graph, NoMemory> {
     let mut graph = Graph::new(alloc);
     for row in rows {
         graph.add_node(Vec::from_slice(alloc, row)?)?;
@@ -27,19 +27,17 @@ const SMALL: &[Row] = &[
     (&[&[1, 1, 9], &[]], true),
 ];
 
-/// Sees that a graph has no circle, or that it has one.
-fn judge(rt: &impl Abort, alloc: Global, graph: Graph, wanted: bool) {
-    let nodes = graph.len();
-    assert!(rt;
-        has_no_circle(alloc, &graph) == Ok(wanted),
-        "with {nodes} nodes"
-    );
+/// Whether the search says that there is no circle.
+fn is_free(alloc: Global, targets: &[&[u32]]) -> Result<bool, NoMemory> {
+    let graph = graph_of(alloc, targets)?;
+    let free = has_no_circle(alloc, &graph);
+    drop(graph);
+    free
 }
 
 #[test]
-fn small_graphs(rt: HostRuntime) -> Result<(), Fail> {
-    for (targets, wanted) in SMALL {
-        judge(&rt, rt.alloc(), graph_of(rt.alloc(), targets)?, *wanted);
+fn small_graphs(rt: HostRuntime) {
+    for (number, (targets, wanted)) in SMALL.iter().enumerate() {
+        see_number(&rt, is_free(rt.alloc(), targets) == Ok(*wanted), number);
     }
-    Ok(())
 }

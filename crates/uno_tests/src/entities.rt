@@ -15,48 +15,51 @@ use crate::types::{cut, type_of};
 use many::{Lines, spelled};
 use parts::{added, all_of};
 use std::alloc::Global;
+use std::process::Abort;
 use texts::KNOWN;
 use uno_base::NoMemory;
 use uno_types::{Body, Entity, Name, Registry, Service, Singleton};
 
 /// The built-in entities, and those of the lines, with `;` between them.
 pub(crate) fn registry_of(alloc: Global, lines: Lines) -> Result<Registry, NoMemory> {
-    let mut registry = Registry::new(alloc)?;
     let text = spelled(alloc, lines)?;
-    add_lines(alloc, &mut registry, &text)?;
+    let registry = registry_of_text(alloc, &text);
+    drop(text);
+    registry
+}
+
+fn registry_of_text(alloc: Global, lines: &str) -> Result<Registry, NoMemory> {
+    let mut registry = Registry::new(alloc)?;
+    add_lines(alloc, &mut registry, lines)?;
     Ok(registry)
 }
 
 /// The same with the known entities too.
 pub(crate) fn with_known(alloc: Global, lines: Lines) -> Result<Registry, NoMemory> {
-    let mut registry = registry_of(alloc, (KNOWN, "", 0))?;
-    let text = spelled(alloc, lines)?;
-    add_lines(alloc, &mut registry, &text)?;
+    let mut registry = registry_of(alloc, lines)?;
+    add_lines(alloc, &mut registry, KNOWN)?;
     Ok(registry)
 }
 
-/// The built-in entities and those of the lines, if they are sound.
-pub(crate) fn sound_of(alloc: Global, lines: Lines) -> Result<Registry, NoMemory>
-    ensures { IfOk result (λ registry. IsSound registry) }
+/// The registry, if it is there and sound; else the test fails.
+pub(crate) fn sound(rt: &impl Abort, registry: Result<Registry, NoMemory>) -> Registry
+    ensures { IsSound result }
 {
-    sound(registry_of(alloc, lines)?)
-}
-
-/// The built-in entities alone, if they are sound.
-pub(crate) fn built_in(alloc: Global) -> Result<Registry, NoMemory>
-    ensures { IfOk result (λ registry. IsSound registry) }
-{
-    sound(Registry::new(alloc)?)
+    match if_sound(registry) {
+        Ok(registry) => registry,
+        Err(NoMemory) => panic!(rt; "no sound registry"),
+    }
 }
 
 /// The registry, if it is sound.
-fn sound(registry: Registry) -> Result<Registry, NoMemory>
+pub(crate) fn if_sound(registry: Result<Registry, NoMemory>) -> Result<Registry, NoMemory>
     ensures { IfOk result (λ registry. IsSound registry) }
 {
-    if registry.is_sound()? {
-        return Ok(registry);
+    let registry = registry?;
+    match registry.is_sound() {
+        Ok(true) => Ok(registry),
+        _ => Err(NoMemory),
     }
-    Err(NoMemory)
 }
 
 pub(crate) fn add_lines(
@@ -91,11 +94,16 @@ pub(crate) fn entity_of(alloc: Global, line: &str) -> Result<Entity, NoMemory> {
 fn body_of(alloc: Global, what: &str, parts: &str) -> Result<Body, NoMemory> {
     match what {
         "interface" => interface_of(alloc, parts),
-        "struct" => struct_of(alloc, parts),
-        "exception" => exception_of(alloc, parts),
-        "enum" => enum_of(alloc, parts),
-        "constants" => constants_of(alloc, parts),
-        "typedef" => typedef_of(alloc, parts),
+        "struct" | "exception" => struct_of(alloc, what, parts),
+        "enum" => Ok(Body::Enum {
+            items: all_of(alloc, parts, ' ', false)?,
+        }),
+        "constants" => Ok(Body::Constants {
+            constants: all_of(alloc, parts, ' ', false)?,
+        }),
+        "typedef" => Ok(Body::Typedef {
+            kind: type_of(alloc, parts)?,
+        }),
         "service" | "old_service" => service_of(alloc, what, parts),
         _ => singleton_of(alloc, what, parts),
     }
@@ -107,31 +115,13 @@ fn interface_of(alloc: Global, parts: &str) -> Result<Body, NoMemory> {
     Ok(Body::Interface { bases, members })
 }
 
-fn struct_of(alloc: Global, parts: &str) -> Result<Body, NoMemory> {
+fn struct_of(alloc: Global, what: &str, parts: &str) -> Result<Body, NoMemory> {
     let base = added(alloc, parts, ' ')?;
     let members = all_of(alloc, parts, ' ', false)?;
-    Ok(Body::Struct { base, members })
-}
-
-fn exception_of(alloc: Global, parts: &str) -> Result<Body, NoMemory> {
-    let base = added(alloc, parts, ' ')?;
-    let members = all_of(alloc, parts, ' ', false)?;
+    if what == "struct" {
+        return Ok(Body::Struct { base, members });
+    }
     Ok(Body::Exception { base, members })
-}
-
-fn enum_of(alloc: Global, parts: &str) -> Result<Body, NoMemory> {
-    let items = all_of(alloc, parts, ' ', false)?;
-    Ok(Body::Enum { items })
-}
-
-fn constants_of(alloc: Global, parts: &str) -> Result<Body, NoMemory> {
-    let constants = all_of(alloc, parts, ' ', false)?;
-    Ok(Body::Constants { constants })
-}
-
-fn typedef_of(alloc: Global, parts: &str) -> Result<Body, NoMemory> {
-    let kind = type_of(alloc, parts)?;
-    Ok(Body::Typedef { kind })
 }
 
 fn service_of(alloc: Global, what: &str, parts: &str) -> Result<Body, NoMemory> {

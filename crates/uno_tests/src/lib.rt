@@ -12,6 +12,8 @@ mod entities;
 #[cfg(test)]
 mod fitting;
 #[cfg(test)]
+mod judging;
+#[cfg(test)]
 mod limits;
 #[cfg(test)]
 mod listening;
@@ -30,13 +32,13 @@ mod order;
 #[cfg(test)]
 mod refusing;
 #[cfg(test)]
-mod run_streams;
-#[cfg(test)]
 mod runs;
 #[cfg(test)]
 mod slots;
 #[cfg(test)]
 mod soundness;
+#[cfg(test)]
+mod sources;
 #[cfg(test)]
 mod speaking;
 #[cfg(test)]

@@ -2,8 +2,6 @@
 use crate::entities::many::Lines;
 use crate::entities::texts::{CHAIN_DOWN, CHAIN_UP, CIRCLE, DEMO, KINDS, LADDER};
 use crate::soundness::judge;
-use std::alloc::Global;
-use std::process::Abort;
 
 /// Entities, and whether they are sound.
 type LongRow = (Lines, bool);
@@ -75,18 +73,16 @@ const WHOLE: &[LongRow] = &[
     (LADDER, true),
 ];
 
-fn judge_all(rt: &impl Abort, alloc: Global, rows: &[LongRow]) {
-    for (lines, wanted) in rows {
-        judge(rt, alloc, *lines, *wanted);
+#[test]
+fn counts_and_lengths_are_within_the_limits(rt: HostRuntime) {
+    for (lines, wanted) in LIMITS {
+        judge(&rt, rt.alloc(), *lines, *wanted);
     }
 }
 
 #[test]
-fn counts_and_lengths_are_within_the_limits(rt: HostRuntime) {
-    judge_all(&rt, rt.alloc(), LIMITS);
-}
-
-#[test]
 fn demo_idl_each_kind_a_chain_and_a_ladder_are_sound_and_circles_are_not(rt: HostRuntime) {
-    judge_all(&rt, rt.alloc(), WHOLE);
+    for (lines, wanted) in WHOLE {
+        judge(&rt, rt.alloc(), *lines, *wanted);
+    }
 }

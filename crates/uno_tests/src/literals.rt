@@ -2,9 +2,9 @@
 ghost use Rattle.uno_model.specs.Sound.{IsSound};
 
 use crate::entities::many::Lines;
-use crate::entities::sound_of;
+use crate::entities::{registry_of, sound};
+use crate::judging::{see, see_number};
 use std::alloc::Global;
-use std::process::Abort;
 use uno_base::NoMemory;
 use uno_types::{Registry, TypeName};
 use uno_values::Value;
@@ -128,6 +128,7 @@ fn is_right(
         return Ok(false);
     };
     let printed = through(alloc, registry, &kind, text);
+    drop(kind);
     Ok(is_alike(&printed, text, wanted))
 }
 
@@ -141,7 +142,9 @@ fn through(
     requires { IsSound registry.now }
 {
     let value = read_value(alloc, registry, text, kind)?;
-    printed(alloc, registry, &value)
+    let text = printed(alloc, registry, &value);
+    drop(value);
+    text
 }
 
 fn printed(alloc: Global, registry: &Registry, value: &Value) -> Result<Vec<u8>, TextError>
@@ -164,24 +167,6 @@ fn is_alike(
     }
 }
 
-fn judge(rt: &impl Abort, alloc: Global, registry: &Registry, row: &Row) -> Result<(), NoMemory>
-    requires { IsSound registry.now }
-{
-    let (word, text, wanted) = row;
-    let right = is_right(alloc, registry, word, text, *wanted)?;
-    assert!(rt; right, "at {word} {text}");
-    Ok(())
-}
-
-#[test]
-fn texts_are_read_and_printed_or_refused_at_their_places(rt: HostRuntime) -> Result<(), NoMemory> {
-    let registry = sound_of(rt.alloc(), DEMO)?;
-    for row in ROWS {
-        judge(&rt, rt.alloc(), &registry, row)?;
-    }
-    Ok(())
-}
-
 /// Whether so many open brackets are a bad literal at their end.
 fn ends_badly(alloc: Global, registry: &Registry, count: u32) -> Result<bool, NoMemory>
     requires { IsSound registry.now }
@@ -192,9 +177,12 @@ fn ends_badly(alloc: Global, registry: &Registry, count: u32) -> Result<bool, No
 }
 
 #[test]
-fn four_million_brackets_are_a_bad_literal(rt: HostRuntime) -> Result<(), NoMemory> {
-    let registry = sound_of(rt.alloc(), DEMO)?;
-    let bad = ends_badly(rt.alloc(), &registry, 4_000_000)?;
-    assert!(rt; bad);
-    Ok(())
+fn texts_are_read_and_printed_or_refused_at_their_places(rt: HostRuntime) {
+    let registry = sound(&rt, registry_of(rt.alloc(), DEMO));
+    for (number, (word, text, wanted)) in ROWS.iter().enumerate() {
+        let right = is_right(rt.alloc(), &registry, word, text, *wanted);
+        see_number(&rt, right == Ok(true), number);
+    }
+    let bad = ends_badly(rt.alloc(), &registry, 4_000_000);
+    see(&rt, bad == Ok(true), "four million brackets");
 }

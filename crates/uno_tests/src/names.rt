@@ -1,49 +1,80 @@
 //! Names, texts, identities and tags.
+use crate::judging::see;
 use crate::types::type_of;
 use std::alloc::Global;
+use std::process::Abort;
 use uno_base::NoMemory;
-use uno_types::{Name, Tag, TagError, Text, Tid, is_entity_name, is_identifier};
+use uno_types::{Name, Tag, TagError, Text, Tid, TypeName, is_entity_name, is_identifier};
 
 fn name_copy(alloc: Global, text: &str) -> Result<bool, NoMemory> {
     let name = Name::of(alloc, text)?;
+    let copied = has_name_copy(alloc, &name, text);
+    drop(name);
+    copied
+}
+
+fn has_name_copy(alloc: Global, name: &Name, text: &str) -> Result<bool, NoMemory> {
     let copy = name.copy(alloc)?;
-    Ok(copy.is(&name) && copy.as_str() == text)
+    Ok(copy.is(name) && copy.as_str() == text)
 }
 
 fn text_copy(alloc: Global, text: &str) -> Result<bool, NoMemory> {
-    let copy = Text::of(alloc, text)?.copy(alloc)?;
+    let original = Text::of(alloc, text)?;
+    let copy = original.copy(alloc);
+    drop(original);
+    let copy = copy?;
     Ok(copy.as_str() == text)
 }
 
 fn tid_copy(alloc: Global, text: &str) -> Result<bool, NoMemory> {
-    let copy = Tid::of(alloc, text.as_bytes())?.copy(alloc)?;
+    let original = Tid::of(alloc, text.as_bytes())?;
+    let copy = original.copy(alloc);
+    drop(original);
+    let copy = copy?;
     Ok(copy.as_bytes() == text.as_bytes())
 }
 
 /// A copy of the type of that word.
 fn type_copy(alloc: Global, word: &str) -> Result<bool, NoMemory> {
     let kind = type_of(alloc, word)?;
+    let copied = has_copy(alloc, &kind);
+    drop(kind);
+    copied
+}
+
+fn has_copy(alloc: Global, kind: &TypeName) -> Result<bool, NoMemory> {
     let copy = kind.copy(alloc)?;
-    Ok(copy.is(&kind))
+    let copied = copy.is(kind);
+    drop(copy);
+    Ok(copied)
 }
 
 /// Whether a copy of each has what it was copied from.
 pub(crate) fn copies(alloc: Global, text: &str) -> Result<bool, NoMemory> {
-    let names = name_copy(alloc, text)? && text_copy(alloc, text)?;
-    let others = tid_copy(alloc, text)? && type_copy(alloc, text)?;
-    Ok(names && others)
+    Ok(
+        name_copy(alloc, text)?
+            && text_copy(alloc, text)?
+            && tid_copy(alloc, text)?
+            && type_copy(alloc, text)?,
+    )
 }
 
 /// Whether the text is a tag, which then has just its letters, and so has a copy.
 pub(crate) fn is_tag(alloc: Global, text: &str) -> Result<bool, NoMemory> {
     match Tag::read(alloc, text) {
         Ok(tag) => {
-            let copy = tag.copy(alloc)?;
-            Ok(copy.as_str() == text && tag.as_bytes() == text.as_bytes())
+            let copied = has_tag_copy(alloc, &tag, text);
+            drop(tag);
+            copied
         }
         Err(TagError::NoMemory) => Err(NoMemory),
         Err(TagError::BadTag) => Ok(false),
     }
+}
+
+fn has_tag_copy(alloc: Global, tag: &Tag, text: &str) -> Result<bool, NoMemory> {
+    let copy = tag.copy(alloc)?;
+    Ok(copy.as_str() == text && tag.as_bytes() == text.as_bytes())
 }
 
 const COPIED: &[&str] = &[
@@ -73,10 +104,10 @@ const TAGS: &[(&str, bool)] = &[
 #[test]
 fn copies_are_equal_and_a_tag_is_1_to_32_letters_and_digits(rt: HostRuntime) {
     for text in COPIED {
-        assert!(rt; copies(rt.alloc(), text) == Ok(true), "at {text}");
+        see(&rt, copies(rt.alloc(), text) == Ok(true), text);
     }
     for (text, wanted) in TAGS {
-        assert!(rt; is_tag(rt.alloc(), text) == Ok(*wanted), "at {text}");
+        see(&rt, is_tag(rt.alloc(), text) == Ok(*wanted), text);
     }
 }
 
@@ -95,12 +126,17 @@ const NAMES: &[(&str, bool, bool)] = &[
     (". a. .a a..b a.long in.b a::b a.b-c a.1", false, false),
 ];
 
+/// Sees that each of the words is an identifier and the name of an entity, as is said, or is not.
+fn judge(rt: &impl Abort, words: &str, identifier: bool, entity: bool) {
+    for word in words.split(' ') {
+        let right = is_identifier(word) == identifier && is_entity_name(word) == entity;
+        see(rt, right, word);
+    }
+}
+
 #[test]
 fn words_of_the_grammar_are_no_identifiers_and_points_join_these(rt: HostRuntime) {
     for (words, identifier, entity) in NAMES {
-        for word in words.split(' ') {
-            assert!(rt; is_identifier(word) == *identifier, "at {word}");
-            assert!(rt; is_entity_name(word) == *entity, "at {word}");
-        }
+        judge(&rt, words, *identifier, *entity);
     }
 }

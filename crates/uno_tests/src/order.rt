@@ -1,6 +1,6 @@
 //! What `add` keeps, and in which order.
-use crate::entities::{add_lines, entity_of};
-use std::process::Abort;
+use crate::entities::{add_lines, entity_of, sound};
+use std::alloc::Global;
 use uno_base::NoMemory;
 use uno_types::{AddError, Entity, Registry};
 
@@ -34,25 +34,38 @@ fn is_found(registry: &Registry, entity: &Entity, name: &str) -> bool {
     entity.name.as_str() == name && registry.find(name).is_some()
 }
 
-/// Sees that these are the names, in this order, and that each is found.
-fn has_names(rt: &impl Abort, registry: &Registry, names: &[&str]) {
-    assert!(rt; registry.entities().len() == names.len());
-    for (entity, name) in registry.entities().iter().zip(names) {
-        assert!(rt; is_found(registry, entity, name), "at {name}");
+/// Whether these are the names, in this order, and each is found.
+fn has_names(registry: &Registry, names: &[&str]) -> bool {
+    let mut place: usize = 0;
+    for entity in registry.entities() {
+        match names.get(place) {
+            Some(name) if is_found(registry, entity, name) => {}
+            _ => return false,
+        }
+        place = place.saturating_add(1);
     }
+    place == names.len()
+}
+
+/// Adds the entities, and one of a name that is there.
+fn add_all(alloc: Global, registry: &mut Registry) -> Result<bool, NoMemory> {
+    for lines in ADDED {
+        add_lines(alloc, registry, lines)?;
+    }
+    let again = entity_of(alloc, "struct Z")?;
+    Ok(registry.add(again) == Err(AddError::Twice))
+}
+
+/// Whether what is added stands in order, each name once.
+fn is_right(alloc: Global, registry: &mut Registry) -> Result<bool, NoMemory> {
+    let once = add_all(alloc, registry)?;
+    Ok(once && has_names(registry, IN_ORDER))
 }
 
 #[test]
-fn the_built_in_entities_are_sound_and_what_is_added_goes_in_order(
-    rt: HostRuntime,
-) -> Result<(), NoMemory> {
-    let mut registry = Registry::new(rt.alloc())?;
-    assert!(rt; registry.is_sound() == Ok(true));
-    for lines in ADDED {
-        add_lines(rt.alloc(), &mut registry, lines)?;
-    }
-    let again = entity_of(rt.alloc(), "struct Z")?;
-    assert!(rt; registry.add(again) == Err(AddError::Twice));
-    has_names(&rt, &registry, IN_ORDER);
-    Ok(())
+fn the_built_in_entities_are_sound_and_what_is_added_goes_in_order(rt: HostRuntime) {
+    let mut registry = sound(&rt, Registry::new(rt.alloc()));
+    let right = is_right(rt.alloc(), &mut registry);
+    drop(registry);
+    assert!(rt; right == Ok(true));
 }

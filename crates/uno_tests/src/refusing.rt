@@ -1,12 +1,12 @@
 //! Bodies that are refused, each for the first reason in the order of reading.
 ghost use Rattle.uno_model.specs.Sound.{IsSound};
 
-use crate::entities::sound_of;
 use crate::entities::texts::CALLED;
+use crate::entities::{registry_of, sound};
+use crate::judging::see_bytes;
 use crate::waiting::Waiting;
 use std::alloc::Global;
-use std::process::Abort;
-use std::test::Fail;
+use uno_base::NoMemory;
 use uno_types::Registry;
 use urp_message::{Listener, ReadError};
 use urp_wire::Reason;
@@ -84,7 +84,7 @@ const ROWS: &[Row] = &[
 ];
 
 /// Why a body is not read, if it is not.
-pub(crate) fn refusal(
+fn refusal(
     registry: &Registry,
     listener: &mut Listener,
     expect: &Waiting,
@@ -93,82 +93,83 @@ pub(crate) fn refusal(
     requires { IsSound registry.now }
 {
     match listener.read(registry, body, expect) {
-        Ok(_) => None,
+        Ok((message, _)) => {
+            drop(message);
+            None
+        }
         Err(error) => Some(error),
     }
 }
 
-/// Sees that bodies are read.
+/// The same of a new listener.
+pub(crate) fn refusal_at_first(
+    alloc: Global,
+    registry: &Registry,
+    expect: &Waiting,
+    body: &[u8],
+) -> Result<Option<ReadError>, NoMemory>
+    requires { IsSound registry.now }
+{
+    let mut listener = Listener::new(alloc)?;
+    let refusal = refusal(registry, &mut listener, expect, body);
+    drop(listener);
+    Ok(refusal)
+}
+
+/// Whether bodies are read.
 fn are_read(
-    rt: &impl Abort,
     registry: &Registry,
     listener: &mut Listener,
     expect: &Waiting,
     bodies: &[&[u8]],
-)
-    requires { IsSound registry.now }
-{
-    for body in bodies {
-        assert!(rt; refusal(registry, listener, expect, body).is_none());
-    }
-}
-
-/// Whether a body is refused for this reason.
-fn is_refused(
-    registry: &Registry,
-    listener: &mut Listener,
-    expect: &Waiting,
-    body: &[u8],
-    reason: Reason,
 ) -> bool
     requires { IsSound registry.now }
 {
-    refusal(registry, listener, expect, body) == Some(ReadError::Broken(reason))
+    for body in bodies {
+        if refusal(registry, listener, expect, body).is_some() {
+            return false;
+        }
+    }
+    true
 }
 
-/// Sees that a body is refused, and for the same reason a good one behind it.
-fn judge(rt: &impl Abort, registry: &Registry, listener: &mut Listener, expect: &Waiting, row: &Row)
+/// Whether a body is refused behind those that are read, and for the same reason a good one behind it.
+fn refuses(registry: &Registry, listener: &mut Listener, expect: &Waiting, row: &Row) -> bool
     requires { IsSound registry.now }
 {
     let (read, body, reason) = row;
-    are_read(rt, registry, listener, expect, read);
-    assert!(rt;
-        is_refused(registry, listener, expect, body, *reason),
-        "at {body:?}"
-    );
-    assert!(rt;
-        is_refused(registry, listener, expect, CALL, *reason),
-        "behind {body:?}"
-    );
+    let wanted = Some(ReadError::Broken(*reason));
+    are_read(registry, listener, expect, read)
+        && refusal(registry, listener, expect, body) == wanted
+        && refusal(registry, listener, expect, CALL) == wanted
 }
 
-/// The same of a new listener.
-fn judge_at_first(
-    rt: &impl Abort,
+/// Whether a new listener does so.
+fn is_refused(
     alloc: Global,
     registry: &Registry,
     expect: &Waiting,
     row: &Row,
-) -> Result<(), Fail>
+) -> Result<bool, NoMemory>
     requires { IsSound registry.now }
 {
     let mut listener = Listener::new(alloc)?;
-    judge(rt, registry, &mut listener, expect, row);
-    Ok(())
-}
-
-fn refuse_all(rt: &impl Abort, alloc: Global, registry: &Registry) -> Result<(), Fail>
-    requires { IsSound registry.now }
-{
-    let expect = Waiting::of(alloc, 4)?;
-    for row in ROWS {
-        judge_at_first(rt, alloc, registry, &expect, row)?;
-    }
-    Ok(())
+    let refuses = refuses(registry, &mut listener, expect, row);
+    drop(listener);
+    Ok(refuses)
 }
 
 #[test]
-fn the_first_reason_is_told_and_then_again(rt: HostRuntime) -> Result<(), Fail> {
-    let registry = sound_of(rt.alloc(), CALLED)?;
-    refuse_all(&rt, rt.alloc(), &registry)
+fn the_first_reason_is_told_and_then_again(rt: HostRuntime) -> Result<(), NoMemory> {
+    let expect = Waiting::of(rt.alloc(), 4)?;
+    let registry = sound(&rt, registry_of(rt.alloc(), CALLED));
+    for row in ROWS {
+        let (_, body, _) = row;
+        see_bytes(
+            &rt,
+            is_refused(rt.alloc(), &registry, &expect, row) == Ok(true),
+            body,
+        );
+    }
+    Ok(())
 }

@@ -1,13 +1,15 @@
 //! That a run answers where memory is ample, with the bytes of the protocol, and says how it ended.
-use crate::run_streams::{
-    Streams, are_joined, ended, given, input_of, joined, streams_of, streams_with,
-};
+use crate::judging::see_number;
+use crate::sources::source_of;
 use crate::talk::{ASK, CALL, DOUBLE, OBJECT};
 use std::alloc::Global;
 use std::process::Abort;
-use std::test::Fail;
-use uno_run::Status;
-use urp_message::Reason;
+use uno_base::NoMemory;
+use uno_io::{MemSink, MemSource, Source};
+use uno_run::Status::{Broken, Done, ReadFault, Words, WriteFault};
+use uno_run::{Status, run};
+use urp_message::Reason::NotBuilt;
+use urp_message::Tag;
 
 /// The call in a block that says two messages.
 const TWO: &[u8] =
@@ -51,205 +53,385 @@ const NUMBERS: &[&[u8]] = &[ASK, CALL_MINUS_1, CALL_GREATEST];
 
 const ANSWERS: &[&[u8]] = &[OBJECT, MINUS_2, TWICE_GREATEST];
 
-/// Sees what stands in the outputs and the errors.
-fn has_written(rt: &impl Abort, streams: &Streams, output: &[&[u8]], line: &str) {
-    assert!(rt; are_joined(streams.output.as_bytes(), output));
-    assert_eq!(rt; streams.errors.as_bytes(), line.as_bytes());
-}
+/// What stands in a query before the length byte of its TID, and behind the TID.
+const QUERY: &[u8] = b"\xF8\x00\x96\x00\x00\x1Bcom.sun.star.uno.XInterface\x04echo\x00\x00";
 
-/// Sees what a run with the word `answer` writes, how it ends, and what it says of that.
-fn ends(
-    rt: &impl Abort,
-    alloc: Global,
-    streams: &mut Streams,
-    output: &[&[u8]],
+const ECHO: &[u8] = b"\x00\x00\x96\x00\x01\x0Ademo.XEcho";
+
+/// Queries with TIDs of 254, 255 and no bytes; the first is answered.
+const ASK_254: &[&[u8]] = &[
+    b"\0\0\x01\x37\0\0\0\x01",
+    QUERY,
+    b"\xFE",
+    &[b'T'; 254],
+    ECHO,
+];
+
+const OBJECT_254: &[&[u8]] = &[
+    b"\0\0\x01\x16\0\0\0\x01\x88\xFE",
+    &[b'T'; 254],
+    b"\0\0\x96\0\0\x0Ademo.XEcho\x03S;1\0\0",
+];
+
+const ASK_255: &[&[u8]] = &[
+    b"\0\0\x01\x38\0\0\0\x01",
+    QUERY,
+    b"\xFF",
+    &[b'T'; 255],
+    ECHO,
+];
+
+const ASK_0: &[&[u8]] = &[b"\0\0\0\x39\0\0\0\x01", QUERY, b"\0", ECHO];
+
+/// The query without its last byte and with one more, and so the call.
+const SHORT_ASK: &[&[u8]] = &[
+    b"\0\0\0\x39\0\0\0\x01",
+    QUERY,
+    b"\x01T\0\0\x96\0\x01\x0Ademo.XEch",
+];
+
+const LONG_ASK: &[&[u8]] = &[b"\0\0\0\x3B\0\0\0\x01", QUERY, b"\x01T", ECHO, b"o"];
+
+const SHORT_CALL: &[u8] =
+    b"\x00\x00\x00\x0E\x00\x00\x00\x01\xF0\x03\x16\x00\x01\x03S;1\x00\x01\x00\x00\x00";
+
+const LONG_CALL: &[u8] =
+    b"\x00\x00\x00\x10\x00\x00\x00\x01\xF0\x03\x16\x00\x01\x03S;1\x00\x01\x00\x00\x00\x15\x00";
+
+/// A run of the end with the tag `S`: its words, what it reads, and what fails; what it writes, how it ends, and what it says of that.
+#[derive(Clone, Copy)]
+struct Row {
+    words: &'static [&'static str],
+    input: &'static [&'static [u8]],
+    /// The length up to which zeroes stand behind the input.
+    length: usize,
+    /// The sizes of the pieces that are read.
+    sizes: &'static [usize],
+    /// The reads, the writes of the output, and the writes of the line that fail.
+    failing: [&'static [u64]; 3],
+    output: &'static [&'static [u8]],
     status: Status,
-    line: &str,
-) -> Result<(), Fail> {
-    let ended = ended(alloc, &["answer"], streams)?;
-    assert!(rt; ended == status, "{line}");
-    has_written(rt, streams, output, line);
-    Ok(())
+    line: &'static str,
+    /// How many bytes a read of at most 100 gives behind the run.
+    left: usize,
 }
 
-/// What is read, in which sizes, and the reads and the writes that fail; what is written, how the run ends, and what it says of that.
-type Row = (
-    &'static [&'static [u8]],
-    &'static [usize],
-    &'static [u64],
-    &'static [u64],
-    &'static [&'static [u8]],
-    Status,
-    &'static str,
-);
+/// A run over no bytes, of which nothing fails.
+const EMPTY: Row = Row {
+    words: &["answer"],
+    input: &[],
+    length: 0,
+    sizes: &[],
+    failing: [&[], &[], &[]],
+    output: &[],
+    status: Done,
+    line: "",
+    left: 0,
+};
 
-const PIECES: &[Row] = &[
-    (TALK, &[], &[], &[], BOTH, Status::Done, ""),
-    (TALK, &[1], &[], &[], BOTH, Status::Done, ""),
-    (TALK, &[7], &[], &[], BOTH, Status::Done, ""),
-    (NUMBERS, &[], &[], &[], ANSWERS, Status::Done, ""),
-    (&[], &[], &[], &[], &[], Status::Done, ""),
+/// A run that breaks at the first byte.
+const BROKEN: Row = Row {
+    status: Broken(NotBuilt, 0),
+    line: "uno: broken NotBuilt at 0\n",
+    ..EMPTY
+};
+
+/// A run that breaks behind the query.
+const AT_66: Row = Row {
+    output: &[OBJECT],
+    status: Broken(NotBuilt, 66),
+    line: "uno: broken NotBuilt at 66\n",
+    ..EMPTY
+};
+
+/// A run that breaks behind the query and the call.
+const AT_89: Row = Row {
+    output: BOTH,
+    status: Broken(NotBuilt, 89),
+    line: "uno: broken NotBuilt at 89\n",
+    ..EMPTY
+};
+
+/// A run over what is too long.
+const TOO_LONG: Row = Row {
+    input: TALK,
+    status: Broken(NotBuilt, 65_536),
+    line: "uno: broken NotBuilt at 65536\n",
+    ..EMPTY
+};
+
+/// A run of which a read fails.
+const UNREAD: Row = Row {
+    input: TALK,
+    status: ReadFault,
+    line: "uno: read fault\n",
+    ..EMPTY
+};
+
+/// A run with other words, which lets the input alone.
+const OTHER_WORDS: Row = Row {
+    input: &[ASK],
+    status: Words,
+    line: "uno: words\n",
+    left: 66,
+    ..EMPTY
+};
+
+/// A query and calls are answered in any pieces.
+const ANSWERED: &[Row] = &[
+    Row {
+        input: TALK,
+        output: BOTH,
+        ..EMPTY
+    },
+    Row {
+        input: TALK,
+        sizes: &[1],
+        output: BOTH,
+        ..EMPTY
+    },
+    Row {
+        input: TALK,
+        sizes: &[7],
+        output: BOTH,
+        ..EMPTY
+    },
+    Row {
+        input: NUMBERS,
+        output: ANSWERS,
+        ..EMPTY
+    },
+    Row {
+        input: ASK_254,
+        output: OBJECT_254,
+        ..EMPTY
+    },
+    EMPTY,
 ];
 
-const AT_66: &str = "uno: broken NotBuilt at 66\n";
+/// What may not come first breaks at the first byte.
+const NOT_FIRST: &[&[&[u8]]] = &[&[CALL, ASK], ASK_255, ASK_0, SHORT_ASK, LONG_ASK];
 
-const AT_89: &str = "uno: broken NotBuilt at 89\n";
-
-/// Bytes, where they break, what is written, and what is said.
-type Break = (
-    &'static [&'static [u8]],
-    u64,
-    &'static [&'static [u8]],
-    &'static str,
-);
-
-const BREAKS: &[Break] = &[
-    (&[CALL, ASK], 0, &[], "uno: broken NotBuilt at 0\n"),
-    (&[ASK, ASK], 66, &[OBJECT], AT_66),
-    (&[ASK, TWO], 66, &[OBJECT], AT_66),
-    (&[ASK, FRONT], 66, &[OBJECT], AT_66),
-    (&[ASK, CALL_ABOVE], 66, &[OBJECT], AT_66),
-    (&[ASK, CALL_BELOW], 66, &[OBJECT], AT_66),
-    (&[ASK, CALL_OTHER], 66, &[OBJECT], AT_66),
-    (&[ASK, CALL, OTHER], 89, BOTH, AT_89),
+/// What may not come behind the query breaks there.
+const NOT_NEXT: &[&[&[u8]]] = &[
+    &[ASK, ASK],
+    &[ASK, TWO],
+    &[ASK, FRONT],
+    &[ASK, SHORT_CALL],
+    &[ASK, LONG_CALL],
+    &[ASK, CALL_ABOVE],
+    &[ASK, CALL_BELOW],
+    &[ASK, CALL_OTHER],
 ];
 
-const READ: &str = "uno: read fault\n";
-
-const FAULTS: &[Row] = &[
-    (TALK, &[], &[0], &[], &[], Status::ReadFault, READ),
-    (TALK, &[66, 23], &[2], &[], BOTH, Status::ReadFault, READ),
-    (
-        TALK,
-        &[66, 5],
-        &[2],
-        &[],
-        &[OBJECT],
-        Status::ReadFault,
-        READ,
-    ),
-    (
-        TALK,
-        &[],
-        &[],
-        &[1],
-        &[OBJECT],
-        Status::WriteFault,
-        "uno: write fault\n",
-    ),
+/// What may not come behind the call breaks there, and what is too long is not answered.
+const NOT_LAST: &[Row] = &[
+    Row {
+        input: &[ASK, CALL, OTHER],
+        ..AT_89
+    },
+    Row {
+        input: TALK,
+        length: 65_536,
+        ..AT_89
+    },
+    Row {
+        length: 65_537,
+        ..TOO_LONG
+    },
+    Row {
+        length: 70_000,
+        left: 100,
+        ..TOO_LONG
+    },
 ];
 
-/// Sees that a run breaks at a place, what it writes before, and what it says of that.
-fn breaks(
-    rt: &impl Abort,
+/// A fault ends the run and keeps what was answered; an error that cannot be told changes no status; and other words do nothing.
+const HINDERED: &[Row] = &[
+    Row {
+        failing: [&[0], &[], &[]],
+        left: 89,
+        ..UNREAD
+    },
+    Row {
+        sizes: &[66, 23],
+        failing: [&[2], &[], &[]],
+        output: BOTH,
+        ..UNREAD
+    },
+    Row {
+        sizes: &[66, 5],
+        failing: [&[2], &[], &[]],
+        output: &[OBJECT],
+        left: 18,
+        ..UNREAD
+    },
+    Row {
+        input: TALK,
+        failing: [&[], &[1], &[]],
+        output: &[OBJECT],
+        status: WriteFault,
+        line: "uno: write fault\n",
+        ..EMPTY
+    },
+    Row {
+        input: &[ASK, OTHER],
+        failing: [&[], &[], &[0]],
+        line: "",
+        ..AT_66
+    },
+    Row {
+        words: &[],
+        ..OTHER_WORDS
+    },
+    Row {
+        words: &["answer", "x"],
+        ..OTHER_WORDS
+    },
+    Row {
+        words: &["Answer"],
+        ..OTHER_WORDS
+    },
+];
+
+/// The pieces, one behind the other, and zeroes up to a length.
+fn joined(alloc: Global, pieces: &[&[u8]], length: usize) -> Result<Vec<u8>, NoMemory> {
+    let mut all = Vec::new(alloc);
+    for piece in pieces {
+        all.extend_from_slice(piece)?;
+    }
+    if all.len() < length {
+        all.resize(length, 0)?;
+    }
+    Ok(all)
+}
+
+/// Whether the bytes are these pieces, one behind the other.
+fn are_joined(bytes: &[u8], pieces: &[&[u8]]) -> bool {
+    let mut rest = bytes;
+    for piece in pieces {
+        match rest.strip_prefix(*piece) {
+            Some(behind) => rest = behind,
+            None => return false,
+        }
+    }
+    rest.is_empty()
+}
+
+fn input_of(alloc: Global, row: &Row) -> Result<MemSource, NoMemory> {
+    let [failing, _, _] = row.failing;
+    let bytes = joined(alloc, row.input, row.length)?;
+    source_of(alloc, bytes, row.sizes, failing)
+}
+
+/// A sink of which the writes with these numbers fail.
+fn sink_of(alloc: Global, failing: &[u64]) -> Result<MemSink, NoMemory> {
+    Ok(MemSink::new(alloc, Vec::from_slice(alloc, failing)?))
+}
+
+fn owned(alloc: Global, words: &[&str]) -> Result<Vec<String>, NoMemory> {
+    let mut all = Vec::new(alloc);
+    for word in words {
+        all.push(String::from_str(alloc, word)?)?;
+    }
+    Ok(all)
+}
+
+/// How a run with these words ends.
+fn ended(
     alloc: Global,
-    streams: &mut Streams,
-    place: u64,
-    output: &[&[u8]],
-    line: &str,
-) -> Result<(), Fail> {
-    let status = Status::Broken(Reason::NotBuilt, place);
-    ends(rt, alloc, streams, output, status, line)
+    words: &[&str],
+    input: &mut MemSource,
+    output: &mut MemSink,
+    errors: &mut MemSink,
+) -> Result<Status, NoMemory> {
+    let Ok(tag) = Tag::read(alloc, "S") else {
+        return Err(NoMemory);
+    };
+    let words = owned(alloc, words)?;
+    Ok(run(&(), alloc, &words, &tag, input, output, errors))
 }
 
-fn judge(rt: &impl Abort, alloc: Global, row: &Row) -> Result<(), Fail> {
-    let (bytes, sizes, reads, writes, output, status, line) = row;
-    let input = input_of(rt, alloc, bytes, sizes, reads)?;
-    let mut streams = streams_with(alloc, input, writes, &[])?;
-    ends(rt, alloc, &mut streams, output, *status, line)
+/// Whether the run of a row ends as it says, and tells that.
+fn ends(
+    alloc: Global,
+    row: &Row,
+    input: &mut MemSource,
+    output: &mut MemSink,
+) -> Result<bool, NoMemory> {
+    let [_, _, failing] = row.failing;
+    let mut errors = sink_of(alloc, failing)?;
+    let status = ended(alloc, row.words, input, output, &mut errors);
+    Ok(status == Ok(row.status) && errors.as_bytes() == row.line.as_bytes())
 }
 
-#[test]
-fn a_query_and_a_call_are_answered_in_any_pieces(rt: HostRuntime) -> Result<(), Fail> {
-    for row in PIECES {
-        judge(&rt, rt.alloc(), row)?;
+/// Whether it also writes what the row says.
+fn answers(alloc: Global, row: &Row, input: &mut MemSource) -> Result<bool, NoMemory> {
+    let [_, failing, _] = row.failing;
+    let mut output = sink_of(alloc, failing)?;
+    let ends = ends(alloc, row, input, &mut output);
+    Ok(ends == Ok(true) && are_joined(output.as_bytes(), row.output))
+}
+
+/// Whether it also leaves what the row says.
+fn is_right(alloc: Global, row: &Row) -> Result<bool, NoMemory> {
+    let mut input = input_of(alloc, row)?;
+    let answers = answers(alloc, row, &mut input);
+    let mut piece = [0u8; 100];
+    Ok(answers == Ok(true) && input.read(&mut piece) == Ok(row.left))
+}
+
+fn judge_all(rt: &impl Abort, alloc: Global, rows: &[Row]) {
+    for (number, row) in rows.iter().enumerate() {
+        see_number(rt, is_right(alloc, row) == Ok(true), number);
     }
-    Ok(())
-}
-
-fn judge_break(rt: &impl Abort, alloc: Global, row: &Break) -> Result<(), Fail> {
-    let (bytes, place, output, line) = row;
-    let mut streams = streams_of(rt, alloc, bytes)?;
-    breaks(rt, alloc, &mut streams, *place, output, line)
 }
 
 #[test]
-fn what_may_not_come_next_breaks_at_its_place(rt: HostRuntime) -> Result<(), Fail> {
-    for row in BREAKS {
-        judge_break(&rt, rt.alloc(), row)?;
+fn queries_and_calls_are_answered_in_any_pieces(rt: HostRuntime) {
+    judge_all(&rt, rt.alloc(), ANSWERED);
+}
+
+/// Sees that runs over these inputs end alike.
+fn judge_alike(rt: &impl Abort, alloc: Global, row: &Row, inputs: &[&'static [&'static [u8]]]) {
+    for (number, input) in inputs.iter().enumerate() {
+        let row = Row { input, ..*row };
+        see_number(rt, is_right(alloc, &row) == Ok(true), number);
     }
-    Ok(())
 }
 
 #[test]
-fn a_fault_ends_the_run_and_keeps_what_was_answered(rt: HostRuntime) -> Result<(), Fail> {
-    for row in FAULTS {
-        judge(&rt, rt.alloc(), row)?;
-    }
-    Ok(())
-}
-
-/// Sees that other words are told, and that the input and the output were let alone.
-fn is_no_form(rt: &impl Abort, alloc: Global, words: &[&str]) -> Result<(), Fail> {
-    let mut streams = streams_of(rt, alloc, &[ASK])?;
-    let ended = ended(alloc, words, &mut streams)?;
-    assert!(rt; ended == Status::Words);
-    has_written(rt, &streams, &[], "uno: words\n");
-    assert!(rt; given(&mut streams.input) == Ok(66));
-    Ok(())
+fn what_may_not_come_first_breaks_at_the_first_byte(rt: HostRuntime) {
+    judge_alike(&rt, rt.alloc(), &BROKEN, NOT_FIRST);
 }
 
 #[test]
-fn other_words_do_nothing(rt: HostRuntime) -> Result<(), Fail> {
-    for words in [[].as_slice(), &["answer", "x"], &["Answer"]] {
-        is_no_form(&rt, rt.alloc(), words)?;
-    }
-    Ok(())
+fn what_may_not_come_next_breaks_at_its_place(rt: HostRuntime) {
+    judge_alike(&rt, rt.alloc(), &AT_66, NOT_NEXT);
 }
 
 #[test]
-fn errors_that_fail_change_no_status(rt: HostRuntime) -> Result<(), Fail> {
-    let input = input_of(&rt, rt.alloc(), &[ASK, OTHER], &[], &[])?;
-    let mut streams = streams_with(rt.alloc(), input, &[], &[0])?;
-    breaks(&rt, rt.alloc(), &mut streams, 66, &[OBJECT], "")
+fn what_may_not_come_last_breaks_or_is_not_answered(rt: HostRuntime) {
+    judge_all(&rt, rt.alloc(), NOT_LAST);
 }
 
-/// A length, the place where the query, the call, and zeroes up to this length break, what is written, and what is said.
-type Long = (usize, u64, &'static [&'static [u8]], &'static str);
+#[test]
+fn faults_keep_what_was_answered_and_other_words_do_nothing(rt: HostRuntime) {
+    judge_all(&rt, rt.alloc(), HINDERED);
+}
 
-const LONG: &[Long] = &[
-    (65_536, 89, BOTH, AT_89),
-    (65_537, 65_536, &[], "uno: broken NotBuilt at 65536\n"),
-    (70_000, 65_536, &[], "uno: broken NotBuilt at 65536\n"),
+const CODES: &[(Status, u8)] = &[
+    (Done, 0),
+    (Words, 1),
+    (ReadFault, 4),
+    (WriteFault, 5),
+    (Broken(NotBuilt, 0), 6),
+    (Status::NoMemory, 70),
 ];
-
-/// Streams with the query, the call, and zeroes up to a length.
-fn filled(rt: &impl Abort, alloc: Global, length: usize) -> Result<Streams, Fail> {
-    let mut bytes = joined(alloc, TALK)?;
-    bytes.resize(length, 0)?;
-    streams_of(rt, alloc, &[bytes.as_slice()])
-}
-
-fn judge_long(rt: &impl Abort, alloc: Global, row: &Long) -> Result<(), Fail> {
-    let (length, place, output, line) = row;
-    let mut streams = filled(rt, alloc, *length)?;
-    breaks(rt, alloc, &mut streams, *place, output, line)
-}
-
-#[test]
-fn what_is_too_long_is_not_answered(rt: HostRuntime) -> Result<(), Fail> {
-    for row in LONG {
-        judge_long(&rt, rt.alloc(), row)?;
-    }
-    Ok(())
-}
 
 #[test]
 fn statuses_have_their_codes(rt: HostRuntime) {
-    assert_eq!(rt; Status::Done.code(), 0);
-    assert_eq!(rt; Status::Words.code(), 1);
-    assert_eq!(rt; Status::ReadFault.code(), 4);
-    assert_eq!(rt; Status::WriteFault.code(), 5);
-    assert_eq!(rt; Status::Broken(Reason::NotBuilt, 0).code(), 6);
-    assert_eq!(rt; Status::NoMemory.code(), 70);
+    for (number, (status, code)) in CODES.iter().enumerate() {
+        see_number(&rt, status.code() == *code, number);
+    }
 }

@@ -1,14 +1,14 @@
 //! Messages that are written, each as a block.
 ghost use Rattle.uno_model.specs.Sound.{IsSound};
 
-use crate::entities::sound_of;
 use crate::entities::texts::CALLED;
+use crate::entities::{registry_of, sound};
+use crate::judging::see_bytes;
 use crate::types::type_of;
 use crate::values::value_of;
 use crate::waiting::NODE;
 use std::alloc::Global;
 use std::process::Abort;
-use std::test::Fail;
 use uno_base::NoMemory;
 use uno_types::{Name, Registry, Text, Tid};
 use uno_values::{AnyValue, Value};
@@ -96,30 +96,16 @@ fn message(alloc: Global, said: &Said) -> Result<Message, NoMemory> {
     match said {
         Said::Calls(face, function, words) => call(alloc, face, *function, words),
         Said::Releases => release(alloc),
-        Said::Returns(words) => reply(alloc, 3, returned(alloc, words)?),
-        Said::Raises(kind, words) => reply(alloc, 4, raised(alloc, kind, words)?),
+        Said::Returns(words) => reply(alloc, 3, None, words),
+        Said::Raises(kind, words) => reply(alloc, 4, Some(kind), words),
     }
 }
 
 fn call(alloc: Global, face: &str, function: u16, words: &str) -> Result<Message, NoMemory> {
-    let face = Name::of(alloc, face)?;
-    request(alloc, face, function, args_of(alloc, words)?)
-}
-
-fn args_of(alloc: Global, words: &str) -> Result<Vec<Value>, NoMemory> {
-    let mut args = Vec::new(alloc);
-    args.push(value_of(alloc, words)?)?;
-    Ok(args)
-}
-
-fn request(
-    alloc: Global,
-    face: Name,
-    function: u16,
-    args: Vec<Value>,
-) -> Result<Message, NoMemory> {
     let tid = Tid::of(alloc, b"T")?;
     let oid = Text::of(alloc, "S;1")?;
+    let face = Name::of(alloc, face)?;
+    let args = args_of(alloc, words)?;
     Ok(Message::Request {
         tid,
         oid,
@@ -129,6 +115,12 @@ fn request(
     })
 }
 
+fn args_of(alloc: Global, words: &str) -> Result<Vec<Value>, NoMemory> {
+    let mut args = Vec::new(alloc);
+    args.push(value_of(alloc, words)?)?;
+    Ok(args)
+}
+
 fn release(alloc: Global) -> Result<Message, NoMemory> {
     let tid = Tid::of(alloc, b"U")?;
     let oid = Text::of(alloc, "S;1")?;
@@ -136,21 +128,15 @@ fn release(alloc: Global) -> Result<Message, NoMemory> {
     Ok(Message::Release { tid, oid, face })
 }
 
-fn returned(alloc: Global, words: &str) -> Result<Answer, NoMemory> {
-    let value = value_of(alloc, words)?;
-    let outs = Vec::new(alloc);
-    Ok(Answer::Returned { value, outs })
-}
-
-fn raised(alloc: Global, kind: &str, words: &str) -> Result<Answer, NoMemory> {
-    let kind = type_of(alloc, kind)?;
-    let value = value_of(alloc, words)?;
-    Ok(Answer::Raised(AnyValue { kind, value }))
-}
-
-fn reply(alloc: Global, function: u16, answer: Answer) -> Result<Message, NoMemory> {
+fn reply(
+    alloc: Global,
+    function: u16,
+    raised: Option<&str>,
+    words: &str,
+) -> Result<Message, NoMemory> {
     let tid = Tid::of(alloc, b"T")?;
     let face = Name::of(alloc, NODE)?;
+    let answer = answer_of(alloc, raised, words)?;
     Ok(Message::Reply {
         tid,
         face,
@@ -159,59 +145,91 @@ fn reply(alloc: Global, function: u16, answer: Answer) -> Result<Message, NoMemo
     })
 }
 
+/// An exception of the type that is raised, or a value that is returned.
+fn answer_of(alloc: Global, raised: Option<&str>, words: &str) -> Result<Answer, NoMemory> {
+    match raised {
+        Some(kind) => thrown(alloc, kind, words),
+        None => returned(alloc, words),
+    }
+}
+
+fn returned(alloc: Global, words: &str) -> Result<Answer, NoMemory> {
+    let value = value_of(alloc, words)?;
+    let outs = Vec::new(alloc);
+    Ok(Answer::Returned { value, outs })
+}
+
+fn thrown(alloc: Global, kind: &str, words: &str) -> Result<Answer, NoMemory> {
+    let kind = type_of(alloc, kind)?;
+    let value = value_of(alloc, words)?;
+    Ok(Answer::Raised(AnyValue { kind, value }))
+}
+
 /// The most that a message may weigh.
 const MOST: u64 = 16_777_216;
 
-/// The block of a message.
-fn written(
-    rt: &impl Abort,
+/// Whether a message is written as this block.
+fn is_written(
     alloc: Global,
     registry: &Registry,
     speaker: &mut Speaker,
     message: &Message,
-) -> Result<Vec<u8>, Fail>
+    block: &[u8],
+) -> Result<bool, NoMemory>
     requires { IsSound registry.now }
 {
-    let may = may_be_said(alloc, registry, message)?;
-    assert!(rt; may);
-    assert!(rt; weight_of(registry, message) <= MOST);
-    Ok(speaker.write(registry, message)?)
+    if !may_be_said(alloc, registry, message)? {
+        return Ok(false);
+    }
+    if weight_of(registry, message) > MOST {
+        return Ok(false);
+    }
+    let written = speaker.write(registry, message)?;
+    Ok(written.as_slice() == block)
 }
 
-/// Sees that a message is written as a block.
+/// Whether the message of a row is written as its block.
 fn says(
-    rt: &impl Abort,
     alloc: Global,
     registry: &Registry,
     speaker: &mut Speaker,
     row: &Row,
-) -> Result<(), Fail>
+) -> Result<bool, NoMemory>
     requires { IsSound registry.now }
 {
     let (said, block) = row;
     let message = message(alloc, said)?;
-    let written = written(rt, alloc, registry, speaker, &message);
+    let written = is_written(alloc, registry, speaker, &message, block);
     drop(message);
-    assert_eq!(rt; written?.as_slice(), *block);
-    Ok(())
+    written
 }
 
-/// Sees what one speaker says.
-fn talks(rt: &impl Abort, alloc: Global, registry: &Registry, rows: &[Row]) -> Result<(), Fail>
+/// Sees what a speaker says.
+fn judge(rt: &impl Abort, alloc: Global, registry: &Registry, speaker: &mut Speaker, rows: &[Row])
     requires { IsSound registry.now }
 {
-    let mut speaker = Speaker::new(alloc)?;
     for row in rows {
-        says(rt, alloc, registry, &mut speaker, row)?;
+        let (_, block) = row;
+        see_bytes(rt, says(alloc, registry, speaker, row) == Ok(true), block);
+    }
+}
+
+/// Sees what speakers say, each from the start.
+fn judge_all(rt: &impl Abort, alloc: Global, registry: &Registry) -> Result<(), NoMemory>
+    requires { IsSound registry.now }
+{
+    for rows in TALKS {
+        let mut speaker = Speaker::new(alloc)?;
+        judge(rt, alloc, registry, &mut speaker, rows);
+        drop(speaker);
     }
     Ok(())
 }
 
 #[test]
-fn blocks_are_written(rt: HostRuntime) -> Result<(), Fail> {
-    let registry = sound_of(rt.alloc(), CALLED)?;
-    for rows in TALKS {
-        talks(&rt, rt.alloc(), &registry, rows)?;
-    }
-    Ok(())
+fn blocks_are_written(rt: HostRuntime) {
+    let registry = sound(&rt, registry_of(rt.alloc(), CALLED));
+    let judged = judge_all(&rt, rt.alloc(), &registry);
+    drop(registry);
+    assert!(rt; judged.is_ok());
 }

@@ -3,15 +3,12 @@ ghost use Rattle.uno_model.specs.Sound.{IsSound};
 
 use crate::entities::many::Lines;
 use crate::entities::texts::{CHAIN_DOWN, CHAIN_UP, LADDER};
-use crate::entities::with_known;
-use crate::types::type_of;
+use crate::entities::{sound, with_known};
+use crate::types::{cut, type_of};
 use std::alloc::Global;
 use std::process::Abort;
 use uno_base::NoMemory;
-use uno_types::Registry;
-
-/// Types that are asked, types that are given, and whether each of these may stand for each of those; if not, then only for itself.
-type Row = (&'static str, &'static str, bool);
+use uno_types::{Registry, TypeName};
 
 const BASES: &str = "
 interface t.XTop +?t.XMay +t.XMust;
@@ -28,110 +25,37 @@ struct t.Up +t.Mid;
 struct t.Apart In:struct/t.Low;
 exception t.Run +com.sun.star.uno.RuntimeException";
 
-const ROWS: &[Row] = &[
-    (
-        "interface/t.XTop interface/t.XMust interface/t.XLeft interface/t.XRight interface/t.XDeep interface/com.sun.star.uno.XInterface",
-        "interface/t.XTop",
-        true,
-    ),
-    (
-        "interface/t.XMay interface/t.XFar interface/t.XApart",
-        "interface/t.XTop",
-        false,
-    ),
-    ("interface/t.XFar", "interface/t.XMay", true),
-    (
-        "interface/t.XTop",
-        "interface/t.XMust interface/t.XMay interface/com.sun.star.uno.XInterface",
-        false,
-    ),
-    (
-        "interface/t.XLeft interface/t.XRight",
-        "interface/t.XLeft interface/t.XRight",
-        false,
-    ),
-    (
-        "interface/com.sun.star.uno.XInterface",
-        "interface/com.sun.star.uno.XInterface",
-        true,
-    ),
-    ("interface/t.XNone", "interface/t.XNone", true),
-    ("interface/t.XNone", "interface/t.XTop", false),
-    (
-        "interface/com.sun.star.uno.XInterface",
-        "interface/t.XNone",
-        false,
-    ),
-    ("struct/t.Low struct/t.Mid struct/t.Up", "struct/t.Up", true),
-    ("struct/t.Up", "struct/t.Low", false),
-    ("struct/t.Low", "struct/t.Apart", false),
-    (
-        "exception/com.sun.star.uno.Exception exception/com.sun.star.uno.RuntimeException exception/t.Run",
-        "exception/t.Run",
-        true,
-    ),
-    (
-        "exception/t.Run",
-        "exception/com.sun.star.uno.Exception",
-        false,
-    ),
-    (
-        "exception/com.sun.star.lang.DisposedException",
-        "exception/t.Run",
-        false,
-    ),
-    (FORMS, FORMS, false),
-];
+/// In each line, types that are asked, and types that are given: each of these may stand for each of those, or for itself alone.
+const ROWS: &str =
+    "all: interface/t.XTop interface/t.XMust interface/t.XLeft interface/t.XRight interface/t.XDeep interface/com.sun.star.uno.XInterface | interface/t.XTop
+none: interface/t.XMay interface/t.XFar interface/t.XApart | interface/t.XTop
+all: interface/t.XFar | interface/t.XMay
+none: interface/t.XTop | interface/t.XMust interface/t.XMay interface/com.sun.star.uno.XInterface
+none: interface/t.XLeft interface/t.XRight | interface/t.XLeft interface/t.XRight
+all: interface/com.sun.star.uno.XInterface | interface/com.sun.star.uno.XInterface
+all: interface/t.XNone | interface/t.XNone
+none: interface/t.XNone | interface/t.XTop
+none: interface/com.sun.star.uno.XInterface | interface/t.XNone
+all: struct/t.Low struct/t.Mid struct/t.Up | struct/t.Up
+none: struct/t.Up | struct/t.Low
+none: struct/t.Low | struct/t.Apart
+all: exception/com.sun.star.uno.Exception exception/com.sun.star.uno.RuntimeException exception/t.Run | exception/t.Run
+none: exception/t.Run | exception/com.sun.star.uno.Exception
+none: exception/com.sun.star.lang.DisposedException | exception/t.Run
+none: void char boolean byte short unsigned_short long unsigned_long hyper unsigned_hyper string type any enum/t.Colour struct/t.Apart exception/t.Run interface/t.XTop interface/t.XApart []long []any []interface/t.XTop []interface/t.XMust [][]long | void char boolean byte short unsigned_short long unsigned_long hyper unsigned_hyper string type any enum/t.Colour struct/t.Apart exception/t.Run interface/t.XTop interface/t.XApart []long []any []interface/t.XTop []interface/t.XMust [][]long";
 
-/// None of them may stand for another.
-const FORMS: &str =
-    "void char boolean byte short unsigned_short long unsigned_long hyper unsigned_hyper string type any enum/t.Colour struct/t.Apart exception/t.Run interface/t.XTop interface/t.XApart []long []any []interface/t.XTop []interface/t.XMust [][]long";
+const UP: &str = "all: interface/com.sun.star.uno.XInterface | interface/t.X19999
+none: interface/t.X19999 | interface/com.sun.star.uno.XInterface";
 
-const UP: &[Row] = &[
-    (
-        "interface/com.sun.star.uno.XInterface",
-        "interface/t.X19999",
-        true,
-    ),
-    (
-        "interface/t.X19999",
-        "interface/com.sun.star.uno.XInterface",
-        false,
-    ),
-];
+const DOWN: &str = "all: interface/com.sun.star.uno.XInterface | interface/t.X00000
+none: interface/t.X00000 | interface/com.sun.star.uno.XInterface";
 
-const DOWN: &[Row] = &[
-    (
-        "interface/com.sun.star.uno.XInterface",
-        "interface/t.X00000",
-        true,
-    ),
-    (
-        "interface/t.X00000",
-        "interface/com.sun.star.uno.XInterface",
-        false,
-    ),
-];
+const RUNGS: &str =
+    "all: interface/t.L00000 interface/t.R00000 | interface/t.L00059 interface/t.R00059
+none: interface/t.L00059 interface/t.R00059 | interface/t.L00000 interface/t.R00000
+none: interface/t.L00059 interface/t.R00059 | interface/t.L00059 interface/t.R00059";
 
-const RUNGS: &[Row] = &[
-    (
-        "interface/t.L00000 interface/t.R00000",
-        "interface/t.L00059 interface/t.R00059",
-        true,
-    ),
-    (
-        "interface/t.L00059 interface/t.R00059",
-        "interface/t.L00000 interface/t.R00000",
-        false,
-    ),
-    (
-        "interface/t.L00059 interface/t.R00059",
-        "interface/t.L00059 interface/t.R00059",
-        false,
-    ),
-];
-
-const TABLES: &[(Lines, &[Row])] = &[
+const TABLES: &[(Lines, &str)] = &[
     ((BASES, "", 0), ROWS),
     (CHAIN_UP, UP),
     (CHAIN_DOWN, DOWN),
@@ -147,49 +71,62 @@ pub(crate) fn may_stand(
     requires { IsSound registry.now }
 {
     let to = type_of(alloc, to)?;
-    let from = type_of(alloc, from)?;
-    Ok(registry.assignable(&to, &from))
+    let may = takes(alloc, registry, &to, from);
+    drop(to);
+    may
 }
 
-/// What a row with this answer says of two of its types.
-fn wanted(all: bool, to: &str, from: &str) -> bool {
-    all || to == from
-}
-
-/// Sees that one type may stand for another, or may not.
-fn answers(rt: &impl Abort, given: Result<bool, NoMemory>, wanted: bool, to: &str, from: &str) {
-    assert!(rt; given == Ok(wanted), "at {to} from {from}");
-}
-
-fn judge_row(rt: &impl Abort, alloc: Global, registry: &Registry, row: Row)
+fn takes(alloc: Global, registry: &Registry, to: &TypeName, from: &str) -> Result<bool, NoMemory>
     requires { IsSound registry.now }
 {
-    let (all_to, all_from, all) = row;
-    for to in all_to.split(' ') {
-        for from in all_from.split(' ') {
-            let given = may_stand(alloc, registry, to, from);
-            answers(rt, given, wanted(all, to, from), to, from);
-        }
+    let from = type_of(alloc, from)?;
+    let may = registry.assignable(to, &from);
+    drop(from);
+    Ok(may)
+}
+
+/// Sees that each of the types may stand for one, or only that one itself.
+fn judge_types(
+    rt: &impl Abort,
+    alloc: Global,
+    registry: &Registry,
+    to: &str,
+    all_from: &str,
+    all: bool,
+)
+    requires { IsSound registry.now }
+{
+    for from in all_from.split(' ') {
+        let wanted = all || to == from;
+        answers(
+            rt,
+            may_stand(alloc, registry, to, from) == Ok(wanted),
+            to,
+            from,
+        );
     }
 }
 
-/// Sees that the registry is sound, and that each row is as it says.
-fn judge(rt: &impl Abort, alloc: Global, registry: &Registry, rows: &[Row]) {
-    match registry.is_sound() {
-        Ok(true) => {
-            for row in rows {
-                judge_row(rt, alloc, registry, *row);
-            }
-        }
-        _ => panic!(rt; "not sound"),
+fn answers(rt: &impl Abort, right: bool, to: &str, from: &str) {
+    assert!(rt; right, "at {to} from {from}");
+}
+
+fn judge_row(rt: &impl Abort, alloc: Global, registry: &Registry, row: &str)
+    requires { IsSound registry.now }
+{
+    let (all, types) = cut(row, ':');
+    let (all_to, all_from) = cut(types, '|');
+    for to in all_to.trim().split(' ') {
+        judge_types(rt, alloc, registry, to, all_from.trim(), all == "all");
     }
 }
 
 #[test]
-fn types_stand_for_their_bases_and_no_others(rt: HostRuntime) -> Result<(), NoMemory> {
+fn types_stand_for_their_bases_and_no_others(rt: HostRuntime) {
     for (lines, rows) in TABLES {
-        let registry = with_known(rt.alloc(), *lines)?;
-        judge(&rt, rt.alloc(), &registry, rows);
+        let registry = sound(&rt, with_known(rt.alloc(), *lines));
+        for row in rows.lines() {
+            judge_row(&rt, rt.alloc(), &registry, row);
+        }
     }
-    Ok(())
 }

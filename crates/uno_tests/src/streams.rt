@@ -1,109 +1,155 @@
 //! That the streams do what they promise where memory is ample, over the readers and writers of std too.
-ghost use Rattle.std.specs.Prelude.{◌<◌, All, length};
-
+use crate::judging::{see, see_bytes, see_number};
+use crate::sources::source_of;
 use std::alloc::Global;
-use std::process::Abort;
-use std::test::Fail;
-use uno_io::{Failed, MemSink, MemSource, Sink, Source, StdSink, StdSource, write_all};
+use uno_base::NoMemory;
+use uno_io::{Failed, MemSink, Sink, Source, StdSink, StdSource, write_all};
 
 const TEXT: &[u8] = b"what is sent in pieces";
 
-/// A source of the text.
-fn text_in(alloc: Global, sizes: &[usize], failing: &[u64]) -> Result<MemSource, Fail>
-    requires { All (λ n. 0 < n) sizes.now }
-{
-    let bytes = Vec::from_slice(alloc, TEXT)?;
-    let sizes = Vec::from_slice(alloc, sizes)?;
-    Ok(MemSource::new(bytes, sizes, Vec::from_slice(alloc, failing)?))
-}
+/// Sizes, the reads that fail, and what ten reads of at most 8 bytes give: a `!` is a failure.
+type Row = (&'static [usize], &'static [u64], &'static [&'static [u8]]);
 
-/// What ten reads of at most 8 bytes gave: a `|` ends each piece, a `!` is a failure, a `.` is the end.
-fn ten_reads<S: Source + Drop>(alloc: Global, mut source: S) -> Result<Vec<u8>, Fail> {
-    let mut all = Vec::new(alloc);
-    for _ in 0..10 {
+const ROWS: &[Row] = &[
+    (
+        &[1, 7],
+        &[],
+        &[
+            b"w", b"hat is ", b"s", b"ent in ", b"p", b"ieces", b"", b"", b"", b"",
+        ],
+    ),
+    (
+        &[1, 7],
+        &[1, 3],
+        &[
+            b"w", b"!", b"hat is ", b"!", b"s", b"ent in ", b"p", b"ieces", b"", b"",
+        ],
+    ),
+    (&[], &[], WHOLE),
+];
+
+/// What ten reads give where no sizes are set and nothing fails.
+const WHOLE: &[&[u8]] = &[
+    b"what is ",
+    b"sent in ",
+    b"pieces",
+    b"",
+    b"",
+    b"",
+    b"",
+    b"",
+    b"",
+    b"",
+];
+
+/// Whether reads of at most 8 bytes give these pieces.
+fn gives<S: Source>(source: &mut S, pieces: &[&[u8]]) -> bool {
+    for wanted in pieces {
         let mut piece = [0u8; 8];
-        match source.read(&mut piece) {
-            Ok(0) => all.push(b'.')?,
-            Ok(n) => {
-                all.extend_from_slice(&piece[..n])?;
-                all.push(b'|')?;
-            }
-            Err(Failed) => all.push(b'!')?,
+        let right = match source.read(&mut piece) {
+            Ok(n) => &piece[..n] == *wanted,
+            Err(Failed) => *wanted == b"!".as_slice(),
+        };
+        if !right {
+            return false;
         }
     }
-    Ok(all)
+    true
 }
 
-/// Sees that ten reads of a source give these pieces.
-fn gives<S: Source + Drop>(
-    rt: &impl Abort,
-    alloc: Global,
-    source: S,
-    wanted: &[u8],
-) -> Result<(), Fail> {
-    let given = ten_reads(alloc, source)?;
-    assert_eq!(rt; given.as_slice(), wanted);
-    Ok(())
+/// Whether a source of the text gives the pieces of a row.
+fn is_right(alloc: Global, row: &Row) -> Result<bool, NoMemory> {
+    let (sizes, failing, pieces) = row;
+    let text = Vec::from_slice(alloc, TEXT)?;
+    let mut source = source_of(alloc, text, sizes, failing)?;
+    Ok(gives(&mut source, pieces))
 }
 
 #[test]
-fn sources_give_all_in_order(rt: HostRuntime) -> Result<(), Fail> {
-    let alloc = rt.alloc();
-    let any = b"w|hat is |s|ent in |p|ieces|....";
-    let failing = b"w|!hat is |!s|ent in |p|ieces|..";
-    let whole = b"what is |sent in |pieces|.......";
-    gives(&rt, alloc, text_in(alloc, &[1, 7], &[])?, any)?;
-    gives(&rt, alloc, text_in(alloc, &[1, 7], &[1, 3])?, failing)?;
-    gives(&rt, alloc, text_in(alloc, &[], &[])?, whole)?;
-    gives(&rt, alloc, StdSource::new(TEXT), whole)
+fn sources_give_all_in_order(rt: HostRuntime) {
+    for (number, row) in ROWS.iter().enumerate() {
+        see_number(&rt, is_right(rt.alloc(), row) == Ok(true), number);
+    }
+    see(&rt, gives(&mut StdSource::new(TEXT), WHOLE), "a reader");
 }
 
-/// Sees what a write of a piece answers.
-fn answers(rt: &impl Abort, sink: &mut MemSink, piece: &[u8], wanted: Result<usize, Failed>)
-    requires { 0 < length piece.now }
-{
-    assert!(rt; sink.write(piece) == wanted);
+/// A piece, and what a write of it answers.
+type Write = (&'static [u8], Result<usize, Failed>);
+
+const OPEN: &[Write] = &[
+    (b"first ", Ok(6)),
+    (b"second ", Err(Failed)),
+    (b"third", Ok(5)),
+];
+
+const CLOSED: &[Write] = &[(b"fourth", Err(Failed))];
+
+/// Whether a sink answers these writes so.
+fn answers(sink: &mut MemSink, writes: &[Write]) -> bool {
+    for (piece, wanted) in writes {
+        if piece.is_empty() {
+            return false;
+        }
+        if sink.write(piece) != *wanted {
+            return false;
+        }
+    }
+    true
 }
 
-#[test]
-fn sinks_take_until_they_fail_or_are_closed(rt: HostRuntime) -> Result<(), Fail> {
-    let failing = Vec::from_slice(rt.alloc(), &[1])?;
-    let mut sink = MemSink::with_room(rt.alloc(), 64, failing)?;
-    answers(&rt, &mut sink, b"first ", Ok(6));
-    answers(&rt, &mut sink, b"second ", Err(Failed));
-    answers(&rt, &mut sink, b"third", Ok(5));
+/// Whether a sink of which the second write fails takes pieces until it is closed, and holds them.
+fn takes_until_closed(sink: &mut MemSink) -> bool {
+    let open = answers(sink, OPEN);
     sink.close();
-    answers(&rt, &mut sink, b"fourth", Err(Failed));
-    assert_eq!(rt; sink.as_bytes(), b"first third".as_slice());
-    Ok(())
+    open && answers(sink, CLOSED) && sink.as_bytes() == b"first third".as_slice()
 }
 
-#[test]
-fn full_writer_takes_what_it_has_room_for(rt: HostRuntime) {
-    let mut room = [b'-'; 10];
-    let mut sink = StdSink::new(room.as_mut_slice());
-    assert!(rt; write_all(&mut sink, TEXT) == Err(Failed));
-    assert_eq!(rt; room.as_slice(), b"what is se".as_slice());
+fn sink_is_right(alloc: Global) -> Result<bool, NoMemory> {
+    let failing = Vec::from_slice(alloc, &[1])?;
+    let mut sink = MemSink::with_room(alloc, 64, failing)?;
+    Ok(takes_until_closed(&mut sink))
 }
 
-/// Writes the text into a sink, which takes no more once it is closed.
-fn write_and_close(rt: &impl Abort, bytes: &mut Vec<u8>) {
+/// Whether the text is too long for a room.
+fn is_full(room: &mut [u8]) -> bool {
+    let mut sink = StdSink::new(room);
+    write_all(&mut sink, TEXT) == Err(Failed)
+}
+
+/// Whether a sink takes the text, and no more once it is closed.
+fn takes_all(bytes: &mut Vec<u8>) -> bool {
     let mut sink = StdSink::new(bytes);
-    assert!(rt; write_all(&mut sink, TEXT) == Ok(()));
+    let all = write_all(&mut sink, TEXT) == Ok(());
     sink.close();
-    assert!(rt; sink.write(TEXT) == Err(Failed));
+    all && sink.write(TEXT) == Err(Failed)
+}
+
+/// Whether a writer takes all of the text until its sink is closed.
+fn writer_is_right(alloc: Global) -> bool {
+    let mut bytes = Vec::new(alloc);
+    takes_all(&mut bytes) && bytes.as_slice() == TEXT
+}
+
+/// Whether a failure is told by this text.
+fn is_told(alloc: Global, wanted: &str) -> Result<bool, NoMemory> {
+    let text = format!(in alloc; "{}", Failed)?;
+    Ok(text.as_str() == wanted)
 }
 
 #[test]
-fn writer_takes_all_until_its_sink_is_closed(rt: HostRuntime) {
-    let mut bytes = Vec::new(rt.alloc());
-    write_and_close(&rt, &mut bytes);
-    assert_eq!(rt; bytes.as_slice(), TEXT);
-}
-
-#[test]
-fn a_failure_is_named(rt: HostRuntime) -> Result<(), Fail> {
-    let text = format!(in rt.alloc(); "{}", Failed)?;
-    assert_eq!(rt; text.as_str(), "the stream failed");
-    Ok(())
+fn sinks_and_writers_take_what_they_have_room_for_until_they_are_closed(rt: HostRuntime) {
+    let mut room = [b'-'; 10];
+    see(&rt, is_full(room.as_mut_slice()), "a full writer");
+    see_bytes(
+        &rt,
+        room.as_slice() == b"what is se".as_slice(),
+        room.as_slice(),
+    );
+    see(&rt, writer_is_right(rt.alloc()), "a writer");
+    see(&rt, sink_is_right(rt.alloc()) == Ok(true), "a sink");
+    see(
+        &rt,
+        is_told(rt.alloc(), "the stream failed") == Ok(true),
+        "a failure",
+    );
 }

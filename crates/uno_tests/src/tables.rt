@@ -1,7 +1,8 @@
 //! The table of an interface over two bases, of one over a long chain, and of what is no interface; and functions by their numbers.
 use crate::entities::many::Lines;
-use crate::entities::registry_of;
 use crate::entities::texts::CHAIN_UP;
+use crate::entities::{registry_of, sound};
+use crate::judging::{see, see_number};
 use std::alloc::Global;
 use type_registry::{Function, TableError, function_numbered, function_table};
 use uno_base::NoMemory;
@@ -42,22 +43,20 @@ const BOTH: &[&str] = &[
     "note",
 ];
 
-#[test]
-fn bases_come_first_and_attributes_before_methods(rt: HostRuntime) -> Result<(), NoMemory> {
-    let registry = registry_of(rt.alloc(), DEMO)?;
-    let table = function_table(rt.alloc(), &registry, "demo.XBoth");
-    assert!(rt; matches!(&table, Ok(functions) if are_named(functions, BOTH)));
-    Ok(())
+/// Whether the interface has just these functions.
+fn has_table(alloc: Global, registry: &Registry, name: &str, names: &[&str]) -> bool {
+    match function_table(alloc, registry, name) {
+        Ok(functions) => are_named(&functions, names),
+        Err(_) => false,
+    }
 }
 
-#[test]
-fn an_exception_and_an_unknown_name_have_no_table(rt: HostRuntime) -> Result<(), NoMemory> {
-    let registry = Registry::new(rt.alloc())?;
-    for name in ["com.sun.star.uno.Exception", "demo.XNone"] {
-        let table = function_table(rt.alloc(), &registry, name);
-        assert!(rt; matches!(table, Err(TableError::NotInterface)));
+/// Whether the name is that of no interface, and so has no table.
+fn has_none(alloc: Global, registry: &Registry, name: &str) -> bool {
+    match function_table(alloc, registry, name) {
+        Ok(_) => false,
+        Err(error) => error == TableError::NotInterface,
     }
-    Ok(())
 }
 
 /// A name, a number, and the function of the interface of that name that has it.
@@ -73,27 +72,40 @@ const NUMBERED: &[Row] = &[
     ("demo.XNone", 0, None),
 ];
 
+fn named(found: &Option<Function>) -> Option<&str> {
+    match found {
+        Some(function) => Some(function.name.as_str()),
+        None => None,
+    }
+}
+
 /// Whether the function at the number has that name, or there is none.
 fn is_numbered(alloc: Global, registry: &Registry, row: &Row) -> Result<bool, NoMemory> {
     let (name, number, wanted) = row;
     let found = function_numbered(alloc, registry, name, *number)?;
-    match found {
-        Some(function) => Ok(*wanted == Some(function.name.as_str())),
-        None => Ok(wanted.is_none()),
-    }
+    let right = named(&found) == *wanted;
+    drop(found);
+    Ok(right)
+}
+
+/// Whether bases come first, and attributes before methods, and an exception and an unknown name have no table.
+fn tables_are_right(alloc: Global, registry: &Registry) -> bool {
+    has_table(alloc, registry, "demo.XBoth", BOTH)
+        && has_none(alloc, registry, "com.sun.star.uno.Exception")
+        && has_none(alloc, registry, "demo.XNone")
 }
 
 #[test]
-fn a_number_names_the_function_at_its_place(rt: HostRuntime) -> Result<(), NoMemory> {
-    let registry = registry_of(rt.alloc(), DEMO)?;
-    for row in NUMBERED {
-        let (name, number, _) = row;
-        assert!(rt;
+fn functions_stand_in_order_and_have_their_numbers(rt: HostRuntime) {
+    let registry = sound(&rt, registry_of(rt.alloc(), DEMO));
+    see(&rt, tables_are_right(rt.alloc(), &registry), "the tables");
+    for (number, row) in NUMBERED.iter().enumerate() {
+        see_number(
+            &rt,
             is_numbered(rt.alloc(), &registry, row) == Ok(true),
-            "at {name} {number}"
+            number,
         );
     }
-    Ok(())
 }
 
 /// Whether there are so many functions, the last of them declared by that interface.
@@ -104,10 +116,20 @@ fn ends_in(functions: &[Function], count: usize, owner: &str) -> bool {
     }
 }
 
+/// Whether the interface has so many functions, and declares the last of them.
+fn has_long_table(alloc: Global, registry: &Registry, name: &str, count: usize) -> bool {
+    match function_table(alloc, registry, name) {
+        Ok(functions) => ends_in(&functions, count, name),
+        Err(_) => false,
+    }
+}
+
 #[test]
-fn the_end_of_a_long_chain_has_its_table(rt: HostRuntime) -> Result<(), NoMemory> {
-    let registry = registry_of(rt.alloc(), CHAIN_UP)?;
-    let table = function_table(rt.alloc(), &registry, "t.X19999");
-    assert!(rt; matches!(&table, Ok(functions) if ends_in(functions, 20_003, "t.X19999")));
-    Ok(())
+fn the_end_of_a_long_chain_has_its_table(rt: HostRuntime) {
+    let registry = sound(&rt, registry_of(rt.alloc(), CHAIN_UP));
+    see(
+        &rt,
+        has_long_table(rt.alloc(), &registry, "t.X19999", 20_003),
+        "the chain",
+    );
 }

@@ -1,12 +1,18 @@
 //! Messages as texts.
 use std::alloc::Global;
-use std::test::Fail;
+use uno_base::NoMemory;
 use uno_types::{Name, Text, Tid};
 use uno_values::Value;
 use urp_message::{Answer, Message};
 
+/// Whether a message is told by this text.
+pub(crate) fn is_told(alloc: Global, message: &Message, text: &str) -> Result<bool, NoMemory> {
+    let told = told(alloc, message)?;
+    Ok(told.as_str() == text)
+}
+
 /// A message as a text.
-pub(crate) fn told(alloc: Global, message: &Message) -> Result<String, Fail> {
+fn told(alloc: Global, message: &Message) -> Result<String, NoMemory> {
     match message {
         Message::Request {
             tid,
@@ -32,12 +38,12 @@ fn call_told(
     face: &Name,
     function: u16,
     args: &[Value],
-) -> Result<String, Fail> {
+) -> Result<String, NoMemory> {
     let (tid, oid, face) = (text(tid)?, oid.as_str(), face.as_str());
     Ok(format!(in alloc; "{tid} calls {oid} {face} {function} {args:?}")?)
 }
 
-fn release_told(alloc: Global, tid: &Tid, oid: &Text, face: &Name) -> Result<String, Fail> {
+fn release_told(alloc: Global, tid: &Tid, oid: &Text, face: &Name) -> Result<String, NoMemory> {
     let (tid, oid, face) = (text(tid)?, oid.as_str(), face.as_str());
     Ok(format!(in alloc; "{tid} releases {oid} {face}")?)
 }
@@ -48,7 +54,7 @@ fn reply_told(
     face: &Name,
     function: u16,
     answer: &Answer,
-) -> Result<String, Fail> {
+) -> Result<String, NoMemory> {
     let tid = text(tid)?;
     match answer {
         Answer::Returned { value, outs } => {
@@ -62,6 +68,9 @@ fn reply_told(
     }
 }
 
-fn text(tid: &Tid) -> Result<&str, Fail> {
-    Ok(std::str::from_utf8(tid.as_bytes())?)
+fn text(tid: &Tid) -> Result<&str, NoMemory> {
+    match std::str::from_utf8(tid.as_bytes()) {
+        Ok(text) => Ok(text),
+        Err(_) => Err(NoMemory),
+    }
 }

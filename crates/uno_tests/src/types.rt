@@ -20,12 +20,18 @@ fn sequence_of(alloc: Global, element: TypeName) -> Result<TypeName, NoMemory> {
 
 fn one_of(alloc: Global, word: &str) -> Result<TypeName, NoMemory> {
     let (what, name) = cut(word, '/');
+    if name.is_empty() {
+        return Ok(simple(word));
+    }
+    Ok(named(what, Name::of(alloc, name)?))
+}
+
+fn named(what: &str, name: Name) -> TypeName {
     match what {
-        "enum" => Ok(TypeName::Enum(Name::of(alloc, name)?)),
-        "struct" => Ok(TypeName::Struct(Name::of(alloc, name)?)),
-        "exception" => Ok(TypeName::Exception(Name::of(alloc, name)?)),
-        "interface" => Ok(TypeName::Interface(Name::of(alloc, name)?)),
-        _ => Ok(simple(word)),
+        "enum" => TypeName::Enum(name),
+        "struct" => TypeName::Struct(name),
+        "exception" => TypeName::Exception(name),
+        _ => TypeName::Interface(name),
     }
 }
 

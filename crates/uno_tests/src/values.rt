@@ -25,19 +25,11 @@ fn one_of(alloc: Global, stack: &mut Vec<Value>, word: &str) -> Result<Value, No
         "enum" => enum_of(alloc, text),
         "own" => ref_of(alloc, true, text),
         "peer" => ref_of(alloc, false, text),
-        "string" => string_of(alloc, text),
-        "type" => kind_of(alloc, text),
+        "string" => Ok(Value::Str(text_of(alloc, text)?)),
+        "type" => Ok(Value::Kind(type_of(alloc, text)?)),
         "bytes" => bytes_of(alloc, text),
         _ => Ok(number_of(what, text)),
     }
-}
-
-fn string_of(alloc: Global, text: &str) -> Result<Value, NoMemory> {
-    Ok(Value::Str(text_of(alloc, text)?))
-}
-
-fn kind_of(alloc: Global, text: &str) -> Result<Value, NoMemory> {
-    Ok(Value::Kind(type_of(alloc, text)?))
 }
 
 fn any_of(alloc: Global, stack: &mut Vec<Value>, text: &str) -> Result<Value, NoMemory> {
@@ -61,8 +53,8 @@ fn tuple_of(alloc: Global, stack: &mut Vec<Value>, text: &str) -> Result<Value, 
 
 fn list_of(alloc: Global, stack: &mut Vec<Value>, text: &str) -> Result<Value, NoMemory> {
     let (count, word) = cut(text, ':');
-    let kind = type_of(alloc, word)?;
-    Ok(Value::List(kind, parts_of(stack, count)?))
+    let parts = parts_of(stack, count)?;
+    Ok(Value::List(type_of(alloc, word)?, parts))
 }
 
 fn enum_of(alloc: Global, text: &str) -> Result<Value, NoMemory> {
@@ -123,5 +115,7 @@ pub(crate) fn printed(alloc: Global, value: &Value) -> Result<String, NoMemory> 
 
 /// The same of a value that is let go.
 pub(crate) fn shown(alloc: Global, value: Value) -> Result<String, NoMemory> {
-    printed(alloc, &value)
+    let text = printed(alloc, &value);
+    drop(value);
+    text
 }

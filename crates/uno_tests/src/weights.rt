@@ -1,4 +1,6 @@
 //! The references in values, their weights, and their copies.
+use crate::entities::sound;
+use crate::judging::see;
 use crate::values::{printed, shown, value_of};
 use std::alloc::Global;
 use uno_base::NoMemory;
@@ -67,7 +69,9 @@ const VALUES: &[Row] = &[
 /// Whether these are all references of the value, in this order.
 fn has_refs(alloc: Global, value: &Value, sides: &str) -> Result<bool, NoMemory> {
     let found = refs_of(alloc, value)?;
-    Ok(are(&found, sides))
+    let right = are(&found, sides);
+    drop(found);
+    Ok(right)
 }
 
 fn are(found: &[Reference], sides: &str) -> bool {
@@ -97,9 +101,14 @@ fn side(reference: &Reference) -> (&str, &str) {
 
 /// Whether a copy is printed alike.
 fn is_copied(alloc: Global, value: &Value) -> Result<bool, NoMemory> {
-    let copy = shown(alloc, value.copy(alloc)?)?;
+    let copy = value.copy(alloc)?;
+    let copy = shown(alloc, copy)?;
+    is_shown(alloc, value, &copy)
+}
+
+fn is_shown(alloc: Global, value: &Value, text: &str) -> Result<bool, NoMemory> {
     let own = printed(alloc, value)?;
-    Ok(copy.as_str() == own.as_str())
+    Ok(own.as_str() == text)
 }
 
 /// Whether the value takes so many bytes, has these references, and has an equal copy.
@@ -123,16 +132,20 @@ pub(crate) fn parts_are_right(
 ) -> Result<bool, NoMemory> {
     let (words, bytes, sides) = row;
     let value = value_of(alloc, words)?;
-    has_parts(alloc, registry, &value, *bytes, sides)
+    let right = has_parts(alloc, registry, &value, *bytes, sides);
+    drop(value);
+    right
 }
 
 #[test]
-fn weights_references_and_copies_are_right(rt: HostRuntime) -> Result<(), NoMemory> {
-    let registry = Registry::new(rt.alloc())?;
+fn weights_references_and_copies_are_right(rt: HostRuntime) {
+    let registry = sound(&rt, Registry::new(rt.alloc()));
     for row in VALUES {
         let (words, _, _) = row;
-        let right = parts_are_right(rt.alloc(), &registry, row)?;
-        assert!(rt; right, "at {words}");
+        see(
+            &rt,
+            parts_are_right(rt.alloc(), &registry, row) == Ok(true),
+            words,
+        );
     }
-    Ok(())
 }

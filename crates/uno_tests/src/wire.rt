@@ -1,12 +1,11 @@
 //! Worked bytes: values that are written, and bytes that are read or refused.
 ghost use Rattle.uno_model.specs.Sound.{IsSound};
 
-use crate::entities::built_in;
+use crate::entities::sound;
+use crate::judging::{see, see_number};
 use crate::types::type_of;
 use crate::values::value_of;
 use std::alloc::Global;
-use std::process::Abort;
-use std::test::Fail;
 use uno_base::NoMemory;
 use uno_types::{Registry, TypeName};
 use uno_values::{Value, depth_of, fits, weight};
@@ -89,10 +88,9 @@ fn used(
 ) -> Result<usize, WireError>
     requires { IsSound registry.now }
 {
-    match read_value(alloc, registry, caches, kind, bytes) {
-        Ok((_, used)) => Ok(used),
-        Err(error) => Err(error),
-    }
+    let (value, used) = read_value(alloc, registry, caches, kind, bytes)?;
+    drop(value);
+    Ok(used)
 }
 
 /// The same with no slot known.
@@ -105,47 +103,20 @@ fn used_at_first(
     requires { IsSound registry.now }
 {
     let mut caches = ReadCaches::new(alloc)?;
-    used(alloc, registry, &mut caches, kind, bytes)
+    let used = used(alloc, registry, &mut caches, kind, bytes);
+    drop(caches);
+    used
 }
 
-/// Sees that bytes are read or refused as the row says.
-fn judge(rt: &impl Abort, alloc: Global, registry: &Registry, row: &Row) -> Result<(), NoMemory>
+/// Whether bytes are read or refused as the row says.
+fn is_read(alloc: Global, registry: &Registry, row: &Row) -> Result<bool, NoMemory>
     requires { IsSound registry.now }
 {
     let (word, bytes, wanted) = row;
     let kind = type_of(alloc, word)?;
-    let seen = used_at_first(alloc, registry, &kind, bytes);
-    assert!(rt; seen == *wanted, "at {word}: {bytes:?}");
-    Ok(())
-}
-
-#[test]
-fn bytes_are_read_or_refused(rt: HostRuntime) -> Result<(), Fail> {
-    let alloc = rt.alloc();
-    let registry = built_in(alloc)?;
-    for row in ROWS {
-        judge(&rt, alloc, &registry, row)?;
-    }
-    Ok(())
-}
-
-/// What is written of a value.
-fn written(
-    rt: &impl Abort,
-    alloc: Global,
-    registry: &Registry,
-    caches: &mut SendCaches,
-    kind: &TypeName,
-    value: &Value,
-) -> Result<Vec<u8>, Fail>
-    requires { IsSound registry.now }
-{
-    assert!(rt; fits(registry, value, kind));
-    assert!(rt; weight(registry, value) <= 16_777_216);
-    assert!(rt; depth_of(value) <= 64);
-    let mut to = Vec::new(alloc);
-    write_value(alloc, registry, caches, value, kind, &mut to)?;
-    Ok(to)
+    let used = used_at_first(alloc, registry, &kind, bytes);
+    drop(kind);
+    Ok(used == *wanted)
 }
 
 /// A type, a value of it, and its bytes.
@@ -178,30 +149,96 @@ const WRITTEN: &[Written] = &[
     ),
 ];
 
-/// Whether what is written of the value of a row is its bytes.
+/// Whether what is written of the value is these bytes.
+fn is_spelled(
+    alloc: Global,
+    registry: &Registry,
+    caches: &mut SendCaches,
+    kind: &TypeName,
+    value: &Value,
+    bytes: &[u8],
+) -> Result<bool, NoMemory>
+    requires { IsSound registry.now }
+{
+    if !fits(registry, value, kind) {
+        return Ok(false);
+    }
+    if weight(registry, value) > 16_777_216 {
+        return Ok(false);
+    }
+    if depth_of(value) > 64 {
+        return Ok(false);
+    }
+    let mut to = Vec::new(alloc);
+    write_value(alloc, registry, caches, value, kind, &mut to)?;
+    Ok(to.as_slice() == bytes)
+}
+
+/// Whether what is written of the value of these words is these bytes.
 fn is_written(
-    rt: &impl Abort,
+    alloc: Global,
+    registry: &Registry,
+    caches: &mut SendCaches,
+    kind: &TypeName,
+    words: &str,
+    bytes: &[u8],
+) -> Result<bool, NoMemory>
+    requires { IsSound registry.now }
+{
+    let value = value_of(alloc, words)?;
+    let right = is_spelled(alloc, registry, caches, kind, &value, bytes);
+    drop(value);
+    right
+}
+
+/// The same of a row.
+fn is_row_written(
     alloc: Global,
     registry: &Registry,
     caches: &mut SendCaches,
     row: &Written,
-) -> Result<bool, Fail>
+) -> Result<bool, NoMemory>
     requires { IsSound registry.now }
 {
-    let (kind, words, bytes) = row;
-    let kind = type_of(alloc, kind)?;
-    let value = value_of(alloc, words)?;
-    let to = written(rt, alloc, registry, caches, &kind, &value)?;
-    Ok(to.as_slice() == *bytes)
+    let (word, words, bytes) = row;
+    let kind = type_of(alloc, word)?;
+    let right = is_written(alloc, registry, caches, &kind, words, bytes);
+    drop(kind);
+    right
+}
+
+fn are_written(
+    alloc: Global,
+    registry: &Registry,
+    caches: &mut SendCaches,
+) -> Result<bool, NoMemory>
+    requires { IsSound registry.now }
+{
+    for row in WRITTEN {
+        if !is_row_written(alloc, registry, caches, row)? {
+            return Ok(false);
+        }
+    }
+    Ok(true)
+}
+
+/// Whether one end writes all rows.
+fn writes_all(alloc: Global, registry: &Registry) -> Result<bool, NoMemory>
+    requires { IsSound registry.now }
+{
+    let mut caches = SendCaches::new(alloc)?;
+    are_written(alloc, registry, &mut caches)
 }
 
 #[test]
-fn worked_values_are_written(rt: HostRuntime) -> Result<(), Fail> {
-    let registry = built_in(rt.alloc())?;
-    let mut caches = SendCaches::new(rt.alloc())?;
-    for row in WRITTEN {
-        let right = is_written(&rt, rt.alloc(), &registry, &mut caches, row)?;
-        assert!(rt; right);
+fn bytes_are_read_or_refused_and_values_are_written(rt: HostRuntime) {
+    let registry = sound(&rt, Registry::new(rt.alloc()));
+    for (number, row) in ROWS.iter().enumerate() {
+        see_number(&rt, is_read(rt.alloc(), &registry, row) == Ok(true), number);
     }
-    Ok(())
+    see(
+        &rt,
+        writes_all(rt.alloc(), &registry) == Ok(true),
+        "what is written",
+    );
 }

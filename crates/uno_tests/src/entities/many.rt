@@ -7,25 +7,39 @@ pub(crate) type Lines = (&'static str, &'static str, u32);
 
 /// In the pieces, `#` is the number of the piece, from 0 on, and `$` the number behind it.
 pub(crate) fn spelled(alloc: Global, lines: Lines) -> Result<String, NoMemory> {
+    let mut text = String::new(alloc);
+    spell(alloc, &mut text, lines)?;
+    Ok(text)
+}
+
+fn spell(alloc: Global, text: &mut String, lines: Lines) -> Result<(), NoMemory> {
     let (whole, piece, count) = lines;
-    let pieces = pieces(alloc, piece, count)?;
-    Ok(whole.replace(alloc, '@', &pieces)?)
+    for letter in whole.chars() {
+        if letter == '@' {
+            repeat(alloc, text, piece, count)?;
+        } else {
+            text.push(letter)?;
+        }
+    }
+    Ok(())
 }
 
-fn pieces(alloc: Global, piece: &str, count: u32) -> Result<String, NoMemory> {
-    if !piece.contains('#') {
-        return Ok(piece.repeat(alloc, count as usize)?);
-    }
-    let mut all = String::new(alloc);
+fn repeat(alloc: Global, text: &mut String, piece: &str, count: u32) -> Result<(), NoMemory> {
     for number in 0..count {
-        all.push_str(&numbered(alloc, piece, number)?)?;
+        for letter in piece.chars() {
+            match letter {
+                '#' => push_number(alloc, text, number)?,
+                '$' => push_number(alloc, text, number.saturating_add(1))?,
+                _ => text.push(letter)?,
+            }
+        }
     }
-    Ok(all)
+    Ok(())
 }
 
-fn numbered(alloc: Global, piece: &str, number: u32) -> Result<String, NoMemory> {
-    let here = format!(in alloc; "{number:05}")?;
-    let next = format!(in alloc; "{:05}", number.saturating_add(1))?;
-    let half = piece.replace(alloc, '#', &here)?;
-    Ok(half.replace(alloc, '$', &next)?)
+/// A number in five digits.
+fn push_number(alloc: Global, text: &mut String, number: u32) -> Result<(), NoMemory> {
+    let digits = format!(in alloc; "{number:05}")?;
+    text.push_str(&digits)?;
+    Ok(())
 }

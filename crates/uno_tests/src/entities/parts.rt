@@ -151,9 +151,9 @@ fn method_of(alloc: Global, word: &str) -> Result<Method, NoMemory> {
     Ok(Method {
         name: Name::of(alloc, name.trim_start_matches('~'))?,
         oneway: word.starts_with('~'),
-        result: type_of(alloc, result)?,
         params: all_of(alloc, params, ',', false)?,
         raises: all_of(alloc, raises, ',', false)?,
+        result: type_of(alloc, result)?,
     })
 }
 
@@ -169,8 +169,8 @@ impl Spelled for Constructor {
         Ok(Constructor {
             name: Name::of(alloc, name)?,
             params: all_of(alloc, params, ',', false)?,
-            rest: added(alloc, params, ',')?,
             raises: all_of(alloc, raises, ',', false)?,
+            rest: added(alloc, params, ',')?,
         })
     }
 }

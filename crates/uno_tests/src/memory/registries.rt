@@ -21,8 +21,8 @@ const LINES: &[&str] = &[
 
 /// Adds an entity, and answers whether the registry then has one more; what finds no memory leaves as many as there were.
 fn add(alloc: Global, registry: &mut Registry, line: &str) -> Result<bool, NoMemory> {
-    let entity = entity_of(alloc, line)?;
     let before = registry.entities().len();
+    let entity = entity_of(alloc, line)?;
     let added = registry.add(entity);
     let now = registry.entities().len();
     match added {
@@ -60,14 +60,24 @@ fn judge(alloc: Global, registry: &Registry) -> Result<bool, NoMemory> {
 /// All of it, as far as there is memory.
 fn run(alloc: Global) -> Result<bool, NoMemory> {
     let mut registry = Registry::new(alloc)?;
-    let added = add_all(alloc, &mut registry)?;
-    Ok(added && judge(alloc, &registry)?)
+    let right = add_and_judge(alloc, &mut registry);
+    drop(registry);
+    right
+}
+
+fn add_and_judge(alloc: Global, registry: &mut Registry) -> Result<bool, NoMemory> {
+    Ok(add_all(alloc, registry)? && judge(alloc, registry)?)
+}
+
+/// Whether copies and tags are right.
+fn texts_are_right(alloc: Global) -> bool {
+    copies(alloc, "[][]interface/t.X") != Ok(false)
+        && is_tag(alloc, "S") != Ok(false)
+        && is_tag(alloc, "a;b") == Ok(false)
 }
 
 #[test]
 fn each_call_is_right_or_finds_no_memory(rt: HostRuntime) {
-    assert!(rt; copies(rt.alloc(), "[][]interface/t.X") != Ok(false));
-    assert!(rt; is_tag(rt.alloc(), "S") != Ok(false));
-    assert!(rt; is_tag(rt.alloc(), "a;b") == Ok(false));
+    assert!(rt; texts_are_right(rt.alloc()));
     assert!(rt; run(rt.alloc()) != Ok(false));
 }

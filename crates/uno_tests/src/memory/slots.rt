@@ -1,12 +1,12 @@
 //! Caches.
 use crate::slots::means;
-use std::process::Abort;
+use std::alloc::Global;
 use uno_base::NoMemory;
 use urp_cache::{Known, ReadCache, SendCache};
 
-/// Whether the name `b` is held at this slot.
-fn is_held(cache: &mut SendCache, slot: u16) -> bool {
-    matches!(cache.slot_of(b"b"), Ok((held, Known::Old)) if held == slot)
+/// Whether a name is held at this slot.
+fn is_held(cache: &mut SendCache, name: &[u8], slot: u16) -> bool {
+    cache.slot_of(name) == Ok((slot, Known::Old))
 }
 
 /// Whether the name `b` is new, or there is no memory for it.
@@ -14,57 +14,50 @@ fn is_new(cache: &mut SendCache) -> bool {
     matches!(cache.slot_of(b"b"), Ok((_, Known::New)) | Err(NoMemory))
 }
 
-/// Uses a name twice. Where there is no memory for it, it is still new, and the name before it is held.
-fn use_twice(rt: &impl Abort, cache: &mut SendCache, slot: u16) {
+/// Whether the name `b` takes this slot and is held there. Where there is no memory for it, it is still new.
+fn is_taken(cache: &mut SendCache, slot: u16) -> bool {
     match cache.slot_of(b"b") {
-        Ok(answer) => {
-            assert!(rt; answer == (slot, Known::New));
-            assert!(rt; is_held(cache, slot));
-        }
-        Err(NoMemory) => assert!(rt; is_new(cache)),
+        Ok(answer) => answer == (slot, Known::New) && is_held(cache, b"b", slot),
+        Err(NoMemory) => is_new(cache),
     }
 }
 
-#[test]
-fn name_takes_a_slot_or_there_is_no_memory(rt: HostRuntime) {
-    let Ok(mut cache) = SendCache::new(rt.alloc()) else {
-        return
-    };
+/// Whether the names `a` and `b` take slots, and the first is still held behind the second.
+fn are_taken(cache: &mut SendCache) -> bool {
     match cache.slot_of(b"a") {
-        Ok(answer) => {
-            assert_eq!(rt; answer, (0, Known::New));
-            use_twice(&rt, &mut cache, 1);
-            assert_eq!(rt; cache.slot_of(b"a"), Ok((0, Known::Old)));
-        }
-        Err(error) => {
-            assert_eq!(rt; error, NoMemory);
-            use_twice(&rt, &mut cache, 0);
-        }
+        Ok(answer) => { answer == (0, Known::New) && is_taken(cache, 1) && is_held(cache, b"a", 0) }
+        Err(NoMemory) => is_taken(cache, 0),
     }
 }
 
-/// Announces a name at the slot 3, and tells whether there was memory for it.
-fn announced(rt: &impl Abort, cache: &mut ReadCache, name: &str) -> bool {
-    match cache.announce(3, name.as_bytes()) {
-        Ok(()) => {
-            assert!(rt; means(cache, 3, name));
-            true
-        }
-        Err(error) => {
-            assert_eq!(rt; error, NoMemory);
-            false
-        }
+fn sends(alloc: Global) -> Result<bool, NoMemory> {
+    let mut cache = SendCache::new(alloc)?;
+    Ok(are_taken(&mut cache))
+}
+
+/// Announces a name at the slot 3, and tells whether the slot then means it.
+fn announced(cache: &mut ReadCache, name: &str) -> Result<bool, NoMemory> {
+    cache.announce(3, name.as_bytes())?;
+    Ok(means(cache, 3, Some(name)))
+}
+
+/// Whether the slot means the name that was announced last, of those for which there was memory, and another slot nothing.
+fn are_meant(cache: &mut ReadCache) -> bool {
+    let first = announced(cache, "a");
+    let second = announced(cache, "b");
+    if second == Err(NoMemory) && means(cache, 3, Some("a")) != first.is_ok() {
+        return false;
     }
+    first != Ok(false) && second != Ok(false) && means(cache, 4, None)
+}
+
+fn reads(alloc: Global) -> Result<bool, NoMemory> {
+    let mut cache = ReadCache::new(alloc)?;
+    Ok(are_meant(&mut cache))
 }
 
 #[test]
-fn slot_gets_its_meaning_or_there_is_no_memory(rt: HostRuntime) {
-    let Ok(mut cache) = ReadCache::new(rt.alloc()) else {
-        return
-    };
-    let first = announced(&rt, &mut cache, "a");
-    if !announced(&rt, &mut cache, "b") {
-        assert_eq!(rt; means(&cache, 3, "a"), first);
-    }
-    assert!(rt; cache.meaning(4).is_none());
+fn name_takes_a_slot_and_slot_gets_its_meaning_or_there_is_no_memory(rt: HostRuntime) {
+    assert!(rt; sends(rt.alloc()) != Ok(false));
+    assert!(rt; reads(rt.alloc()) != Ok(false));
 }

@@ -1,9 +1,10 @@
 //! Defaults, weights, references and copies.
 use crate::defaults::is_right;
-use crate::entities::built_in;
+use crate::entities::if_sound;
 use crate::weights::{Row, parts_are_right};
 use std::alloc::Global;
 use uno_base::NoMemory;
+use uno_types::Registry;
 
 /// An any of an exception with a text and an object.
 const THROWN: &Row = &(
@@ -14,7 +15,7 @@ const THROWN: &Row = &(
 
 /// Whether the default of an exception is right, and the weight, the references and the copy of an any of one.
 fn are_right(alloc: Global) -> Result<bool, NoMemory> {
-    let registry = built_in(alloc)?;
+    let registry = if_sound(Registry::new(alloc))?;
     if is_right(
         alloc,
         &registry,
