@@ -1,4 +1,5 @@
 //! What an end remembers of a direction between two messages (URP specification, messages, caches).
+ghost use Rattle.std.specs.Prelude.{◌≡◌};
 
 use uno_types::{Text, Tid, TypeName};
 use urp_cache::{ReadCaches, SendCaches};
@@ -24,4 +25,11 @@ pub(crate) struct Heard {
 pub(crate) struct Spoken {
     pub(crate) caches: SendCaches,
     pub(crate) last: Last,
+}
+
+/// What is named is the last from now on, and what was the last is let go.
+pub(crate) fn remember<T: Drop>(last: &mut T, named: T)
+    ensures { last.new ≡ named }
+{
+    *last = named;
 }

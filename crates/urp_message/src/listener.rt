@@ -1,5 +1,5 @@
 //! The end that reads messages.
-ghost use Rattle.std.specs.Prelude.{◌≡◌, ℕ, ◌≤◌, ◌++◌, List, length, take, drop, IfOk, OnOk, OnErr, MatchResult, Some, None, Err};
+ghost use Rattle.std.specs.Prelude.{◌≡◌, ℕ, ◌≤◌, ◌++◌, List, length, take, drop, IfOk, OnOk, OnErr, MatchOption, MatchResult, IsOk, Some, None, Err};
 ghost use Rattle.message_model.specs.Headers.{Heard as Remembered, nothing_heard};
 ghost use Rattle.message_model.specs.Messages.{Message as Said};
 ghost use Rattle.message_model.specs.ReadingMessages.{message_at};
@@ -86,9 +86,7 @@ impl Listener {
         ensures refuses { (e : ReadError) → self.old.refusal ≡ Some e → (result ≡ Err e) × (self.new ≡ self.old) }
         ensures remembers { self.old.refusal ≡ None → MatchResult result (λ x. self.new.refusal ≡ None) (λ e. self.new.refusal ≡ Some e) }
     {
-        if let Some(refusal) = self.refusal {
-            return Err(refusal);
-        }
+        refused(self.refusal)?;
         match read_message(self.alloc, registry, &mut self.heard, expect, body) {
             Ok((message, rest)) => Ok((message, body.len() - rest.len())),
             Err(error) => {
@@ -97,6 +95,16 @@ impl Listener {
                 Err(refusal)
             }
         }
+    }
+}
+
+/// The refusal that there was, if there was one.
+fn refused(refusal: Option<ReadError>) -> Result<(), ReadError>
+    ensures { MatchOption refusal (IsOk result) (λ e. result ≡ Err e) }
+{
+    match refusal {
+        None => Ok(()),
+        Some(refusal) => Err(refusal),
     }
 }
 

@@ -1,6 +1,6 @@
 //! Whether a message may be said, and what it weighs.
 ghost use Rattle.std.specs.Prelude.{◌≡◌, ◌≢◌, ◌↔◌, ◌≤◌, ◌<◌, ◌+◌, ◌-◌, ◌^◌, IsTrue, IfOk, map, min, length};
-ghost use Rattle.message_model.specs.Calls.{numbered, argument_kinds, out_kinds, may_raise, acquire_number, release_number};
+ghost use Rattle.message_model.specs.Calls.{kinds_on, numbered, argument_kinds, out_kinds, may_raise, acquire_number, release_number};
 ghost use Rattle.message_model.specs.Speaking.{IsThread, Fill, AnswerFits, MayBeSaid, message_weight, answer_weight, heading_weight, name_weight};
 ghost use Rattle.type_registry.specs.Functions.{function_of};
 ghost use Rattle.uno_model.specs.Fits.{Fits, IsIdentity, IsInterface};
@@ -13,7 +13,7 @@ ghost use Rattle.uno_types.specs.TypeNames.{kind_of};
 ghost use Rattle.uno_values.specs.Values.{plain_of, plains_of};
 ghost use Rattle.urp_message.specs.Messages.{answer_of, message_of};
 ghost use Rattle.message_model.specs.Messages.{raised};
-ghost use Rattle.urp_message.specs.Params.{kinds_at};
+ghost use Rattle.urp_message.specs.Params.{carries, kinds_at};
 ghost use Rattle.urp_message.specs.Saying.{RequestFits, ReplyFits, FindsCalled, ExceptionFits};
 
 use crate::params::{Phase, kinds};
@@ -114,8 +114,24 @@ fn request_fits(
     let Some(function) = called(alloc, registry, face, number)? else {
         return Ok(false);
     };
-    let kinds = kinds(alloc, Phase::Request, &function.params)?;
-    Ok(fill(registry, args, &kinds))
+    let fits = values_fit(alloc, registry, Phase::Request, &function, args);
+    drop(function);
+    fits
+}
+
+/// Whether values are those that a request or a reply carries for the parameters of a function.
+fn values_fit(
+    alloc: Global,
+    registry: &Registry,
+    phase: Phase,
+    function: &Function,
+    values: &[Value],
+) -> Result<bool, NoMemory>
+    requires { IsSound registry.now }
+    ensures { IfOk result (λ b. IsTrue b ↔ Fill registry.now (map plain_of values.now) (kinds_on (carries phase) (function_of function.now).params)) }
+{
+    let kinds = kinds(alloc, phase, &function.params)?;
+    Ok(fill(registry, values, &kinds))
 }
 
 /// The function of an interface at a number, where it is called like others.
@@ -154,7 +170,9 @@ fn reply_fits(
     let Some(function) = called(alloc, registry, face, number)? else {
         return Ok(false);
     };
-    Ok(answer_fits(alloc, registry, &function, answer)?)
+    let fits = answer_fits(alloc, registry, &function, answer);
+    drop(function);
+    fits
 }
 
 /// Whether an answer is one to this function.
@@ -172,8 +190,7 @@ fn answer_fits(
             if !fits_within(registry, value, &function.result) {
                 return Ok(false);
             }
-            let kinds = kinds(alloc, Phase::Reply, &function.params)?;
-            Ok(fill(registry, outs, &kinds))
+            values_fit(alloc, registry, Phase::Reply, function, outs)
         }
         Answer::Raised(exception) => Ok(exception_fits(registry, function, exception)),
     }

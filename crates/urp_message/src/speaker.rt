@@ -85,10 +85,17 @@ impl Speaker {
         match write_block(self.alloc, registry, message, &mut self.spoken) {
             Ok(block) => Ok(block),
             Err(_) => {
-                self.failed = true;
+                self.give_up();
                 Err(NoMemory)
             }
         }
+    }
+
+    /// Writes no more from now on.
+    fn give_up(&mut self)
+        ensures { IsTrue self.new.failed }
+    {
+        self.failed = true;
     }
 }
 
@@ -107,6 +114,5 @@ fn write_block(
 {
     let mut body = Vec::new(alloc);
     put_message(alloc, registry, message, spoken, &mut body)?;
-    let block = block_of(alloc, &body)?;
-    Ok(block)
+    block_of(alloc, &body)
 }

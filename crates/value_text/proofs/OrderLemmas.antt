@@ -4,15 +4,11 @@ use Rattle.std.specs.Result.{IsErrAnd}
 use Rattle.std.proofs.lemmas.List.{append_assoc, append-nil}
 use Rattle.uno_model.specs.Entities.{Entity}
 use Rattle.uno_model.specs.Shapes.{Awaited, Bracket, Token, Placed, token_at, tokens_at, with_token, is_whole, behind, opened}
-use Rattle.value_text.specs.Scanning.{StoppedBy, Scans}
+use Rattle.value_text.specs.Scanning.{StoppedBy, Scans, with_tokens}
 use Rattle.value_text.specs.declared.stop.Stop.{Stop}
 use Rattle.value_text.specs.declared.stop.Stop.TheVariants as stop
 
--- tokens in front of those that were read
-abbrev pub with_tokens : List Placed → Result (List Placed) ℕ → Result (List Placed) ℕ
-with_tokens xs (Ok ps) = Ok (xs ++ ps)
-with_tokens xs (Err left) = Err left
-
+-- no tokens in front
 pub with_no_tokens : (r : Result (List Placed) ℕ) → with_tokens [] r ≡ r
 with_no_tokens (Ok ps) = refl
 with_no_tokens (Err left) = refl

@@ -12,7 +12,7 @@ use Rattle.uno_model.specs.Shapes.{Placed, on_ok}
 use Rattle.uno_model.specs.Types.{is_type}
 use Rattle.uno_model.specs.Values.{Plain}
 use Rattle.std.specs.Result.{IsErrAnd}
-use Rattle.value_text.specs.Typing.{FailedBy, Gives, kinds_at}
+use Rattle.value_text.specs.Typing.{FailedBy, Gives, kinds_at, with_firsts}
 use Rattle.uno_types.specs.TypeNames.{kind_of}
 use Rattle.uno_types.specs.declared.entity.Field.{Field}
 use Rattle.value_text.specs.declared.misread.Misread.{Misread}
@@ -27,11 +27,7 @@ value_level (suc levels) reg k ps some = let fuel : levels ≡ suc levels - 1 = 
 
 pub ruleset levels = (value_level)
 
--- values in front of those that were read
-abbrev pub with_firsts : {X : Type 0} → List X → Result (List X × List Placed) Fault → Result (List X × List Placed) Fault
-with_firsts xs (Ok y) = Ok (xs ++ y.0, y.1)
-with_firsts xs (Err e) = Err e
-
+-- no values in front
 pub with_no_firsts : {X : Type 0} (r : Result (List X × List Placed) Fault) → with_firsts [] r ≡ r
 with_no_firsts (Ok y) = refl
 with_no_firsts (Err e) = refl
@@ -130,10 +126,12 @@ kinds_more fields i f within read = ap kinds_at (drop_more fields i f within ∙
 pub kinds_done : (fields : List (Bor Field)) (i : ℕ) → length fields ≤ i → kinds_at (drop i fields) ≡ []
 kinds_done fields i past = ap kinds_at (drop_all i fields past)
 
--- the members of a struct are read in its brackets
-pub tuple_fails : (reg : List Entity) (read : Kind → Reads Plain) (left : ℕ) (name : List ℕ) (kinds : List Kind) (ps qs : List Placed) (e : Misread)
-    → left ≡ left_at ps → kinds ≡ member_kinds reg name → expect left opens_curly ps ≡ Ok qs
-    → FailedBy e (members_on read left true kinds qs) → FailedBy e (value_step reg read (kd.struct name) ps)
+-- the members of a struct are read in its brackets, behind none
+pub tuple_fails : (reg : List Entity) (read : Kind → Reads Plain) (left : ℕ) (name : List ℕ) (kinds : List Kind) (ps qs : List Placed) (xs : List Plain) (e : Misread)
+    → left ≡ left_at ps → kinds ≡ member_kinds reg name → expect left opens_curly ps ≡ Ok qs → xs ≡ []
+    → FailedBy e (with_firsts xs (members_on read left true kinds qs)) → FailedBy e (value_step reg read (kd.struct name) ps)
 unfolding value_step
-tuple_fails reg read left name kinds ps qs misread.NoMemory front members opened fails = tt
-tuple_fails reg read left name kinds ps qs (misread.Misfit at) front members opened fails = rw (← front, ← members, opened, fails) refl
+tuple_fails reg read left name kinds ps qs xs misread.NoMemory front members opened none fails = tt
+tuple_fails reg read left name kinds ps qs xs (misread.Misfit at) front members opened none fails =
+    let lost : members_on read left true kinds qs ≡ Err (misfit at) = sym (with_no_firsts _) ∙ ap (λ ys. with_firsts ys (members_on read left true kinds qs)) (sym none) ∙ fails in
+    rw (← front, ← members, opened, lost) refl

@@ -1,5 +1,5 @@
 -- Tokens as plain data, and what a scan gives: what the verdict gives, unless memory ran out.
-use Rattle.std.specs.Prelude.{◌≡◌, ℕ, Bool, List, map, reverse, Result, Ok, Err}
+use Rattle.std.specs.Prelude.{◌≡◌, ℕ, ◌++◌, Bool, List, map, reverse, Result, Ok, Err}
 use Rattle.uno_model.specs.Names.{goes_on_identifier}
 use Rattle.uno_model.specs.Shapes as plain
 use Rattle.uno_types.specs.TypeNames.{kind_of}
@@ -48,6 +48,11 @@ outer_of outer = map bracket_of (reverse outer)
 abbrev pub test_of : Run → ℕ → Bool
 test_of run.Word = goes_on_identifier
 test_of run.Name = plain.is_name_byte
+
+-- tokens in front of those that are read
+abbrev pub with_tokens : List plain.Placed → Result (List plain.Placed) ℕ → Result (List plain.Placed) ℕ
+with_tokens xs (Ok ps) = Ok (xs ++ ps)
+with_tokens xs (Err left) = Err left
 
 -- what a stopped scan says of the verdict; want of memory says nothing
 abbrev pub StoppedBy : {Y : Type 0} → Stop → Result Y ℕ → Type 0

@@ -1,12 +1,12 @@
 -- What a reading of tokens gives: what the verdict gives, unless memory ran out.
 use Rattle.std.specs.Borrow.{Bor}
-use Rattle.std.specs.Prelude.{◌≡◌, Bool, List, map, Option, None, Result, Ok, Err}
+use Rattle.std.specs.Prelude.{◌≡◌, ◌++◌, Bool, List, map, Option, None, Result, Ok, Err}
 use Rattle.uno_model.specs.Entities as plain
 use Rattle.uno_model.specs.Kinds.{Kind}
 use Rattle.uno_model.specs.Kinds as kd
 use Rattle.uno_model.specs.Readings.{Fault, misfit, some_as, and_then, number_in, unsigned_of, signed_of}
 use Rattle.uno_model.specs.Readings.{is_comma, opens_square, closes_square, opens_curly, closes_curly}
-use Rattle.uno_model.specs.Shapes.{Token}
+use Rattle.uno_model.specs.Shapes.{Token, Placed}
 use Rattle.uno_model.specs.Values.{Plain}
 use Rattle.uno_model.specs.Values as v
 use Rattle.uno_types.specs.Members.{fields_at}
@@ -23,6 +23,11 @@ FailedBy (misread.Misfit left) verdict = verdict ≡ Err (misfit left)
 abbrev pub Gives : {X Y : Type 0} → (X → Y) → Result X Misread → Result Y Fault → Type 0
 Gives view (Ok x) verdict = verdict ≡ Ok (view x)
 Gives view (Err e) verdict = FailedBy e verdict
+
+-- values in front of those that are read
+abbrev pub with_firsts : {X : Type 0} → List X → Result (List X × List Placed) Fault → Result (List X × List Placed) Fault
+with_firsts xs (Ok y) = Ok (xs ++ y.0, y.1)
+with_firsts xs (Err e) = Err e
 
 -- the test of a mark
 abbrev pub mark_test : Mark → Token → Bool

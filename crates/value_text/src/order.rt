@@ -1,9 +1,9 @@
 //! The order of tokens: a text is cut into them, and each is one that may stand at its place.
-ghost use Rattle.std.specs.Prelude.{◌≡◌, OnOk, IfErr};
-ghost use Rattle.uno_model.specs.Shapes.{judge, tokens_at, token_at, element_at, separator_at, closing, behind, behind_cast, opened, is_whole};
+ghost use Rattle.std.specs.Prelude.{◌≡◌, ◌++◌, ◌∷◌, [], suc, length, OnOk, IfErr};
+ghost use Rattle.uno_model.specs.Shapes.{value, judge, tokens_at, token_at, element_at, separator_at, closing, behind, behind_cast, opened, is_whole};
 ghost use Rattle.uno_model.specs.Sound.{IsSound};
 ghost use Rattle.uno_types.specs.TypeNames.{kind_of};
-ghost use Rattle.value_text.specs.Scanning.{Scans, token_of, all_placed, bracket_of, awaited_of, outer_of};
+ghost use Rattle.value_text.specs.Scanning.{Scans, with_tokens, token_of, all_placed, bracket_of, awaited_of, outer_of};
 ghost use Rattle.value_text.specs.declared.stop.Stop.TheVariants.{NoMemory};
 
 use crate::scan::value_at;
@@ -28,20 +28,50 @@ pub(crate) fn judge(alloc: Global, registry: &Registry, text: &str) -> Result<Ve
 {
     let mut tokens = Vec::new(alloc);
     let mut outer = Vec::new(alloc);
+    push_tokens(alloc, registry, text.as_bytes(), &mut outer, &mut tokens)?;
+    Ok(tokens)
+}
+
+/// The tokens of a value and of what encloses it, behind those that are there.
+fn push_tokens(
+    alloc: Global,
+    registry: &Registry,
+    bytes: &[u8],
+    outer: &mut Vec<Bracket>,
+    tokens: &mut Vec<Placed>,
+) -> Result<(), Stop>
+    requires { IsSound registry.now }
+    ensures { Scans (λ _. all_placed tokens.new.items) result
+        (with_tokens (all_placed tokens.old.items) (tokens_at (suc (length bytes.now)) registry.now value (outer_of outer.old.items) bytes.now)) }
+{
     let mut awaited = Awaited::Value;
-    let mut rest = text.as_bytes();
-    for _ in 0..text.len() + 1 {
-        if is_whole(awaited, &outer, rest) {
-            return Ok(tokens);
+    let mut rest = bytes;
+    for _ in 0..bytes.len() + 1 {
+        if is_whole(awaited, outer, rest) {
+            return Ok(());
         }
-        let left = rest.len();
-        let (token, behind) = token_at(alloc, registry, awaited, &outer, rest)?;
+        let (token, behind) = token_at(alloc, registry, awaited, outer, rest)?;
         awaited = behind_of(&token);
-        open_or_close(&mut outer, &token)?;
-        tokens.push(Placed { left, token })?;
+        push_token(rest.len(), token, outer, tokens)?;
         rest = behind;
     }
     Err(Stop::Bad(0))
+}
+
+/// One more token, and the brackets that are open behind it.
+fn push_token(
+    left: usize,
+    token: Token,
+    outer: &mut Vec<Bracket>,
+    tokens: &mut Vec<Placed>,
+) -> Result<(), Stop>
+    ensures opened { OnOk result (outer_of outer.new.items ≡ opened (token_of token) (outer_of outer.old.items)) }
+    ensures pushed { OnOk result (all_placed tokens.new.items ≡ all_placed tokens.old.items ++ record { left = left; token = token_of token } ∷ []) }
+    ensures error { IfErr result (λ e. e ≡ NoMemory) }
+{
+    let opened = open_or_close(outer, &token);
+    tokens.push(Placed { left, token })?;
+    opened
 }
 
 fn is_whole(awaited: Awaited, outer: &[Bracket], rest: &[u8]) -> bool

@@ -20,7 +20,7 @@ use uno_types::{Registry, TypeName};
 use uno_values::Value;
 
 /// Why a text is not read, with the place of a byte.
-#[derive(Clone, Copy, Debug, PartialEq, Eq, Hash)]
+#[derive(Clone, Copy, Debug, PartialEq, Eq)]
 pub enum TextError {
     NoMemory,
     /// The first byte at which no literal's shape goes on.

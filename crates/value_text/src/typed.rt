@@ -9,7 +9,7 @@ ghost use Rattle.uno_model.specs.Values.{plains};
 ghost use Rattle.uno_types.specs.TypeNames.{kind_of};
 ghost use Rattle.uno_values.specs.Values.{plain_of};
 ghost use Rattle.value_text.specs.Scanning.{all_placed};
-ghost use Rattle.value_text.specs.Typing.{Gives, kinds_at};
+ghost use Rattle.value_text.specs.Typing.{Gives, kinds_at, with_firsts};
 ghost use Rattle.value_text.specs.declared.misread.Misread.TheVariants.{NoMemory};
 
 mod bytes;
@@ -115,11 +115,12 @@ fn held_by<'a>(
     ensures { Gives (λ x. (plain_of x.0, all_placed x.1.now)) result (held_by (value_within inner registry.now) (kind_of kind.now) (all_placed tokens.now)) }
 {
     if is_void(kind) {
-        return Ok((any_value(alloc, TypeName::Void, Value::Void)?, tokens));
+        let any = any_value(alloc, kind, Value::Void)?;
+        return Ok((any, tokens));
     }
-    let own = kind.copy(alloc)?;
     let (value, rest) = value_within(alloc, registry, inner, kind, tokens)?;
-    Ok((any_value(alloc, own, value)?, rest))
+    let any = any_value(alloc, kind, value)?;
+    Ok((any, rest))
 }
 
 fn is_void(kind: &TypeName) -> bool
@@ -128,11 +129,16 @@ fn is_void(kind: &TypeName) -> bool
     matches!(kind, TypeName::Void)
 }
 
-fn any_value(alloc: Global, kind: TypeName, value: Value) -> Result<Value, Misread>
-    ensures any { IfOk result (λ any. plain_of any ≡ plain.any (kind_of kind) (plain_of value)) }
+fn any_value(alloc: Global, kind: &TypeName, value: Value) -> Result<Value, Misread>
+    ensures any { IfOk result (λ any. plain_of any ≡ plain.any (kind_of kind.now) (plain_of value)) }
     ensures error { IfErr result (λ e. e ≡ NoMemory) }
 {
-    Ok(Value::Any(Box::new(alloc, AnyValue { kind, value })?))
+    let Ok(kind) = kind.copy(alloc) else {
+        drop(value);
+        return Err(Misread::NoMemory);
+    };
+    let any = Box::new(alloc, AnyValue { kind, value })?;
+    Ok(Value::Any(any))
 }
 
 /// Elements in square brackets; those of a sequence of bytes are kept as bytes.
@@ -152,7 +158,16 @@ fn sequence_of<'a>(
         return Ok((Value::Bytes(bytes), rest));
     }
     let (elements, rest) = elements_of(alloc, registry, inner, element, tokens)?;
-    Ok((Value::List(element.copy(alloc)?, elements), rest))
+    let list = list_value(alloc, element, elements)?;
+    Ok((list, rest))
+}
+
+fn list_value(alloc: Global, element: &TypeName, elements: Vec<Value>) -> Result<Value, Misread>
+    ensures list { IfOk result (λ list. plain_of list ≡ plain.list (kind_of element.now) (plains (map plain_of elements.items))) }
+    ensures error { IfErr result (λ e. e ≡ NoMemory) }
+{
+    let element = element.copy(alloc)?;
+    Ok(Value::List(element, elements))
 }
 
 #[cycle(typed)]
@@ -170,13 +185,15 @@ fn elements_of<'a>(
     let Some((first, behind)) = rest.split_first() else {
         return Err(Misread::Misfit(left));
     };
+    let mut elements = Vec::new(alloc);
     if is_mark(Mark::ClosesSquare, &first.token) {
-        return Ok((Vec::new(alloc), behind));
+        return Ok((elements, behind));
     }
-    elements_on(alloc, registry, inner, element, left, rest)
+    let rest = elements_on(alloc, registry, inner, element, left, rest, &mut elements)?;
+    Ok((elements, rest))
 }
 
-/// The elements from the first one on. There are no more of them than tokens.
+/// The elements from the first one on, behind those that are there. There are no more of them than tokens.
 #[cycle(typed)]
 fn elements_on<'a>(
     alloc: Global,
@@ -185,10 +202,11 @@ fn elements_on<'a>(
     element: &TypeName,
     left: usize,
     tokens: &'a [Placed],
-) -> Result<(Vec<Value>, &'a [Placed]), Misread>
-    ensures { Gives (λ x. (map plain_of x.0.items, all_placed x.1.now)) result (elements_on (length (all_placed tokens.now)) left (value_within inner registry.now (kind_of element.now)) (all_placed tokens.now)) }
+    elements: &mut Vec<Value>,
+) -> Result<&'a [Placed], Misread>
+    ensures { Gives (λ rest. (map plain_of elements.new.items, all_placed rest.now)) result
+        (with_firsts (map plain_of elements.old.items) (elements_on (length (all_placed tokens.now)) left (value_within inner registry.now (kind_of element.now)) (all_placed tokens.now))) }
 {
-    let mut elements = Vec::new(alloc);
     let mut rest = tokens;
     for _ in 0..tokens.len() {
         let (value, behind) = value_within(alloc, registry, inner, element, rest)?;
@@ -197,7 +215,7 @@ fn elements_on<'a>(
             return Err(Misread::Misfit(left));
         };
         if is_mark(Mark::ClosesSquare, &next.token) {
-            return Ok((elements, after));
+            return Ok(after);
         }
         if !is_mark(Mark::Comma, &next.token) {
             return Err(Misread::Misfit(left));
@@ -222,10 +240,21 @@ fn tuple_of<'a>(
     let left = left_at(tokens);
     let rest = expect(left, Mark::OpensCurly, tokens)?;
     let fields = registry.members(alloc, name.as_str())?;
-    let (members, rest) = members_on(alloc, registry, inner, &fields, left, rest)?;
-    Ok((Value::Tuple(name.copy(alloc)?, members), rest))
+    let mut members = Vec::new(alloc);
+    let rest = members_on(alloc, registry, inner, &fields, left, rest, &mut members)?;
+    let tuple = tuple_value(alloc, name, members)?;
+    Ok((tuple, rest))
 }
 
+fn tuple_value(alloc: Global, name: &Name, members: Vec<Value>) -> Result<Value, Misread>
+    ensures tuple { IfOk result (λ tuple. plain_of tuple ≡ plain.tuple name.now (plains (map plain_of members.items))) }
+    ensures error { IfErr result (λ e. e ≡ NoMemory) }
+{
+    let name = name.copy(alloc)?;
+    Ok(Value::Tuple(name, members))
+}
+
+/// The members of these fields and the bracket behind them, behind those that are there.
 #[cycle(typed)]
 fn members_on<'a>(
     alloc: Global,
@@ -234,10 +263,11 @@ fn members_on<'a>(
     fields: &[&Field],
     left: usize,
     tokens: &'a [Placed],
-) -> Result<(Vec<Value>, &'a [Placed]), Misread>
-    ensures { Gives (λ x. (map plain_of x.0.items, all_placed x.1.now)) result (members_on (value_within inner registry.now) left true (kinds_at fields.now) (all_placed tokens.now)) }
+    members: &mut Vec<Value>,
+) -> Result<&'a [Placed], Misread>
+    ensures { Gives (λ rest. (map plain_of members.new.items, all_placed rest.now)) result
+        (with_firsts (map plain_of members.old.items) (members_on (value_within inner registry.now) left true (kinds_at fields.now) (all_placed tokens.now))) }
 {
-    let mut members = Vec::new(alloc);
     let mut rest = tokens;
     let mut is_first = true;
     for field in fields {
@@ -248,5 +278,5 @@ fn members_on<'a>(
         rest = behind;
     }
     let rest = expect(left, Mark::ClosesCurly, rest)?;
-    Ok((members, rest))
+    Ok(rest)
 }

@@ -16,7 +16,7 @@ pub enum First {
 }
 
 /// Why a body is no request.
-#[derive(Clone, Copy, Debug, PartialEq, Eq, Hash)]
+#[derive(Clone, Copy, Debug, PartialEq, Eq)]
 pub enum FirstError {
     NoMemory,
     /// The body is of neither form.

@@ -44,11 +44,9 @@ pub(crate) fn read_opening(first: u8, bytes: &[u8]) -> Result<(Opening, &[u8]), 
         return Ok((short(first as u16), bytes));
     }
     if first < REPLY {
-        let (opening, rest) = two_byte_opening(first, bytes)?;
-        return Ok((opening, rest));
+        return two_byte_opening(first, bytes);
     }
-    let (opening, rest) = long_opening(first, bytes)?;
-    Ok((opening, rest))
+    long_opening(first, bytes)
 }
 
 /// A short header, in which nothing is new.
@@ -115,8 +113,7 @@ fn function(is_wide: bool, bytes: &[u8]) -> Result<(u16, &[u8]), WireError>
     ensures { Gives (λ x. (x.0, x.1.now)) result (function_at is_wide bytes.now) }
 {
     if is_wide {
-        let (function, rest) = read_two_bytes(bytes)?;
-        return Ok((function, rest));
+        return read_two_bytes(bytes);
     }
     let (function, rest) = read_byte(bytes)?;
     Ok((function as u16, rest))

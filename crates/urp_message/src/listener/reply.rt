@@ -1,19 +1,21 @@
 //! Replies (URP specification, messages).
-ghost use Rattle.std.specs.Prelude.{◌≡◌, ◌&&◌, not, IfOk, option_map, Some};
-ghost use Rattle.message_model.specs.Calls.{numbered, may_raise, waiting};
-ghost use Rattle.message_model.specs.ReadingMessages.{returned_at, exception_at, raised_at, answer_at, awaited, reply_at};
+ghost use Rattle.std.specs.Prelude.{◌≡◌, IfOk, option_map, Some};
+ghost use Rattle.message_model.specs.Calls.{numbered, waiting};
+ghost use Rattle.message_model.specs.Messages as plain;
+ghost use Rattle.message_model.specs.ReadingMessages.{new_or_last_at, returned_at, raised_at, answer_at, awaited, hearing_tid, reply_at};
 ghost use Rattle.type_registry.specs.Functions.{function_of};
 ghost use Rattle.uno_model.specs.Sound.{IsSound};
 ghost use Rattle.uno_types.specs.TypeNames.{kind_of};
 ghost use Rattle.urp_message.specs.Messages.{message_of, answer_of, heard_of, last_of};
-ghost use Rattle.urp_message.specs.Waiting.{awaited_of};
+ghost use Rattle.urp_message.specs.Waiting.{awaited_of, answered_at, misplaced};
+ghost use Rattle.urp_model.specs.ReadingNames.{tid_at};
 ghost use Rattle.urp_wire.specs.Gives.{Gives, tables_of};
 
 use super::target::thread_named;
-use super::values::{MOST_LEVELS, values};
+use super::values::{MOST_LEVELS, carried};
 use crate::flags::{EXCEPTION, NEW_TID, has};
 use crate::last::{Heard, Last};
-use crate::params::{Phase, kinds};
+use crate::params::Phase;
 use crate::raising::may_raise;
 use crate::{Answer, Expects, Message};
 use std::alloc::Global;
@@ -21,7 +23,7 @@ use type_registry::{Function, function_numbered};
 use uno_base::NoMemory;
 use uno_types::{Name, Registry, Tid, TypeName};
 use uno_values::AnyValue;
-use urp_cache::ReadCaches;
+use urp_cache::{ReadCache, ReadCaches};
 use urp_wire::{Reason, WireError, read_kind, read_value_within};
 
 /// A call that waits: its interface, its number, and the function that it calls.
@@ -32,7 +34,15 @@ pub(crate) struct Awaited {
     pub(crate) function: Function,
 }
 
-/// A reply with these flags, and the bytes behind it.
+/// The answer to a call that waited: its interface and its number.
+#[derive(Drop)]
+pub(crate) struct Answered {
+    pub(crate) face: Name,
+    pub(crate) number: u16,
+    pub(crate) answer: Answer,
+}
+
+/// A reply with these flags, and the bytes behind it. The last type and object are still those of a request.
 #[tactic(auto, unfolding(message_model::specs::ReadingMessages::reply_at))]
 pub(crate) fn reply<'a, E: Expects>(
     alloc: Global,
@@ -45,40 +55,100 @@ pub(crate) fn reply<'a, E: Expects>(
     requires { IsSound registry.now }
     ensures { Gives (λ x. (message_of x.0, heard_of heard.new, x.1.now)) result (reply_at registry.now (E.calls expect.now) (heard_of heard.old) flags bytes.now) }
 {
-    let (tid, rest) = thread_named(
+    let (tid, rest) = thread_of_reply(
         alloc,
         has(NEW_TID, flags),
-        &heard.last.tid,
+        &mut heard.last,
         &mut heard.caches.tids,
         bytes,
     )?;
+    let (answered, rest) = answer_awaited(
+        alloc,
+        registry,
+        heard,
+        expect,
+        &tid,
+        has(EXCEPTION, flags),
+        rest,
+    )?;
+    Ok((reply_of(tid, answered), rest))
+}
+
+/// The thread of a reply, which is the last one from now on; the last type and object are still those of a request.
+fn thread_of_reply<'a>(
+    alloc: Global,
+    is_new: bool,
+    last: &mut Last,
+    tids: &mut ReadCache,
+    bytes: &'a [u8],
+) -> Result<(Tid, &'a [u8]), WireError>
+    ensures named { Gives (λ x. (x.0, tids.new, x.1.now)) result (new_or_last_at is_new last.old.tid tid_at tids.old bytes.now) }
+    ensures tid { IfOk result (λ x. last.new.tid ≡ Some x.0) }
+    ensures kind { last.new.kind ≡ last.old.kind }
+    ensures oid { last.new.oid ≡ last.old.oid }
+{
+    let (tid, rest) = thread_named(alloc, is_new, &mut last.tid, tids, bytes)?;
+    Ok((tid, rest))
+}
+
+/// A reply on a thread.
+fn reply_of(tid: Tid, answered: Answered) -> Message
+    ensures { message_of result ≡ plain.reply tid answered.face answered.number (answer_of answered.answer) }
+{
+    let Answered {
+        face,
+        number,
+        answer,
+    } = answered;
+    Message::Reply {
+        tid,
+        face,
+        function: number,
+        answer,
+    }
+}
+
+/// The answer to the call for which a thread waits.
+fn answer_awaited<'a, E: Expects>(
+    alloc: Global,
+    registry: &Registry,
+    heard: &mut Heard,
+    expect: &E,
+    tid: &Tid,
+    is_raised: bool,
+    bytes: &'a [u8],
+) -> Result<(Answered, &'a [u8]), WireError>
+    requires { IsSound registry.now }
+    ensures answer { Gives (λ x. (plain.reply tid.now x.0.face x.0.number (answer_of x.0.answer), hearing_tid (heard_of heard.old) tid.now (tables_of heard.new.caches), x.1.now)) result
+        (answered_at registry.now (E.calls expect.now) (heard_of heard.old) tid.now is_raised bytes.now) }
+    ensures last { last_of heard.new.last ≡ last_of heard.old.last }
+{
     let Some(call) = call_awaited(alloc, registry, expect, tid.as_bytes())? else {
         return Err(WireError::Bad(Reason::NobodyWaits));
     };
-    let last = tid.copy(alloc)?;
-    let (answer, rest) = answer(
+    let Awaited {
+        face,
+        number,
+        function,
+    } = call;
+    let read = answer(
         alloc,
         registry,
-        has(EXCEPTION, flags),
-        &call.function,
+        is_raised,
+        &function,
         &mut heard.caches,
+        bytes,
+    );
+    drop(function);
+    let (answer, rest) = read?;
+    Ok((
+        Answered {
+            face,
+            number,
+            answer,
+        },
         rest,
-    )?;
-    remember(&mut heard.last, last);
-    let message = Message::Reply {
-        tid,
-        face: call.face,
-        function: call.number,
-        answer,
-    };
-    Ok((message, rest))
-}
-
-/// The thread of a reply is the last one from now on; the last type and object are still those of a request.
-fn remember(last: &mut Last, tid: Tid)
-    ensures { last_of last.new ≡ record { kind = (last_of last.old).kind; oid = (last_of last.old).oid; tid = Some tid } }
-{
-    last.tid = Some(tid);
+    ))
 }
 
 /// The call for which a thread waits.
@@ -94,10 +164,10 @@ fn call_awaited<E: Expects>(
     let Some((face, number)) = expect.waits(tid) else {
         return Ok(None);
     };
+    let face = face.copy(alloc)?;
     let Some(function) = function_numbered(alloc, registry, face.as_str(), number)? else {
         return Ok(None);
     };
-    let face = face.copy(alloc)?;
     Ok(Some(Awaited {
         face,
         number,
@@ -119,11 +189,9 @@ fn answer<'a>(
     ensures { Gives (λ x. (answer_of x.0, tables_of caches.new, x.1.now)) result (answer_at is_raised registry.now (function_of function.now) (tables_of caches.old) bytes.now) }
 {
     if is_raised {
-        let (answer, rest) = raised(alloc, registry, function, caches, bytes)?;
-        return Ok((answer, rest));
+        return raised(alloc, registry, function, caches, bytes);
     }
-    let (answer, rest) = returned(alloc, registry, function, caches, bytes)?;
-    Ok((answer, rest))
+    returned(alloc, registry, function, caches, bytes)
 }
 
 /// The result, and the values of the parameters that come back.
@@ -146,12 +214,23 @@ fn returned<'a>(
         MOST_LEVELS,
         bytes,
     )?;
-    let kinds = kinds(alloc, Phase::Reply, &function.params)?;
-    let (outs, rest) = values(alloc, registry, caches, &kinds, rest)?;
-    Ok((Answer::Returned { value, outs }, rest))
+    match carried(
+        alloc,
+        registry,
+        Phase::Reply,
+        &function.params,
+        caches,
+        rest,
+    ) {
+        Ok((outs, rest)) => Ok((Answer::Returned { value, outs }, rest)),
+        Err(error) => {
+            drop(value);
+            Err(error)
+        }
+    }
 }
 
-/// An exception in an any, of which the type is judged before its value is read.
+/// An exception in an any, one level further in. Its type is judged before its value is read.
 #[tactic(auto, unfolding(message_model::specs::ReadingMessages::raised_at))]
 fn raised<'a>(
     alloc: Global,
@@ -164,29 +243,29 @@ fn raised<'a>(
     ensures { Gives (λ x. (answer_of x.0, tables_of caches.new, x.1.now)) result (raised_at registry.now (function_of function.now) (tables_of caches.old) bytes.now) }
 {
     let (kind, rest) = read_kind(alloc, registry, &mut caches.types, bytes)?;
-    if matches!(kind, TypeName::Any) {
-        return Err(WireError::Bad(Reason::BadAny));
+    if let Some(reason) = misplaced(registry, function, &kind) {
+        drop(kind);
+        return Err(WireError::Bad(reason));
     }
-    let (answer, rest) = exception(alloc, registry, function, kind, caches, rest)?;
-    Ok((answer, rest))
+    match read_value_within(alloc, registry, caches, &kind, MOST_LEVELS - 1, rest) {
+        Ok((value, rest)) => Ok((Answer::Raised(AnyValue { kind, value }), rest)),
+        Err(error) => {
+            drop(kind);
+            Err(error)
+        }
+    }
 }
 
-/// The exception of a type, one level further in.
-#[tactic(auto, unfolding(message_model::specs::ReadingMessages::exception_at))]
-fn exception<'a>(
-    alloc: Global,
-    registry: &Registry,
-    function: &Function,
-    kind: TypeName,
-    caches: &mut ReadCaches,
-    bytes: &'a [u8],
-) -> Result<(Answer, &'a [u8]), WireError>
+/// Why a type is none of an exception that the function may raise. An any holds no any, and that is judged first.
+fn misplaced(registry: &Registry, function: &Function, kind: &TypeName) -> Option<Reason>
     requires { IsSound registry.now }
-    ensures { Gives (λ x. (answer_of x.0, tables_of caches.new, x.1.now)) result (exception_at registry.now (function_of function.now) (kind_of kind) (tables_of caches.old) bytes.now) }
+    ensures { result ≡ misplaced registry.now (function_of function.now) (kind_of kind.now) }
 {
-    if !may_raise(registry, function, &kind) {
-        return Err(WireError::Bad(Reason::BadException));
+    if matches!(kind, TypeName::Any) {
+        return Some(Reason::BadAny);
     }
-    let (value, rest) = read_value_within(alloc, registry, caches, &kind, MOST_LEVELS - 1, bytes)?;
-    Ok((Answer::Raised(AnyValue { kind, value }), rest))
+    if !may_raise(registry, function, kind) {
+        return Some(Reason::BadException);
+    }
+    None
 }

@@ -1,23 +1,27 @@
 //! Requests: calls and releases (URP specification, messages).
-ghost use Rattle.std.specs.Prelude.{◌≡◌, ◌&&◌, not};
-ghost use Rattle.message_model.specs.ReadingMessages.{release_at, arguments_at, call_at, asked_at, request_at};
-ghost use Rattle.type_registry.specs.Functions.{function_of};
-ghost use Rattle.uno_model.specs.Kinds as kd;
+ghost use Rattle.std.specs.Prelude.{◌≡◌, ◌&&◌, not, map, IfOk};
+ghost use Rattle.message_model.specs.Headers as header;
+ghost use Rattle.message_model.specs.Messages.{request};
+ghost use Rattle.message_model.specs.ReadingMessages.{face_of, release_at, call_at, asked_at, request_at};
 ghost use Rattle.uno_model.specs.Sound.{IsSound};
 ghost use Rattle.uno_types.specs.TypeNames.{kind_of};
-ghost use Rattle.urp_message.specs.Headers.{opening_of, called_of};
+ghost use Rattle.uno_values.specs.Values.{plain_of};
+ghost use Rattle.urp_message.specs.Headers.{opening_of, target_of, called_of};
 ghost use Rattle.urp_message.specs.Messages.{message_of, heard_of};
+ghost use Rattle.urp_model.specs.Parts.{judged};
+ghost use Rattle.urp_model.specs.declared.reason.Reason.TheVariants.{NotInterface};
 ghost use Rattle.urp_wire.specs.Gives.{Gives};
 
 use super::opening::{Opening, read_opening};
 use super::target::{Target, read_target};
-use super::values::values;
+use super::values::carried;
 use crate::Message;
 use crate::last::Heard;
-use crate::params::{Phase, kinds};
+use crate::params::Phase;
 use std::alloc::Global;
 use type_registry::{Function, function_numbered};
 use uno_types::{Name, Registry, Text, Tid, TypeName};
+use uno_values::Value;
 use urp_wire::{Reason, WireError};
 
 /// The functions that are no calls like others.
@@ -47,13 +51,20 @@ pub(crate) fn request<'a>(
 {
     let (opening, rest) = read_opening(first, bytes)?;
     let (target, rest) = read_target(alloc, registry, &opening, heard, rest)?;
+    let called = called_in(target)?;
+    asked(alloc, registry, &opening, called, heard, rest)
+}
+
+/// What a header names, where its type is an interface.
+fn called_in(target: Target) -> Result<Called, WireError>
+    ensures face { Gives (λ called. called.face) result (judged NotInterface (face_of (kind_of target.kind))) }
+    ensures same { IfOk result (λ called. called_of called ≡ target_of target) }
+{
     let Target { kind, oid, tid } = target;
     let TypeName::Interface(face) = kind else {
         return Err(WireError::Bad(Reason::NotInterface));
     };
-    let called = Called { tid, oid, face };
-    let (message, rest) = asked(alloc, registry, &opening, called, heard, rest)?;
-    Ok((message, rest))
+    Ok(Called { tid, oid, face })
 }
 
 /// What stands behind the header of a request.
@@ -75,8 +86,7 @@ fn asked<'a>(
     if opening.function == ACQUIRE {
         return Err(WireError::Bad(Reason::Acquire));
     }
-    let (message, rest) = call(alloc, registry, opening, called, heard, bytes)?;
-    Ok((message, rest))
+    call(alloc, registry, opening, called, heard, bytes)
 }
 
 /// A release, which is never sent as one that has an answer.
@@ -91,8 +101,7 @@ fn release(answered: bool, called: Called, bytes: &[u8]) -> Result<(Message, &[u
     Ok((Message::Release { tid, oid, face }, bytes))
 }
 
-/// A call of a function of the interface; a one-way one is sent as one that has an answer.
-#[tactic(auto, unfolding(message_model::specs::ReadingMessages::call_at, message_model::specs::Calls::numbered))]
+/// A call of a function of the interface.
 fn call<'a>(
     alloc: Global,
     registry: &Registry,
@@ -104,23 +113,57 @@ fn call<'a>(
     requires { IsSound registry.now }
     ensures { Gives (λ x. (message_of x.0, heard_of heard.new, x.1.now)) result (call_at registry.now (opening_of opening.now) called.face (called_of called) (heard_of heard.old) bytes.now) }
 {
-    let function = function_numbered(alloc, registry, called.face.as_str(), opening.function)?;
-    let Some(function) = function else {
+    let (args, rest) = arguments(alloc, registry, opening, &called.face, heard, bytes)?;
+    Ok((request_of(called, opening.function, args), rest))
+}
+
+/// A call of a function with these arguments.
+fn request_of(called: Called, function: u16, args: Vec<Value>) -> Message
+    ensures { message_of result ≡ request called.tid called.oid called.face function (map plain_of args.items) }
+{
+    let Called { tid, oid, face } = called;
+    Message::Request {
+        tid,
+        oid,
+        face,
+        function,
+        args,
+    }
+}
+
+/// The arguments of a call of a function of the interface, whatever its object and its thread; a one-way one is sent as one that
+/// has an answer.
+#[tactic(auto, unfolding(message_model::specs::ReadingMessages::call_at, message_model::specs::ReadingMessages::arguments_at, message_model::specs::Calls::numbered))]
+fn arguments<'a>(
+    alloc: Global,
+    registry: &Registry,
+    opening: &Opening,
+    face: &Name,
+    heard: &mut Heard,
+    bytes: &'a [u8],
+) -> Result<(Vec<Value>, &'a [u8]), WireError>
+    requires { IsSound registry.now }
+    ensures { (target : header.Target) → Gives (λ x. (request target.tid target.oid face.now opening.now.function (map plain_of x.0.items), heard_of heard.new, x.1.now)) result
+        (call_at registry.now (opening_of opening.now) face.now target (heard_of heard.old) bytes.now) }
+{
+    let Some(function) = function_numbered(alloc, registry, face.as_str(), opening.function)? else {
         return Err(WireError::Bad(Reason::UnknownFunction));
     };
     if lacks_answer(&function, opening) {
+        drop(function);
         return Err(WireError::Bad(Reason::OneWay));
     }
-    let (message, rest) = arguments(
+    let read = carried(
         alloc,
         registry,
-        &function,
-        opening.function,
-        called,
-        heard,
+        Phase::Request,
+        &function.params,
+        &mut heard.caches,
         bytes,
-    )?;
-    Ok((message, rest))
+    );
+    drop(function);
+    let (args, rest) = read?;
+    Ok((args, rest))
 }
 
 /// Whether a function is one-way and its call is not sent as one that has an answer.
@@ -128,31 +171,4 @@ fn lacks_answer(function: &Function, opening: &Opening) -> bool
     ensures { result ≡ function.now.oneway && not opening.now.answered }
 {
     function.oneway && !opening.answered
-}
-
-/// The arguments of a call.
-#[tactic(auto, unfolding(message_model::specs::ReadingMessages::arguments_at))]
-fn arguments<'a>(
-    alloc: Global,
-    registry: &Registry,
-    function: &Function,
-    number: u16,
-    called: Called,
-    heard: &mut Heard,
-    bytes: &'a [u8],
-) -> Result<(Message, &'a [u8]), WireError>
-    requires { IsSound registry.now }
-    ensures { Gives (λ x. (message_of x.0, heard_of heard.new, x.1.now)) result (arguments_at registry.now (function_of function.now) called.face number (called_of called) (heard_of heard.old) bytes.now) }
-{
-    let kinds = kinds(alloc, Phase::Request, &function.params)?;
-    let (args, rest) = values(alloc, registry, &mut heard.caches, &kinds, bytes)?;
-    let Called { tid, oid, face } = called;
-    let message = Message::Request {
-        tid,
-        oid,
-        face,
-        function: number,
-        args,
-    };
-    Ok((message, rest))
 }

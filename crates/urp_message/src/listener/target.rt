@@ -5,14 +5,15 @@ ghost use Rattle.message_model.specs.ReadingMessages.{new_or_last_at, oid_text_a
 ghost use Rattle.uno_model.specs.Sound.{IsSound};
 ghost use Rattle.uno_types.specs.TypeNames.{kind_of};
 ghost use Rattle.urp_message.specs.Headers.{opening_of, target_of};
-ghost use Rattle.urp_message.specs.Messages.{heard_of, last_of};
+ghost use Rattle.urp_message.specs.Messages.{heard_of};
+ghost use Rattle.urp_model.specs.Parts.{judged};
 ghost use Rattle.urp_model.specs.ReadingNames.{kind_at, tid_at};
+ghost use Rattle.urp_model.specs.declared.reason.Reason.TheVariants.{NoLast};
 ghost use Rattle.urp_wire.specs.Gives.{Gives};
 
 use super::opening::Opening;
-use crate::last::{Heard, Last};
+use crate::last::{Heard, remember};
 use std::alloc::Global;
-use uno_base::NoMemory;
 use uno_types::{Registry, Text, Tid, TypeName};
 use urp_cache::ReadCache;
 use urp_wire::{Reason, WireError, read_kind, read_oid, read_tid};
@@ -41,79 +42,77 @@ pub(crate) fn read_target<'a>(
         alloc,
         registry,
         opening.new_type,
-        &heard.last.kind,
+        &mut heard.last.kind,
         &mut heard.caches.types,
         bytes,
     )?;
     let (oid, rest) = object_named(
         alloc,
         opening.new_oid,
-        &heard.last.oid,
+        &mut heard.last.oid,
         &mut heard.caches.oids,
         rest,
     )?;
     let (tid, rest) = thread_named(
         alloc,
         opening.new_tid,
-        &heard.last.tid,
+        &mut heard.last.tid,
         &mut heard.caches.tids,
         rest,
     )?;
-    let target = Target { kind, oid, tid };
-    heard.last = remembered(alloc, &target)?;
-    Ok((target, rest))
+    Ok((Target { kind, oid, tid }, rest))
 }
 
-fn remembered(alloc: Global, target: &Target) -> Result<Last, NoMemory>
-    ensures { IfOk result (λ last. last_of last ≡ record { kind = Some (kind_of target.now.kind); oid = Some target.now.oid; tid = Some target.now.tid }) }
-{
-    let kind = target.kind.copy(alloc)?;
-    let oid = target.oid.copy(alloc)?;
-    let tid = target.tid.copy(alloc)?;
-    Ok(Last {
-        kind: Some(kind),
-        oid: Some(oid),
-        tid: Some(tid),
-    })
-}
-
-/// The type of a header.
+/// The type of a header, which is the last one from now on.
 #[tactic(auto, unfolding(message_model::specs::ReadingMessages::new_or_last_at))]
 fn type_named<'a>(
     alloc: Global,
     registry: &Registry,
     is_new: bool,
-    last: &Option<TypeName>,
+    last: &mut Option<TypeName>,
     types: &mut ReadCache,
     bytes: &'a [u8],
 ) -> Result<(TypeName, &'a [u8]), WireError>
     requires { IsSound registry.now }
-    ensures { Gives (λ x. (kind_of x.0, types.new, x.1.now)) result (new_or_last_at is_new (option_map kind_of last.now) (kind_at registry.now) types.old bytes.now) }
+    ensures named { Gives (λ x. (kind_of x.0, types.new, x.1.now)) result (new_or_last_at is_new (option_map kind_of last.old) (kind_at registry.now) types.old bytes.now) }
+    ensures last { IfOk result (λ x. option_map kind_of last.new ≡ Some (kind_of x.0)) }
 {
     if is_new {
         let (kind, rest) = read_kind(alloc, registry, types, bytes)?;
+        remember(last, Some(kind));
+        let kind = last_type(alloc, last)?;
         return Ok((kind, rest));
     }
+    let kind = last_type(alloc, last)?;
+    Ok((kind, bytes))
+}
+
+/// The last type.
+fn last_type(alloc: Global, last: &Option<TypeName>) -> Result<TypeName, WireError>
+    ensures { Gives kind_of result (judged NoLast (option_map kind_of last.now)) }
+{
     let Some(kind) = last else {
         return Err(WireError::Bad(Reason::NoLast));
     };
     let kind = kind.copy(alloc)?;
-    Ok((kind, bytes))
+    Ok(kind)
 }
 
-/// The object of a header.
+/// The object of a header, which is the last one from now on.
 #[tactic(auto, unfolding(message_model::specs::ReadingMessages::new_or_last_at))]
 fn object_named<'a>(
     alloc: Global,
     is_new: bool,
-    last: &Option<Text>,
+    last: &mut Option<Text>,
     oids: &mut ReadCache,
     bytes: &'a [u8],
 ) -> Result<(Text, &'a [u8]), WireError>
-    ensures { Gives (λ x. (x.0, oids.new, x.1.now)) result (new_or_last_at is_new last.now oid_text_at oids.old bytes.now) }
+    ensures named { Gives (λ x. (x.0, oids.new, x.1.now)) result (new_or_last_at is_new last.old oid_text_at oids.old bytes.now) }
+    ensures last { IfOk result (λ x. last.new ≡ Some x.0) }
 {
     if is_new {
         let (oid, rest) = object(alloc, oids, bytes)?;
+        remember(last, Some(oid.copy(alloc)?));
         return Ok((oid, rest));
     }
     let Some(oid) = last else {
@@ -140,19 +139,21 @@ fn object<'a>(
     Ok((oid, rest))
 }
 
-/// The thread of a header.
+/// The thread of a header, which is the last one from now on.
 #[tactic(auto, unfolding(message_model::specs::ReadingMessages::new_or_last_at))]
 pub(crate) fn thread_named<'a>(
     alloc: Global,
     is_new: bool,
-    last: &Option<Tid>,
+    last: &mut Option<Tid>,
     tids: &mut ReadCache,
     bytes: &'a [u8],
 ) -> Result<(Tid, &'a [u8]), WireError>
-    ensures { Gives (λ x. (x.0, tids.new, x.1.now)) result (new_or_last_at is_new last.now tid_at tids.old bytes.now) }
+    ensures named { Gives (λ x. (x.0, tids.new, x.1.now)) result (new_or_last_at is_new last.old tid_at tids.old bytes.now) }
+    ensures last { IfOk result (λ x. last.new ≡ Some x.0) }
 {
     if is_new {
         let (tid, rest) = read_tid(alloc, tids, bytes)?;
+        remember(last, Some(tid.copy(alloc)?));
         return Ok((tid, rest));
     }
     let Some(tid) = last else {

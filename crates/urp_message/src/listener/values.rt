@@ -1,13 +1,16 @@
 //! The values of a request or a reply, one after the other.
 ghost use Rattle.std.specs.Prelude.{◌≡◌, map};
+ghost use Rattle.message_model.specs.Calls.{kinds_on};
 ghost use Rattle.uno_model.specs.Sound.{IsSound};
+ghost use Rattle.uno_types.specs.Entities.{param_of};
 ghost use Rattle.uno_values.specs.Values.{plain_of};
-ghost use Rattle.urp_message.specs.Params.{kinds_at};
+ghost use Rattle.urp_message.specs.Params.{carries, kinds_at};
 ghost use Rattle.urp_model.specs.Reading.{members_at, value_at};
 ghost use Rattle.urp_wire.specs.Gives.{Gives, tables_of};
 
+use crate::params::{Phase, kinds};
 use std::alloc::Global;
-use uno_types::{Registry, TypeName};
+use uno_types::{Param, Registry, TypeName};
 use uno_values::Value;
 use urp_cache::ReadCaches;
 use urp_wire::{WireError, read_value_within};
@@ -15,9 +18,26 @@ use urp_wire::{WireError, read_value_within};
 /// How many levels of a value may stand in one another.
 pub(crate) const MOST_LEVELS: u32 = 64;
 
+/// The values that a request or a reply carries for these parameters, in order.
+pub(crate) fn carried<'a>(
+    alloc: Global,
+    registry: &Registry,
+    phase: Phase,
+    params: &[Param],
+    caches: &mut ReadCaches,
+    bytes: &'a [u8],
+) -> Result<(Vec<Value>, &'a [u8]), WireError>
+    requires { IsSound registry.now }
+    ensures { Gives (λ x. (map plain_of x.0.items, tables_of caches.new, x.1.now)) result
+        (members_at (value_at 64 registry.now) (kinds_on (carries phase) (map param_of params.now)) (tables_of caches.old) bytes.now) }
+{
+    let kinds = kinds(alloc, phase, params)?;
+    values(alloc, registry, caches, &kinds, bytes)
+}
+
 /// A value of each of these types.
 #[tactic(auto, unfolding(urp_model::specs::Reading::members_at))]
-pub(crate) fn values<'a>(
+fn values<'a>(
     alloc: Global,
     registry: &Registry,
     caches: &mut ReadCaches,

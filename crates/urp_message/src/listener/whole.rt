@@ -28,9 +28,7 @@ pub(crate) fn read_message<'a, E: Expects>(
 {
     let (first, rest) = read_byte(bytes)?;
     if opens_reply(first) {
-        let (message, rest) = reply(alloc, registry, heard, expect, first, rest)?;
-        return Ok((message, rest));
+        return reply(alloc, registry, heard, expect, first, rest);
     }
-    let (message, rest) = request(alloc, registry, heard, first, rest)?;
-    Ok((message, rest))
+    request(alloc, registry, heard, first, rest)
 }

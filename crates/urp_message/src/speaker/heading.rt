@@ -1,5 +1,6 @@
 //! The header of a request that is written: what of it is new, and whether it can be short (URP specification, messages).
-ghost use Rattle.std.specs.Prelude.{◌≡◌, ◌≤◌, ◌++◌, [], ◌∷◌, Some, option_map, OnOk};
+ghost use Rattle.std.specs.Prelude.{◌≡◌, ◌≤◌, ◌*◌, nat_lt, ◌++◌, [], ◌∷◌, Some, option_map, OnOk};
+ghost use Rattle.std.specs.Int.{from_bool};
 ghost use Rattle.std.specs.Str.{IsUtf8};
 ghost use Rattle.message_model.specs.WritingMessages.{is_new, is_new_face, is_long, long_flags, if_new, function_bytes, short_bytes, opening_spelling};
 ghost use Rattle.uno_types.specs.TypeNames.{kind_of};
@@ -101,7 +102,21 @@ fn is_long(heading: &Heading, last: &Last) -> bool
         || is_new_oid(heading.oid, &last.oid)
         || is_new_tid(heading.tid, &last.tid)
         || heading.answered
-        || heading.function > SHORT
+        || is_above_short(heading.function)
+}
+
+/// Whether a function is above those of a short header.
+fn is_above_short(function: u16) -> bool
+    ensures { result ≡ nat_lt 16383 function }
+{
+    function > SHORT
+}
+
+/// Whether a function is above those of one byte.
+fn is_wide(function: u16) -> bool
+    ensures { result ≡ nat_lt 255 function }
+{
+    function > ONE_BYTE
 }
 
 /// The first byte of a long header.
@@ -111,9 +126,16 @@ fn long_flags(heading: &Heading, last: &Last) -> u8
     let new_type = u8::from(is_new_face(heading.face, &last.kind)) * NEW_TYPE;
     let new_oid = u8::from(is_new_oid(heading.oid, &last.oid)) * NEW_OID;
     let new_tid = u8::from(is_new_tid(heading.tid, &last.tid)) * NEW_TID;
-    let wide = u8::from(heading.function > ONE_BYTE) * WIDE;
+    let wide = wide_flag(heading.function);
     let more = u8::from(heading.answered) * MORE;
     LONG + (new_type + (new_oid + (new_tid + (wide + more))))
+}
+
+/// The flag that says that the function has two bytes.
+fn wide_flag(function: u16) -> u8
+    ensures { result ≡ from_bool (nat_lt 255 function) * 4 }
+{
+    u8::from(is_wide(function)) * WIDE
 }
 
 /// How a request begins.
@@ -122,13 +144,11 @@ pub(crate) fn put_opening(heading: &Heading, last: &Last, to: &mut Vec<u8>) -> R
     ensures { OnOk result (to.new.items ≡ to.old.items ++ opening_spelling (heading_of heading.now) (last_of last.now)) }
 {
     if !is_long(heading, last) {
-        put_short(heading.function, to)?;
-        return Ok(());
+        return put_short(heading.function, to);
     }
     to.push(long_flags(heading, last))?;
     put_answered(heading.answered, to)?;
-    put_function(heading.function, to)?;
-    Ok(())
+    put_function(heading.function, to)
 }
 
 /// A second byte of flags, where an answer comes to a one-way call.
@@ -146,7 +166,7 @@ fn put_answered(answered: bool, to: &mut Vec<u8>) -> Result<(), NoMemory>
 fn put_function(function: u16, to: &mut Vec<u8>) -> Result<(), NoMemory>
     ensures { OnOk result (to.new.items ≡ to.old.items ++ function_bytes function) }
 {
-    if function > ONE_BYTE {
+    if is_wide(function) {
         to.extend_from_slice(&function.to_be_bytes())?;
         return Ok(());
     }

@@ -71,9 +71,8 @@ fn put_answer(
     match answer {
         Answer::Returned { value, outs } => {
             write_single(alloc, caches, value, to)?;
-            write_values(alloc, caches, outs, to)?;
-            Ok(())
+            write_values(alloc, caches, outs, to)
         }
-        Answer::Raised(exception) => Ok(write_any(alloc, caches, exception, to)?),
+        Answer::Raised(exception) => write_any(alloc, caches, exception, to),
     }
 }

@@ -33,6 +33,5 @@ pub(crate) fn put_request(
 {
     put_opening(heading, &spoken.last, to)?;
     put_target(alloc, heading, spoken, to)?;
-    write_values(alloc, &mut spoken.caches, args, to)?;
-    Ok(())
+    write_values(alloc, &mut spoken.caches, args, to)
 }

@@ -10,7 +10,7 @@ ghost use Rattle.urp_model.specs.Held.{used};
 ghost use Rattle.urp_model.specs.Writing.{kind_spelling, kind_after, name_spelling};
 
 use super::heading::{Heading, is_new_face, is_new_oid, is_new_tid};
-use crate::last::{Last, Spoken};
+use crate::last::{Last, Spoken, remember};
 use std::alloc::Global;
 use uno_base::NoMemory;
 use uno_types::{Name, Text, Tid, TypeName};
@@ -39,7 +39,7 @@ pub(crate) fn put_target(
     )?;
     put_object(heading.oid, &spoken.last.oid, &mut spoken.caches.oids, to)?;
     put_thread(heading.tid, &spoken.last.tid, &mut spoken.caches.tids, to)?;
-    spoken.last = remembered(alloc, heading)?;
+    remember(&mut spoken.last, remembered(alloc, heading)?);
     Ok(())
 }
 
@@ -72,8 +72,9 @@ fn put_face(
         return Ok(());
     }
     let kind = TypeName::Interface(face.copy(alloc)?);
-    write_kind(alloc, types, &kind, to)?;
-    Ok(())
+    let written = write_kind(alloc, types, &kind, to);
+    drop(kind);
+    written
 }
 
 /// The object.
@@ -91,8 +92,7 @@ fn put_object(
     if !is_new_oid(oid, last) {
         return Ok(());
     }
-    write_oid(oids, oid, to)?;
-    Ok(())
+    write_oid(oids, oid, to)
 }
 
 /// The thread.
@@ -109,6 +109,5 @@ pub(crate) fn put_thread(
     if !is_new_tid(tid, last) {
         return Ok(());
     }
-    write_tid(tids, tid, to)?;
-    Ok(())
+    write_tid(tids, tid, to)
 }

@@ -50,8 +50,7 @@ pub(crate) fn put_message(
                 oid,
                 face,
             };
-            put_request(alloc, &heading, args, spoken, to)?;
-            Ok(())
+            put_request(alloc, &heading, args, spoken, to)
         }
         Message::Release { tid, oid, face } => {
             let heading = Heading {
@@ -61,18 +60,14 @@ pub(crate) fn put_message(
                 oid,
                 face,
             };
-            put_request(alloc, &heading, &[], spoken, to)?;
-            Ok(())
+            put_request(alloc, &heading, &[], spoken, to)
         }
         Message::Reply {
             tid,
             face: _,
             function: _,
             answer,
-        } => {
-            put_reply(alloc, tid, answer, spoken, to)?;
-            Ok(())
-        }
+        } => put_reply(alloc, tid, answer, spoken, to),
     }
 }
 
@@ -89,7 +84,9 @@ fn is_oneway(
     let Some(function) = function_numbered(alloc, registry, face.as_str(), function)? else {
         return Ok(false);
     };
-    Ok(function.oneway)
+    let oneway = function.oneway;
+    drop(function);
+    Ok(oneway)
 }
 
 /// One message as a block of its own: the size of its body, the count of 1, and the body (URP specification, blocks).

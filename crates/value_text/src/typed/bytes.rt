@@ -2,7 +2,7 @@
 ghost use Rattle.std.specs.Prelude.{◌≡◌, length};
 ghost use Rattle.uno_model.specs.Readings.{only_token, byte_in, sequence_of, elements_in, elements_on};
 ghost use Rattle.value_text.specs.Scanning.{all_placed};
-ghost use Rattle.value_text.specs.Typing.{Gives};
+ghost use Rattle.value_text.specs.Typing.{Gives, with_firsts};
 
 use super::expect::{Mark, expect, is_mark, left_at};
 use crate::misread::Misread;
@@ -25,10 +25,12 @@ fn bytes_in(alloc: Global, left: usize, tokens: &[Placed]) -> Result<(Vec<u8>, &
     let Some((first, rest)) = tokens.split_first() else {
         return Err(Misread::Misfit(left));
     };
+    let mut bytes = Vec::new(alloc);
     if is_mark(Mark::ClosesSquare, &first.token) {
-        return Ok((Vec::new(alloc), rest));
+        return Ok((bytes, rest));
     }
-    bytes_on(alloc, left, tokens)
+    let rest = bytes_on(left, tokens, &mut bytes)?;
+    Ok((bytes, rest))
 }
 
 fn byte_at(tokens: &[Placed]) -> Result<(u8, &[Placed]), Misread>
@@ -43,11 +45,15 @@ fn byte_at(tokens: &[Placed]) -> Result<(u8, &[Placed]), Misread>
     }
 }
 
-/// The bytes from the first one on. There are no more of them than tokens.
-fn bytes_on(alloc: Global, left: usize, tokens: &[Placed]) -> Result<(Vec<u8>, &[Placed]), Misread>
-    ensures { Gives (λ x. (x.0.items, all_placed x.1.now)) result (elements_on (length (all_placed tokens.now)) left (only_token byte_in) (all_placed tokens.now)) }
+/// The bytes from the first one on, behind those that are there. There are no more of them than tokens.
+fn bytes_on<'a>(
+    left: usize,
+    tokens: &'a [Placed],
+    bytes: &mut Vec<u8>,
+) -> Result<&'a [Placed], Misread>
+    ensures { Gives (λ rest. (bytes.new.items, all_placed rest.now)) result
+        (with_firsts bytes.old.items (elements_on (length (all_placed tokens.now)) left (only_token byte_in) (all_placed tokens.now))) }
 {
-    let mut bytes = Vec::new(alloc);
     let mut rest = tokens;
     for _ in 0..tokens.len() {
         let (byte, behind) = byte_at(rest)?;
@@ -56,7 +62,7 @@ fn bytes_on(alloc: Global, left: usize, tokens: &[Placed]) -> Result<(Vec<u8>, &
             return Err(Misread::Misfit(left));
         };
         if is_mark(Mark::ClosesSquare, &next.token) {
-            return Ok((bytes, after));
+            return Ok(after);
         }
         if !is_mark(Mark::Comma, &next.token) {
             return Err(Misread::Misfit(left));

@@ -65,10 +65,10 @@ members_on-returns t c =
     let inv = rw (kinds_done c.args.fields.now c.loop-field.field-index (omega arith)) at c.loop-field.invariant in
     members_end (value_within c.args.inner c.args.registry.now) c.args.left c.loop-field.is_first (all_placed c.loop-field.rest.now) (all_placed c.in_ok-rest.rest.now) (map plain_of c.loop-field.members.items) _ c.in_ok-rest.ensures inv
 
-pub tuple_of-returns-in_err-members : goal.tuple_of-returns-in_err-members
-tuple_of-returns-in_err-members t c =
+pub tuple_of-returns-in_err-rest-2 : goal.tuple_of-returns-in_err-rest-2
+tuple_of-returns-in_err-rest-2 t c =
     let members : all_members c.args.registry.now c.as_str.result.now ≡ all_members c.args.registry.now c.args.name.now = ap (all_members c.args.registry.now) c.as_str.ensures in
     let kinds = ap kinds_at c.deref.ensures.value ∙ ap (map (λ (f : Field). f.kind)) (c.in_ok-fields.ensures ∙ members) in
-    handed_over _ c.from_residual-in_err-members.result c.in_err-members.field-0.0 _ c.from_residual-in_err-members.ensures
-    (tuple_fails c.args.registry.now (value_within c.args.inner c.args.registry.now) c.left_at-left.result c.args.name.now _ (all_placed c.args.tokens.now) (all_placed c.in_ok-rest.rest.now) c.in_err-members.field-0.0 c.left_at-left.ensures kinds
-    c.in_ok-rest.ensures c.in_err-members.ensures)
+    handed_over _ c.from_residual-in_err-rest-2.result c.in_err-rest-2.field-0.0 _ c.from_residual-in_err-rest-2.ensures
+    (tuple_fails c.args.registry.now (value_within c.args.inner c.args.registry.now) c.left_at-left.result c.args.name.now _ (all_placed c.args.tokens.now) (all_placed c.in_ok-rest.rest.now) _ c.in_err-rest-2.field-0.0 c.left_at-left.ensures kinds
+    c.in_ok-rest.ensures (ap (map plain_of) c.new-members.ensures.items) c.in_err-rest-2.ensures)

@@ -2,9 +2,8 @@ use Rattle.std.proofs.Common.{◌≡◌, ◌+◌, ◌*◌, ◌-◌, length, map,
 use Rattle.uno_model.specs.Readings.{value_within, elements_on, members_on}
 use Rattle.uno_types.specs.TypeNames.{kind_of}
 use Rattle.uno_values.specs.Values.{plain_of}
-use Rattle.value_text.proofs.TypedLemmas.{with_firsts}
 use Rattle.value_text.specs.Scanning.{all_placed}
-use Rattle.value_text.specs.Typing.{kinds_at}
+use Rattle.value_text.specs.Typing.{kinds_at, with_firsts}
 use Rattle.value_text.proofs.typed.+typed.Given as goal
 
 abbrev pub decreases-value_within : goal.decreases-value_within
@@ -37,9 +36,9 @@ decreases-members_on l = 5 * l.inner + 2
 abbrev pub invariant-elements_on-loop : goal.invariant-elements_on-loop
 invariant-elements_on-loop l =
     with_firsts (map plain_of l.elements.items) (elements_on (length l.tokens - l.counter) l.left (value_within l.inner l.registry (kind_of l.element)) (all_placed l.rest))
-    ≡ elements_on (length (all_placed l.tokens)) l.left (value_within l.inner l.registry (kind_of l.element)) (all_placed l.tokens)
+    ≡ with_firsts (map plain_of l.fn.elements.items) (elements_on (length (all_placed l.tokens)) l.left (value_within l.inner l.registry (kind_of l.element)) (all_placed l.tokens))
 
 abbrev pub invariant-members_on-loop-field : goal.invariant-members_on-loop-field
 invariant-members_on-loop-field l =
     with_firsts (map plain_of l.members.items) (members_on (value_within l.inner l.registry) l.left l.is_first (kinds_at (drop l.field-index l.fields)) (all_placed l.rest))
-    ≡ members_on (value_within l.inner l.registry) l.left true (kinds_at l.fields) (all_placed l.tokens)
+    ≡ with_firsts (map plain_of l.fn.members.items) (members_on (value_within l.inner l.registry) l.left true (kinds_at l.fields) (all_placed l.tokens))
