@@ -1,5 +1,5 @@
 -- What one level of the reading of a type's name gives.
-use Rattle.std.proofs.Common.{◌≡◌, ℕ, ◌+◌, ◌-◌, ◌<◌, Bool, true, false, List, ◌++◌, Option, None, Some}
+use Rattle.std.proofs.Common.{◌≡◌, ℕ, ◌+◌, ◌-◌, ◌<◌, Bool, true, false, List, ◌++◌, Option, None, Some, if◌then◌else◌}
 use Rattle.std.proofs.Common.{MatchOption, option_map, Result, Ok, Err, IfOk, IsTrue, refl, sym, subst, codes, arith}
 use Rattle.std.specs.List.{list_all}
 use Rattle.std.specs.Str.{bytes_eq}
@@ -56,8 +56,13 @@ not_equal a b other = by_test (bytes_eq a b) refl
     by_test true same = absurd (other ((bytes_eq-Decides a b).0 same))
     by_test false same = refl
 
+-- a word that the text is not is passed over
+passed : (text word : List ℕ) (k : Kind) (rest : Option Kind) → (text ≡ word → ⊥) → None ≡ rest → None ≡ (if bytes_eq text word then Some k else rest)
+passed text word k rest other none = rw (not_equal text word other) none
+
 -- what is none of the words names no simple type
 pub no_simple : (text : List ℕ) → (text ≡ codes "void" → ⊥) → (text ≡ codes "char" → ⊥) → (text ≡ codes "boolean" → ⊥) → (text ≡ codes "byte" → ⊥) → (text ≡ codes "short" → ⊥) → (text ≡ codes "unsigned short" → ⊥) → (text ≡ codes "long" → ⊥) → (text ≡ codes "unsigned long" → ⊥) → (text ≡ codes "hyper" → ⊥) → (text ≡ codes "unsigned hyper" → ⊥) → (text ≡ codes "string" → ⊥) → (text ≡ codes "type" → ⊥) → (text ≡ codes "any" → ⊥) → None ≡ simple_of text
 unfolding simple_of
 no_simple text a b c d e f g h i j k l m =
-    rw (not_equal text _ a, not_equal text _ b, not_equal text _ c, not_equal text _ d, not_equal text _ e, not_equal text _ f, not_equal text _ g, not_equal text _ h, not_equal text _ i, not_equal text _ j, not_equal text _ k, not_equal text _ l, not_equal text _ m) refl
+    passed text _ _ _ a (passed text _ _ _ b (passed text _ _ _ c (passed text _ _ _ d (passed text _ _ _ e (passed text _ _ _ f
+    (passed text _ _ _ g (passed text _ _ _ h (passed text _ _ _ i (passed text _ _ _ j (passed text _ _ _ k (passed text _ _ _ l (passed text _ _ _ m refl))))))))))))

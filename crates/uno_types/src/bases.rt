@@ -25,10 +25,7 @@ fn mark_name(entities: &[Entity], name: &str, search: &mut Search) -> Result<(),
     ensures { OnOk result (Spreads (entities_of entities.now) (name.now ∷ []) search.old.marks.items search.old.pending.items search.new.marks.items search.new.pending.items) }
 {
     match place_in(entities, name) {
-        Ok(place) => {
-            mark_place(place, search)?;
-            Ok(())
-        }
+        Ok(place) => mark_place(place, search),
         Err(_) => Ok(()),
     }
 }
@@ -81,8 +78,7 @@ fn mark_bases(entities: &[Entity], place: usize, search: &mut Search) -> Result<
     requires place { place < length entities.now }
     ensures { OnOk result (Spreads (entities_of entities.now) (stands_on_body (slice_get (entities_of entities.now) place)) search.old.marks.items search.old.pending.items search.new.marks.items search.new.pending.items) }
 {
-    mark_bases_of(entities, &entities[place], search)?;
-    Ok(())
+    mark_bases_of(entities, &entities[place], search)
 }
 
 /// Marks the bases of an entity.

@@ -3,7 +3,7 @@ ghost use Rattle.std.specs.Prelude.{◌≡◌, ◌∷◌, ◌++◌, [], map, IfO
 ghost use Rattle.uno_model.specs.BuiltIn.{x_interface, base_exception, create_instance, create_with_arguments, factory, built_in, query_interface, acquire, release, available_names, x_interface_name, exception_name, message_field, context_field};
 ghost use Rattle.uno_model.specs.Entities as plain;
 ghost use Rattle.uno_model.specs.Kinds as kd;
-ghost use Rattle.uno_types.specs.Entities.{entity_of, entities_of, member_of, param_of, field_of, base_of};
+ghost use Rattle.uno_types.specs.Entities.{entities_of, body_of, member_of, param_of, field_of, base_of};
 ghost use Rattle.uno_types.specs.Building.{derived, published, method_named, into_named, field_named, required_base};
 ghost use Rattle.uno_types.specs.TypeNames.{kind_of};
 
@@ -26,30 +26,33 @@ pub(crate) fn built_in_entities(alloc: Global) -> Result<Vec<Entity>, NoMemory>
     ensures { IfOk result (λ es. entities_of es.items ≡ built_in) }
 {
     let mut all = Vec::new(alloc);
-    all.push(derived_exception(alloc, DISPOSED_EXCEPTION, RUNTIME_EXCEPTION)?)?;
-    all.push(factory_entity(alloc)?)?;
-    all.push(exception_entity(alloc)?)?;
-    all.push(derived_exception(alloc, RUNTIME_EXCEPTION, EXCEPTION)?)?;
-    all.push(interface_entity(alloc)?)?;
+    push_derived_exception(alloc, &mut all, DISPOSED_EXCEPTION, RUNTIME_EXCEPTION)?;
+    push_factory(alloc, &mut all)?;
+    push_exception(alloc, &mut all)?;
+    push_derived_exception(alloc, &mut all, RUNTIME_EXCEPTION, EXCEPTION)?;
+    push_interface(alloc, &mut all)?;
     Ok(all)
 }
 
-/// The interface on which all others stand.
-fn interface_entity(alloc: Global) -> Result<Entity, NoMemory>
-    ensures { IfOk result (λ e. entity_of e ≡ x_interface) }
-{
-    let members = interface_members(alloc)?;
-    interface(alloc, X_INTERFACE, Vec::new(alloc), members)
-}
-
-fn interface_members(alloc: Global) -> Result<Vec<Member>, NoMemory>
-    ensures { IfOk result (λ ms. map member_of ms.items ≡ plain.method query_interface ∷ (plain.method acquire ∷ (plain.method release ∷ []))) }
+/// Adds the interface on which all others stand.
+fn push_interface(alloc: Global, all: &mut Vec<Entity>) -> Result<(), NoMemory>
+    ensures { OnOk result (entities_of all.new.items ≡ entities_of all.old.items ++ (x_interface ∷ [])) }
 {
     let mut members = Vec::new(alloc);
+    push_interface_members(alloc, &mut members)?;
+    let bases = Vec::new(alloc);
+    push_published(alloc, all, X_INTERFACE, Body::Interface { bases, members })
+}
+
+/// Adds its methods to a list that has none yet.
+fn push_interface_members(alloc: Global, members: &mut Vec<Member>) -> Result<(), NoMemory>
+    requires { members.old.items ≡ [] }
+    ensures { OnOk result (map member_of members.new.items ≡ plain.method query_interface ∷ (plain.method acquire ∷ (plain.method release ∷ []))) }
+{
     members.push(query_method(alloc)?)?;
     members.push(count_method(alloc, "acquire")?)?;
     members.push(count_method(alloc, "release")?)?;
-    Ok(members)
+    Ok(())
 }
 
 fn query_method(alloc: Global) -> Result<Member, NoMemory>
@@ -78,38 +81,47 @@ fn count_method(alloc: Global, name: &str) -> Result<Member, NoMemory>
     }))
 }
 
-/// The exception from which all others are derived.
-fn exception_entity(alloc: Global) -> Result<Entity, NoMemory>
-    ensures { IfOk result (λ e. entity_of e ≡ base_exception) }
+/// Adds the exception from which all others are derived.
+fn push_exception(alloc: Global, all: &mut Vec<Entity>) -> Result<(), NoMemory>
+    ensures { OnOk result (entities_of all.new.items ≡ entities_of all.old.items ++ (base_exception ∷ [])) }
 {
-    let members = exception_members(alloc)?;
-    exception(alloc, EXCEPTION, None, members)
-}
-
-fn exception_members(alloc: Global) -> Result<Vec<Field>, NoMemory>
-    ensures { IfOk result (λ fs. map field_of fs.items ≡ message_field ∷ (context_field ∷ [])) }
-{
+    let base = None;
     let mut members = Vec::new(alloc);
-    push_field(alloc, &mut members, "Message", TypeName::Str)?;
-    push_field(alloc, &mut members, "Context", root_type(alloc)?)?;
-    Ok(members)
+    push_exception_members(alloc, &mut members)?;
+    push_published(alloc, all, EXCEPTION, Body::Exception { base, members })
 }
 
-/// An exception that has what its base has.
-fn derived_exception(alloc: Global, name: &str, base: &str) -> Result<Entity, NoMemory>
-    ensures { IfOk result (λ e. entity_of e ≡ derived name.now base.now) }
+/// Adds its members to a list that has none yet.
+fn push_exception_members(alloc: Global, members: &mut Vec<Field>) -> Result<(), NoMemory>
+    requires { members.old.items ≡ [] }
+    ensures { OnOk result (map field_of members.new.items ≡ message_field ∷ (context_field ∷ [])) }
 {
-    let base = Name::of(alloc, base)?;
-    exception(alloc, name, Some(base), Vec::new(alloc))
+    push_field(alloc, members, "Message", TypeName::Str)?;
+    push_field(alloc, members, "Context", root_type(alloc)?)
 }
 
-/// The interface of what makes services.
-fn factory_entity(alloc: Global) -> Result<Entity, NoMemory>
-    ensures { IfOk result (λ e. entity_of e ≡ factory) }
+/// Adds an exception that has what its base has.
+fn push_derived_exception(
+    alloc: Global,
+    all: &mut Vec<Entity>,
+    name: &str,
+    base: &str,
+) -> Result<(), NoMemory>
+    ensures { OnOk result (entities_of all.new.items ≡ entities_of all.old.items ++ (derived name.now base.now ∷ [])) }
+{
+    let base = Some(Name::of(alloc, base)?);
+    let members = Vec::new(alloc);
+    push_published(alloc, all, name, Body::Exception { base, members })
+}
+
+/// Adds the interface of what makes services.
+fn push_factory(alloc: Global, all: &mut Vec<Entity>) -> Result<(), NoMemory>
+    ensures { OnOk result (entities_of all.new.items ≡ entities_of all.old.items ++ (factory ∷ [])) }
 {
     let bases = factory_bases(alloc)?;
-    let members = factory_members(alloc)?;
-    interface(alloc, FACTORY, bases, members)
+    let mut members = Vec::new(alloc);
+    push_factory_members(alloc, &mut members)?;
+    push_published(alloc, all, FACTORY, Body::Interface { bases, members })
 }
 
 fn factory_bases(alloc: Global) -> Result<Vec<Base>, NoMemory>
@@ -122,14 +134,15 @@ fn factory_bases(alloc: Global) -> Result<Vec<Base>, NoMemory>
     Ok(vec![in alloc; base]?)
 }
 
-fn factory_members(alloc: Global) -> Result<Vec<Member>, NoMemory>
-    ensures { IfOk result (λ ms. map member_of ms.items ≡ plain.method create_instance ∷ (plain.method create_with_arguments ∷ (plain.method available_names ∷ []))) }
+/// Adds its methods to a list that has none yet.
+fn push_factory_members(alloc: Global, members: &mut Vec<Member>) -> Result<(), NoMemory>
+    requires { members.old.items ≡ [] }
+    ensures { OnOk result (map member_of members.new.items ≡ plain.method create_instance ∷ (plain.method create_with_arguments ∷ (plain.method available_names ∷ []))) }
 {
-    let mut members = Vec::new(alloc);
     members.push(create_method(alloc)?)?;
     members.push(create_with_arguments_method(alloc)?)?;
     members.push(names_method(alloc)?)?;
-    Ok(members)
+    Ok(())
 }
 
 fn create_method(alloc: Global) -> Result<Member, NoMemory>
@@ -142,17 +155,19 @@ fn create_method(alloc: Global) -> Result<Member, NoMemory>
 fn create_with_arguments_method(alloc: Global) -> Result<Member, NoMemory>
     ensures { IfOk result (λ m. member_of m ≡ plain.method create_with_arguments) }
 {
-    let params = create_params(alloc)?;
+    let mut params = Vec::new(alloc);
+    push_create_params(alloc, &mut params)?;
     creating_method(alloc, "createInstanceWithArguments", params)
 }
 
-fn create_params(alloc: Global) -> Result<Vec<Param>, NoMemory>
-    ensures { IfOk result (λ ps. map param_of ps.items ≡ into_named (codes "ServiceSpecifier") kd.str ∷ (into_named (codes "Arguments") (kd.sequence kd.any) ∷ [])) }
+/// Adds its parameters to a list that has none yet.
+fn push_create_params(alloc: Global, params: &mut Vec<Param>) -> Result<(), NoMemory>
+    requires { params.old.items ≡ [] }
+    ensures { OnOk result (map param_of params.new.items ≡ into_named (codes "ServiceSpecifier") kd.str ∷ (into_named (codes "Arguments") (kd.sequence kd.any) ∷ [])) }
 {
-    let mut params = one_param(alloc, "ServiceSpecifier", TypeName::Str)?;
+    push_param(alloc, params, "ServiceSpecifier", TypeName::Str)?;
     let kind = TypeName::sequence(alloc, TypeName::Any)?;
-    push_param(alloc, &mut params, "Arguments", kind)?;
-    Ok(params)
+    push_param(alloc, params, "Arguments", kind)
 }
 
 /// A method that makes an object, or raises what any service may.
@@ -177,36 +192,25 @@ fn names_method(alloc: Global) -> Result<Member, NoMemory>
     )
 }
 
-/// A published interface.
-fn interface(
+/// Adds a published entity.
+fn push_published(
     alloc: Global,
+    all: &mut Vec<Entity>,
     name: &str,
-    bases: Vec<Base>,
-    members: Vec<Member>,
-) -> Result<Entity, NoMemory>
-    ensures { IfOk result (λ e. entity_of e ≡ published name.now (plain.interface (map base_of bases.items) (map member_of members.items))) }
+    body: Body,
+) -> Result<(), NoMemory>
+    ensures { OnOk result (entities_of all.new.items ≡ entities_of all.old.items ++ (published name.now (body_of body) ∷ [])) }
 {
-    Ok(Entity {
-        name: Name::of(alloc, name)?,
+    let Ok(name) = Name::of(alloc, name) else {
+        drop(body);
+        return Err(NoMemory);
+    };
+    all.push(Entity {
+        name,
         published: true,
-        body: Body::Interface { bases, members },
-    })
-}
-
-/// A published exception.
-fn exception(
-    alloc: Global,
-    name: &str,
-    base: Option<Name>,
-    members: Vec<Field>,
-) -> Result<Entity, NoMemory>
-    ensures { IfOk result (λ e. entity_of e ≡ published name.now (plain.exception base (map field_of members.items))) }
-{
-    Ok(Entity {
-        name: Name::of(alloc, name)?,
-        published: true,
-        body: Body::Exception { base, members },
-    })
+        body,
+    })?;
+    Ok(())
 }
 
 /// A method whose answer is waited for.
@@ -219,8 +223,12 @@ fn method(
 ) -> Result<Member, NoMemory>
     ensures { IfOk result (λ m. member_of m ≡ plain.method (method_named name.now false (kind_of kind) (map param_of params.items) raises.items)) }
 {
+    let Ok(name) = Name::of(alloc, name) else {
+        drop(kind);
+        return Err(NoMemory);
+    };
     Ok(Member::Method(Method {
-        name: Name::of(alloc, name)?,
+        name,
         oneway: false,
         result: kind,
         params,
@@ -246,7 +254,10 @@ fn push_param(
 ) -> Result<(), NoMemory>
     ensures { OnOk result (map param_of params.new.items ≡ map param_of params.old.items ++ (into_named name.now (kind_of kind) ∷ [])) }
 {
-    let name = Name::of(alloc, name)?;
+    let Ok(name) = Name::of(alloc, name) else {
+        drop(kind);
+        return Err(NoMemory);
+    };
     params.push(Param {
         way: Way::Into,
         name,
@@ -264,7 +275,10 @@ fn push_field(
 ) -> Result<(), NoMemory>
     ensures { OnOk result (map field_of members.new.items ≡ map field_of members.old.items ++ (field_named name.now (kind_of kind) ∷ [])) }
 {
-    let name = Name::of(alloc, name)?;
+    let Ok(name) = Name::of(alloc, name) else {
+        drop(kind);
+        return Err(NoMemory);
+    };
     members.push(Field { name, kind })?;
     Ok(())
 }

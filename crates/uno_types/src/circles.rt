@@ -18,8 +18,7 @@ pub(crate) fn has_no_circles(alloc: Global, entities: &[Entity]) -> Result<bool,
     ensures { IfOk result (λ b. IsTrue b ↔ HasNoCircle (leads_to (entities_of entities.now))) }
 {
     let graph = graph_of_places(alloc, entities)?;
-    let none = has_no_circle(alloc, &graph)?;
-    Ok(none)
+    has_no_circle(alloc, &graph)
 }
 
 /// For each entity the places to which it leads.
@@ -29,32 +28,32 @@ fn graph_of_places(alloc: Global, entities: &[Entity]) -> Result<Graph, NoMemory
 {
     let mut graph = Graph::new(alloc);
     for entity in entities {
-        let row = row_of(alloc, entities, &entity.body)?;
+        let mut row = Vec::new(alloc);
+        push_led_to(entities, &entity.body, &mut row)?;
         graph.add_node(row)?;
     }
     Ok(graph)
 }
 
-/// The places to which an entity with this body leads.
-fn row_of(alloc: Global, entities: &[Entity], body: &Body) -> Result<Vec<u32>, NoMemory>
-    requires { IsRising (entities_of entities.now) }
-    ensures { IfOk result (λ row. row.items ≡ places_of (entities_of entities.now) (led_to (body_of body.now))) }
+/// Adds the places to which an entity with this body leads to a row that has none yet.
+fn push_led_to(entities: &[Entity], body: &Body, row: &mut Vec<u32>) -> Result<(), NoMemory>
+    requires rising { IsRising (entities_of entities.now) }
+    requires empty { row.old.items ≡ [] }
+    ensures { OnOk result (row.new.items ≡ places_of (entities_of entities.now) (led_to (body_of body.now))) }
 {
-    let mut row = Vec::new(alloc);
     match body {
-        Body::Interface { bases, .. } => push_bases(entities, bases.as_slice(), &mut row)?,
+        Body::Interface { bases, .. } => push_bases(entities, bases.as_slice(), row),
         Body::Struct { base, members } => {
-            push_base(entities, base, &mut row)?;
-            push_contained(entities, members.as_slice(), &mut row)?;
+            push_base(entities, base, row)?;
+            push_contained(entities, members.as_slice(), row)
         }
-        Body::Exception { base, .. } => push_base(entities, base, &mut row)?,
+        Body::Exception { base, .. } => push_base(entities, base, row),
         Body::Enum { .. }
         | Body::Constants { .. }
         | Body::Typedef { .. }
         | Body::Service(_)
-        | Body::Singleton(_) => {}
+        | Body::Singleton(_) => Ok(()),
     }
-    Ok(row)
 }
 
 /// Adds the place of a name, where it is there.

@@ -31,8 +31,7 @@ pub(crate) fn all_have_few_functions(alloc: Global, entities: &[Entity]) -> Resu
         return Ok(false);
     }
     let none = none_marked(alloc, entities.len())?;
-    let few = others_have_few(alloc, entities, none.as_slice(), known.as_mut_slice())?;
-    Ok(few)
+    others_have_few(alloc, entities, none.as_slice(), known.as_mut_slice())
 }
 
 fn none_marked(alloc: Global, count: usize) -> Result<Vec<bool>, NoMemory>

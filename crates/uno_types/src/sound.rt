@@ -39,7 +39,6 @@ impl Registry {
         if !all_have_members(self) {
             return Ok(false);
         }
-        let few = all_have_few_functions(alloc, entities)?;
-        Ok(few)
+        all_have_few_functions(alloc, entities)
     }
 }

@@ -50,6 +50,7 @@ fn within_levels(
         return Ok(None);
     };
     if !is_plain(&inner) {
+        drop(inner);
         return Ok(None);
     }
     Ok(Some(TypeName::sequence(alloc, inner)?))

@@ -11,4 +11,4 @@ read_at es place e within is = slice_get-map entity_of es place ∙ ap (option_m
 
 pub returns : goal.returns
 returns c =
-    rw (read_at c.args.entities.now c.args.place c.index-entities-place.result c.requires.place c.index-entities-place.is) c.in_ok-mark_bases_of.ensures
+    rw (read_at c.args.entities.now c.args.place c.index-entities-place.result c.requires.place c.index-entities-place.is) c.mark_bases_of.ensures

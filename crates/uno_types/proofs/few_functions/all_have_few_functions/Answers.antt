@@ -1,5 +1,6 @@
 use Rattle.std.proofs.Common.{refl}
 use Rattle.std.proofs.lemmas.List.{length-map}
+use Rattle.std.proofs.lemmas.Result.{IfOk-weaker}
 use Rattle.uno_types.proofs.FewLemmas.{few_together, none_known, one_has_many, all_have_few}
 use Rattle.uno_types.specs.Entities.{entity_of, entities_of}
 use Rattle.uno_types.proofs.few_functions.all_have_few_functions.Goals as goal
@@ -18,6 +19,7 @@ returns-then-not-first_few c =
 
 pub returns : goal.returns
 returns c =
-    all_have_few (entities_of c.args.entities.now) _ _ c.in_ok-none.none.items c.in_ok-few.few (length-map c.args.entities.now entity_of) c.in_ok-none.ensures
-    c.as_slice-2.ensures.value
-    c.in_ok-few.ensures.few
+    IfOk-weaker c.others_have_few-2.result _ _
+    (λ few. all_have_few (entities_of c.args.entities.now) _ _ c.in_ok-none.none.items few (length-map c.args.entities.now entity_of) c.in_ok-none.ensures
+    c.as_slice-2.ensures.value)
+    c.others_have_few-2.ensures.few
