@@ -76,7 +76,9 @@ pub(crate) fn table_of(
 {
     let met = interfaces_of(alloc, registry, name)?;
     let mut table = Vec::new(alloc);
-    push_all(&mut table, alloc, registry, met.names())?;
+    let pushed = push_all(&mut table, alloc, registry, met.names());
+    drop(met);
+    pushed?;
     Ok(table)
 }
 
@@ -107,8 +109,7 @@ fn push_declared(
     let Some(entity) = registry.find(owner) else {
         return Ok(())
     };
-    push_body(table, alloc, owner, &entity.body)?;
-    Ok(())
+    push_body(table, alloc, owner, &entity.body)
 }
 
 fn push_body(
@@ -122,8 +123,7 @@ fn push_body(
     match body {
         Body::Interface { bases: _, members } => {
             push_attributes(table, alloc, owner, members)?;
-            push_methods(table, alloc, owner, members)?;
-            Ok(())
+            push_methods(table, alloc, owner, members)
         }
         Body::Struct { .. }
         | Body::Exception { .. }
@@ -289,8 +289,8 @@ fn call(alloc: Global, owner: &str, method: &Method) -> Result<Function, NoMemor
     let owner = Name::of(alloc, owner)?;
     let name = method.name.copy(alloc)?;
     let raises = copies(alloc, &method.raises)?;
-    let result = method.result.copy(alloc)?;
     let params = parameters(alloc, &method.params)?;
+    let result = method.result.copy(alloc)?;
     Ok(Function {
         owner,
         name,

@@ -71,8 +71,7 @@ fn visit<'a>(
         return Ok(());
     }
     tasks.push(Task::Leave(name))?;
-    push_visits(registry, tasks, name, levels)?;
-    Ok(())
+    push_visits(registry, tasks, name, levels)
 }
 
 /// The bases that are not optional, the first one on top.

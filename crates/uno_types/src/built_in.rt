@@ -50,9 +50,8 @@ fn push_interface_members(alloc: Global, members: &mut Vec<Member>) -> Result<()
     ensures { OnOk result (map member_of members.new.items ≡ plain.method query_interface ∷ (plain.method acquire ∷ (plain.method release ∷ []))) }
 {
     members.push(query_method(alloc)?)?;
-    members.push(count_method(alloc, "acquire")?)?;
-    members.push(count_method(alloc, "release")?)?;
-    Ok(())
+    push_count_method(alloc, members, "acquire")?;
+    push_count_method(alloc, members, "release")
 }
 
 fn query_method(alloc: Global) -> Result<Member, NoMemory>
@@ -68,17 +67,19 @@ fn query_method(alloc: Global) -> Result<Member, NoMemory>
     )
 }
 
-/// A method that counts up or down who holds the object.
-fn count_method(alloc: Global, name: &str) -> Result<Member, NoMemory>
-    ensures { IfOk result (λ m. member_of m ≡ plain.method (method_named name.now true kd.void [] [])) }
+/// Adds a method that counts up or down who holds the object.
+fn push_count_method(alloc: Global, members: &mut Vec<Member>, name: &str) -> Result<(), NoMemory>
+    ensures { OnOk result (map member_of members.new.items ≡ map member_of members.old.items ++ (plain.method (method_named name.now true kd.void [] []) ∷ [])) }
 {
-    Ok(Member::Method(Method {
-        name: Name::of(alloc, name)?,
+    let name = Name::of(alloc, name)?;
+    members.push(Member::Method(Method {
+        name,
         oneway: true,
         result: TypeName::Void,
         params: Vec::new(alloc),
         raises: Vec::new(alloc),
-    }))
+    }))?;
+    Ok(())
 }
 
 /// Adds the exception from which all others are derived.

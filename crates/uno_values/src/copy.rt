@@ -43,8 +43,13 @@ impl AnyValue {
         ensures { IfOk result (λ copy. any_of copy ≡ any_of self.now) }
     {
         let kind = self.kind.copy(alloc)?;
-        let value = self.value.copy(alloc)?;
-        Ok(AnyValue { kind, value })
+        match self.value.copy(alloc) {
+            Ok(value) => Ok(AnyValue { kind, value }),
+            Err(error) => {
+                drop(kind);
+                Err(error)
+            }
+        }
     }
 }
 

@@ -105,18 +105,24 @@ unfolding members_on
 member_fails read left is_first k ks ps qs xs verdict misread.NoMemory comma fails is = tt
 member_fails read left is_first k ks ps qs xs verdict (misread.Misfit at) comma fails is = sym is ∙ rw (comma, fails) refl
 
-pub members_end : (read : Kind → Reads Plain) (left : ℕ) (is_first : Bool) (ps qs : List Placed) (xs : List Plain) (verdict : Result (List Plain × List Placed) Fault)
+members_end : (read : Kind → Reads Plain) (left : ℕ) (is_first : Bool) (ps qs : List Placed) (xs : List Plain) (verdict : Result (List Plain × List Placed) Fault)
     → expect left closes_curly ps ≡ Ok qs
     → with_firsts xs (members_on read left is_first [] ps) ≡ verdict → verdict ≡ Ok (xs, qs)
 unfolding members_on
 members_end read left is_first ps qs xs verdict closed is = sym is ∙ rw closed (ap (λ ys. Ok (ys, qs)) (append-nil xs))
 
-pub members_lost : (read : Kind → Reads Plain) (left : ℕ) (is_first : Bool) (ps : List Placed) (xs : List Plain) (verdict : Result (List Plain × List Placed) Fault) (e : Misread)
+members_lost : (read : Kind → Reads Plain) (left : ℕ) (is_first : Bool) (ps : List Placed) (xs : List Plain) (verdict : Result (List Plain × List Placed) Fault) (e : Misread)
     → FailedBy e (expect left closes_curly ps)
     → with_firsts xs (members_on read left is_first [] ps) ≡ verdict → FailedBy e verdict
 unfolding members_on
 members_lost read left is_first ps xs verdict misread.NoMemory fails is = tt
 members_lost read left is_first ps xs verdict (misread.Misfit at) fails is = sym is ∙ rw fails refl
+
+pub members_close : {R : Type 0} (read : Kind → Reads Plain) (left : ℕ) (is_first : Bool) (ps : List Placed) (xs : List Plain) (verdict : Result (List Plain × List Placed) Fault) (view : R → List Placed) (r : Result R Misread)
+    → Gives view r (expect left closes_curly ps)
+    → with_firsts xs (members_on read left is_first [] ps) ≡ verdict → Gives (λ x. (xs, view x)) r verdict
+members_close read left is_first ps xs verdict view (Ok x) closed is = members_end read left is_first ps (view x) xs verdict closed is
+members_close read left is_first ps xs verdict view (Err e) fails is = members_lost read left is_first ps xs verdict e fails is
 
 -- what is left of the fields' types
 pub kinds_more : (fields : List (Bor Field)) (i : ℕ) (f : Bor Field) → i < length fields → f ≡ get_or fields i f

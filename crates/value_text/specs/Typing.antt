@@ -24,6 +24,10 @@ abbrev pub Gives : {X Y : Type 0} → (X → Y) → Result X Misread → Result 
 Gives view (Ok x) verdict = verdict ≡ Ok (view x)
 Gives view (Err e) verdict = FailedBy e verdict
 
+-- a value that was read, and the tokens behind it
+abbrev pub before : Plain → List Placed → Result (Plain × List Placed) Fault
+before x rest = Ok (x, rest)
+
 -- values in front of those that are read
 abbrev pub with_firsts : {X : Type 0} → List X → Result (List X × List Placed) Fault → Result (List X × List Placed) Fault
 with_firsts xs (Ok y) = Ok (xs ++ y.0, y.1)

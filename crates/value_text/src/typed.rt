@@ -1,5 +1,5 @@
 //! The value of tokens at a type.
-ghost use Rattle.std.specs.Prelude.{◌≡◌, map, length, true, Ok, IfOk, IfErr};
+ghost use Rattle.std.specs.Prelude.{◌≡◌, map, length, true};
 ghost use Rattle.uno_model.specs.Fits.{member_kinds};
 ghost use Rattle.uno_model.specs.Kinds as kd;
 ghost use Rattle.uno_model.specs.Readings.{value_within, value_step, any_of, held_by, is_void, sequence_of, elements_on, tuple_of, members_on, only_token, single};
@@ -9,8 +9,7 @@ ghost use Rattle.uno_model.specs.Values.{plains};
 ghost use Rattle.uno_types.specs.TypeNames.{kind_of};
 ghost use Rattle.uno_values.specs.Values.{plain_of};
 ghost use Rattle.value_text.specs.Scanning.{all_placed};
-ghost use Rattle.value_text.specs.Typing.{Gives, kinds_at, with_firsts};
-ghost use Rattle.value_text.specs.declared.misread.Misread.TheVariants.{NoMemory};
+ghost use Rattle.value_text.specs.Typing.{Gives, before, kinds_at, with_firsts};
 
 mod bytes;
 mod expect;
@@ -115,12 +114,10 @@ fn held_by<'a>(
     ensures { Gives (λ x. (plain_of x.0, all_placed x.1.now)) result (held_by (value_within inner registry.now) (kind_of kind.now) (all_placed tokens.now)) }
 {
     if is_void(kind) {
-        let any = any_value(alloc, kind, Value::Void)?;
-        return Ok((any, tokens));
+        return any_before(alloc, kind, Value::Void, tokens);
     }
     let (value, rest) = value_within(alloc, registry, inner, kind, tokens)?;
-    let any = any_value(alloc, kind, value)?;
-    Ok((any, rest))
+    any_before(alloc, kind, value, rest)
 }
 
 fn is_void(kind: &TypeName) -> bool
@@ -129,16 +126,21 @@ fn is_void(kind: &TypeName) -> bool
     matches!(kind, TypeName::Void)
 }
 
-fn any_value(alloc: Global, kind: &TypeName, value: Value) -> Result<Value, Misread>
-    ensures any { IfOk result (λ any. plain_of any ≡ plain.any (kind_of kind.now) (plain_of value)) }
-    ensures error { IfErr result (λ e. e ≡ NoMemory) }
+/// An any of a value, and the tokens behind it.
+fn any_before<'a>(
+    alloc: Global,
+    kind: &TypeName,
+    value: Value,
+    rest: &'a [Placed],
+) -> Result<(Value, &'a [Placed]), Misread>
+    ensures { Gives (λ x. (plain_of x.0, all_placed x.1.now)) result (before (plain.any (kind_of kind.now) (plain_of value)) (all_placed rest.now)) }
 {
     let Ok(kind) = kind.copy(alloc) else {
         drop(value);
         return Err(Misread::NoMemory);
     };
     let any = Box::new(alloc, AnyValue { kind, value })?;
-    Ok(Value::Any(any))
+    Ok((Value::Any(any), rest))
 }
 
 /// Elements in square brackets; those of a sequence of bytes are kept as bytes.
@@ -158,16 +160,23 @@ fn sequence_of<'a>(
         return Ok((Value::Bytes(bytes), rest));
     }
     let (elements, rest) = elements_of(alloc, registry, inner, element, tokens)?;
-    let list = list_value(alloc, element, elements)?;
-    Ok((list, rest))
+    list_before(alloc, element, elements, rest)
 }
 
-fn list_value(alloc: Global, element: &TypeName, elements: Vec<Value>) -> Result<Value, Misread>
-    ensures list { IfOk result (λ list. plain_of list ≡ plain.list (kind_of element.now) (plains (map plain_of elements.items))) }
-    ensures error { IfErr result (λ e. e ≡ NoMemory) }
+/// A sequence of elements, and the tokens behind it.
+fn list_before<'a>(
+    alloc: Global,
+    element: &TypeName,
+    elements: Vec<Value>,
+    rest: &'a [Placed],
+) -> Result<(Value, &'a [Placed]), Misread>
+    ensures { Gives (λ x. (plain_of x.0, all_placed x.1.now)) result (before (plain.list (kind_of element.now) (plains (map plain_of elements.items))) (all_placed rest.now)) }
 {
-    let element = element.copy(alloc)?;
-    Ok(Value::List(element, elements))
+    let Ok(element) = element.copy(alloc) else {
+        drop(elements);
+        return Err(Misread::NoMemory);
+    };
+    Ok((Value::List(element, elements), rest))
 }
 
 #[cycle(typed)]
@@ -189,8 +198,13 @@ fn elements_of<'a>(
     if is_mark(Mark::ClosesSquare, &first.token) {
         return Ok((elements, behind));
     }
-    let rest = elements_on(alloc, registry, inner, element, left, rest, &mut elements)?;
-    Ok((elements, rest))
+    match elements_on(alloc, registry, inner, element, left, rest, &mut elements) {
+        Ok(rest) => Ok((elements, rest)),
+        Err(misread) => {
+            drop(elements);
+            Err(misread)
+        }
+    }
 }
 
 /// The elements from the first one on, behind those that are there. There are no more of them than tokens.
@@ -241,17 +255,31 @@ fn tuple_of<'a>(
     let rest = expect(left, Mark::OpensCurly, tokens)?;
     let fields = registry.members(alloc, name.as_str())?;
     let mut members = Vec::new(alloc);
-    let rest = members_on(alloc, registry, inner, &fields, left, rest, &mut members)?;
-    let tuple = tuple_value(alloc, name, members)?;
-    Ok((tuple, rest))
+    let read = members_on(alloc, registry, inner, &fields, left, rest, &mut members);
+    drop(fields);
+    match read {
+        Ok(rest) => tuple_before(alloc, name, members, rest),
+        Err(misread) => {
+            drop(members);
+            Err(misread)
+        }
+    }
 }
 
-fn tuple_value(alloc: Global, name: &Name, members: Vec<Value>) -> Result<Value, Misread>
-    ensures tuple { IfOk result (λ tuple. plain_of tuple ≡ plain.tuple name.now (plains (map plain_of members.items))) }
-    ensures error { IfErr result (λ e. e ≡ NoMemory) }
+/// A tuple of members, and the tokens behind it.
+fn tuple_before<'a>(
+    alloc: Global,
+    name: &Name,
+    members: Vec<Value>,
+    rest: &'a [Placed],
+) -> Result<(Value, &'a [Placed]), Misread>
+    ensures { Gives (λ x. (plain_of x.0, all_placed x.1.now)) result (before (plain.tuple name.now (plains (map plain_of members.items))) (all_placed rest.now)) }
 {
-    let name = name.copy(alloc)?;
-    Ok(Value::Tuple(name, members))
+    let Ok(name) = name.copy(alloc) else {
+        drop(members);
+        return Err(Misread::NoMemory);
+    };
+    Ok((Value::Tuple(name, members), rest))
 }
 
 /// The members of these fields and the bracket behind them, behind those that are there.
@@ -277,6 +305,5 @@ fn members_on<'a>(
         is_first = false;
         rest = behind;
     }
-    let rest = expect(left, Mark::ClosesCurly, rest)?;
-    Ok(rest)
+    expect(left, Mark::ClosesCurly, rest)
 }

@@ -62,7 +62,7 @@ pub(crate) fn reply<'a, E: Expects>(
         &mut heard.caches.tids,
         bytes,
     )?;
-    let (answered, rest) = answer_awaited(
+    match answer_awaited(
         alloc,
         registry,
         heard,
@@ -70,8 +70,13 @@ pub(crate) fn reply<'a, E: Expects>(
         &tid,
         has(EXCEPTION, flags),
         rest,
-    )?;
-    Ok((reply_of(tid, answered), rest))
+    ) {
+        Ok((answered, rest)) => Ok((reply_of(tid, answered), rest)),
+        Err(error) => {
+            drop(tid);
+            Err(error)
+        }
+    }
 }
 
 /// The thread of a reply, which is the last one from now on; the last type and object are still those of a request.
@@ -140,15 +145,20 @@ fn answer_awaited<'a, E: Expects>(
         bytes,
     );
     drop(function);
-    let (answer, rest) = read?;
-    Ok((
-        Answered {
-            face,
-            number,
-            answer,
-        },
-        rest,
-    ))
+    match read {
+        Ok((answer, rest)) => Ok((
+            Answered {
+                face,
+                number,
+                answer,
+            },
+            rest,
+        )),
+        Err(error) => {
+            drop(face);
+            Err(error)
+        }
+    }
 }
 
 /// The call for which a thread waits.
@@ -164,9 +174,12 @@ fn call_awaited<E: Expects>(
     let Some((face, number)) = expect.waits(tid) else {
         return Ok(None);
     };
-    let face = face.copy(alloc)?;
     let Some(function) = function_numbered(alloc, registry, face.as_str(), number)? else {
         return Ok(None);
+    };
+    let Ok(face) = face.copy(alloc) else {
+        drop(function);
+        return Err(NoMemory);
     };
     Ok(Some(Awaited {
         face,

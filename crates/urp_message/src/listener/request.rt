@@ -84,6 +84,7 @@ fn asked<'a>(
         return release(opening.answered, called, bytes);
     }
     if opening.function == ACQUIRE {
+        drop(called);
         return Err(WireError::Bad(Reason::Acquire));
     }
     call(alloc, registry, opening, called, heard, bytes)
@@ -95,6 +96,7 @@ fn release(answered: bool, called: Called, bytes: &[u8]) -> Result<(Message, &[u
     ensures { (heard : _) → Gives (λ x. (message_of x.0, heard, x.1.now)) result (release_at answered called.face (called_of called) heard bytes.now) }
 {
     if answered {
+        drop(called);
         return Err(WireError::Bad(Reason::OneWay));
     }
     let Called { tid, oid, face } = called;
@@ -113,8 +115,13 @@ fn call<'a>(
     requires { IsSound registry.now }
     ensures { Gives (λ x. (message_of x.0, heard_of heard.new, x.1.now)) result (call_at registry.now (opening_of opening.now) called.face (called_of called) (heard_of heard.old) bytes.now) }
 {
-    let (args, rest) = arguments(alloc, registry, opening, &called.face, heard, bytes)?;
-    Ok((request_of(called, opening.function, args), rest))
+    match arguments(alloc, registry, opening, &called.face, heard, bytes) {
+        Ok((args, rest)) => Ok((request_of(called, opening.function, args), rest)),
+        Err(error) => {
+            drop(called);
+            Err(error)
+        }
+    }
 }
 
 /// A call of a function with these arguments.

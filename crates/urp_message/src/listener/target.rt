@@ -46,21 +46,33 @@ pub(crate) fn read_target<'a>(
         &mut heard.caches.types,
         bytes,
     )?;
-    let (oid, rest) = object_named(
+    let (oid, rest) = match object_named(
         alloc,
         opening.new_oid,
         &mut heard.last.oid,
         &mut heard.caches.oids,
         rest,
-    )?;
-    let (tid, rest) = thread_named(
+    ) {
+        Ok(named) => named,
+        Err(error) => {
+            drop(kind);
+            return Err(error);
+        }
+    };
+    match thread_named(
         alloc,
         opening.new_tid,
         &mut heard.last.tid,
         &mut heard.caches.tids,
         rest,
-    )?;
-    Ok((Target { kind, oid, tid }, rest))
+    ) {
+        Ok((tid, rest)) => Ok((Target { kind, oid, tid }, rest)),
+        Err(error) => {
+            drop(kind);
+            drop(oid);
+            Err(error)
+        }
+    }
 }
 
 /// The type of a header, which is the last one from now on.

@@ -10,7 +10,7 @@ use super::heading::is_new_tid;
 use super::target::put_thread;
 use crate::Answer;
 use crate::flags::{EXCEPTION, NEW_TID};
-use crate::last::Spoken;
+use crate::last::{Spoken, remember};
 use std::alloc::Global;
 use uno_base::NoMemory;
 use uno_types::Tid;
@@ -38,7 +38,7 @@ pub(crate) fn put_reply(
     to.push(reply_flags(is_raised(answer), is_new_tid(tid, &spoken.last.tid)))?;
     put_thread(tid, &spoken.last.tid, &mut spoken.caches.tids, to)?;
     put_answer(alloc, answer, &mut spoken.caches, to)?;
-    spoken.last.tid = Some(tid.copy(alloc)?);
+    remember(&mut spoken.last.tid, Some(tid.copy(alloc)?));
     Ok(())
 }
 

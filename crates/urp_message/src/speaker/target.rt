@@ -1,5 +1,5 @@
 //! Whom a request calls, as it is written: what is new of it (URP specification, messages).
-ghost use Rattle.std.specs.Prelude.{◌≡◌, ◌<◌, ◌^◌, ◌++◌, length, Some, option_map, OnOk, IfOk};
+ghost use Rattle.std.specs.Prelude.{◌≡◌, ◌<◌, ◌^◌, ◌++◌, length, Some, option_map, OnOk};
 ghost use Rattle.std.specs.Str.{IsUtf8};
 ghost use Rattle.message_model.specs.WritingMessages.{is_new, is_new_face, if_new, held_if_new, target_spelling, after_target};
 ghost use Rattle.uno_model.specs.Kinds as kd;
@@ -39,21 +39,22 @@ pub(crate) fn put_target(
     )?;
     put_object(heading.oid, &spoken.last.oid, &mut spoken.caches.oids, to)?;
     put_thread(heading.tid, &spoken.last.tid, &mut spoken.caches.tids, to)?;
-    remember(&mut spoken.last, remembered(alloc, heading)?);
-    Ok(())
+    remember_target(alloc, heading, &mut spoken.last)
 }
 
-fn remembered(alloc: Global, heading: &Heading) -> Result<Last, NoMemory>
-    ensures { IfOk result (λ last. last_of last ≡ record { kind = Some (kd.interface heading.now.face.now); oid = Some heading.now.oid.now; tid = Some heading.now.tid.now }) }
+fn remember_target(alloc: Global, heading: &Heading, last: &mut Last) -> Result<(), NoMemory>
+    ensures { OnOk result (last_of last.new ≡ record { kind = Some (kd.interface heading.now.face.now); oid = Some heading.now.oid.now; tid = Some heading.now.tid.now }) }
 {
     let face = heading.face.copy(alloc)?;
     let oid = heading.oid.copy(alloc)?;
     let tid = heading.tid.copy(alloc)?;
-    Ok(Last {
+    let named = Last {
         kind: Some(TypeName::Interface(face)),
         oid: Some(oid),
         tid: Some(tid),
-    })
+    };
+    remember(last, named);
+    Ok(())
 }
 
 /// The interface.

@@ -42,9 +42,9 @@ pub fn flat_value<'a>(
         | TypeName::Boolean
         | TypeName::Byte
         | TypeName::Short
-        | TypeName::UnsignedShort => Ok(narrow_value(kind, bytes)?),
+        | TypeName::UnsignedShort => narrow_value(kind, bytes),
         TypeName::Long | TypeName::UnsignedLong | TypeName::Hyper | TypeName::UnsignedHyper => {
-            Ok(wide_value(kind, bytes)?)
+            wide_value(kind, bytes)
         }
         TypeName::Str => {
             let (text, rest) = text(bytes)?;

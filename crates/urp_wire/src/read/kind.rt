@@ -91,13 +91,13 @@ fn behind_class<'a>(
 {
     if let Some(kind) = simple_kind(class) {
         if !is_plain {
+            drop(kind);
             return Err(WireError::Bad(Reason::BadClass));
         }
         return Ok((kind, bytes));
     }
     if is_plain {
-        let (kind, rest) = held_kind(alloc, registry, class, types, bytes)?;
-        return Ok((kind, rest));
+        return held_kind(alloc, registry, class, types, bytes);
     }
     written_kind(alloc, registry, class, types, bytes)
 }
@@ -141,10 +141,10 @@ fn written_kind<'a>(
     if !is_slot(slot) {
         return Err(WireError::Bad(Reason::BadSlot));
     }
+    note(types, slot, name.as_bytes())?;
     let Some(kind) = kind_of_text(alloc, registry, class, name)? else {
         return Err(WireError::Bad(Reason::UnknownType));
     };
-    note(types, slot, name.as_bytes())?;
     Ok((kind, rest))
 }
 
@@ -179,6 +179,7 @@ fn kind_of_text(
         return Ok(None);
     };
     if kind.class().code() != class.code() {
+        drop(kind);
         return Ok(None);
     }
     Ok(Some(kind))

@@ -93,11 +93,19 @@ fn any_value<'a>(
 {
     let (kind, rest) = read_kind(alloc, registry, &mut caches.types, bytes)?;
     if is_any(&kind) {
+        drop(kind);
         return Err(WireError::Bad(Reason::BadAny));
     }
-    let (value, rest) = value_within(alloc, registry, caches, &kind, levels, rest)?;
-    let any = Box::new(alloc, AnyValue { kind, value })?;
-    Ok((Value::Any(any), rest))
+    match value_within(alloc, registry, caches, &kind, levels, rest) {
+        Ok((value, rest)) => {
+            let any = Box::new(alloc, AnyValue { kind, value })?;
+            Ok((Value::Any(any), rest))
+        }
+        Err(error) => {
+            drop(kind);
+            Err(error)
+        }
+    }
 }
 
 fn is_any(kind: &TypeName) -> bool

@@ -30,14 +30,14 @@ pub fn write_kind(
 {
     let class = class_byte(kind);
     if is_simple(kind) {
-        put_byte(class, to)?;
-        return Ok(());
+        return put_byte(class, to);
     }
     let mut name = Vec::new(alloc);
     put_kind_name(kind, &mut name)?;
     let (slot, known) = types.slot_of(&name)?;
-    put_class_and_name(known, class, slot, &name, to)?;
-    Ok(())
+    let written = put_class_and_name(known, class, slot, &name, to);
+    drop(name);
+    written
 }
 
 fn put_class_and_name(

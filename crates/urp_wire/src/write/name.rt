@@ -36,8 +36,7 @@ fn put_name(cache: &mut SendCache, name: &[u8], to: &mut Vec<u8>) -> Result<(), 
 {
     let (slot, known) = cache.slot_of(name)?;
     put_name_or_nothing(known, name, to)?;
-    put_slot(slot, to)?;
-    Ok(())
+    put_slot(slot, to)
 }
 
 fn put_name_or_nothing(known: Known, name: &[u8], to: &mut Vec<u8>) -> Result<(), NoMemory>

@@ -45,8 +45,7 @@ pub fn put_length(length: usize, to: &mut Vec<u8>) -> Result<(), NoMemory>
     ensures { OnOk result (to.new.items ≡ to.old.items ++ compressed length) }
 {
     if length < LONG {
-        put_byte(length as u8, to)?;
-        return Ok(());
+        return put_byte(length as u8, to);
     }
     put_byte(LONG_FORM, to)?;
     put_four_bytes(length as u32, to)

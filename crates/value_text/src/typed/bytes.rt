@@ -29,8 +29,13 @@ fn bytes_in(alloc: Global, left: usize, tokens: &[Placed]) -> Result<(Vec<u8>, &
     if is_mark(Mark::ClosesSquare, &first.token) {
         return Ok((bytes, rest));
     }
-    let rest = bytes_on(left, tokens, &mut bytes)?;
-    Ok((bytes, rest))
+    match bytes_on(left, tokens, &mut bytes) {
+        Ok(rest) => Ok((bytes, rest)),
+        Err(misread) => {
+            drop(bytes);
+            Err(misread)
+        }
+    }
 }
 
 fn byte_at(tokens: &[Placed]) -> Result<(u8, &[Placed]), Misread>

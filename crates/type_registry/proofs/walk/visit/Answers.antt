@@ -1,4 +1,5 @@
 use Rattle.std.proofs.Common.{refl, sym, ◌∙◌, arith}
+use Rattle.std.proofs.lemmas.Result.{on_ok_weaker}
 use Rattle.type_registry.proofs.TaskLemmas.{nothing_done, over_none, was_met, some_cost, bases_first, costs_less, popped}
 use Rattle.type_registry.proofs.walk.visit.Goals as goal
 
@@ -16,9 +17,9 @@ returns-then-has-clause-less c = omega (arith, some_cost c.args.registry.now c.a
 
 pub returns-clause-done : goal.returns-clause-done
 returns-clause-done c =
-    bases_first _ _ _ _ _ _ _ _ (omega (arith, c.in-Some.ensures.0, c.in-Some.ensures.1)) (sym c.has.ensures ∙ c.if-has.false)
-    (popped _ _ _ _ c.in_ok-push.ensures.items refl) c.in_ok-push_visits.ensures
+    on_ok_weaker _ (bases_first _ _ _ _ _ _ _ _ (omega (arith, c.in-Some.ensures.0, c.in-Some.ensures.1)) (sym c.has.ensures ∙ c.if-has.false)
+    (popped _ _ _ _ c.in_ok-push.ensures.items refl)) c.push_visits.ensures
 
 pub returns-clause-less : goal.returns-clause-less
 returns-clause-less c =
-    costs_less _ _ _ _ _ _ _ (omega (arith, c.in-Some.ensures.0, c.in-Some.ensures.1)) (popped _ _ _ _ c.in_ok-push.ensures.items refl) c.in_ok-push_visits.ensures
+    on_ok_weaker _ (costs_less _ _ _ _ _ _ _ (omega (arith, c.in-Some.ensures.0, c.in-Some.ensures.1)) (popped _ _ _ _ c.in_ok-push.ensures.items refl)) c.push_visits.ensures

@@ -6,7 +6,7 @@ use Rattle.uno_model.specs.Registry.{all_members}
 use Rattle.uno_types.specs.TypeNames.{kind_of}
 use Rattle.uno_values.specs.Values.{plain_of}
 use Rattle.value_text.proofs.TypedLemmas.{element_fails, element_alone, element_last, element_lost, element_next, handed_over, member_next}
-use Rattle.value_text.proofs.TypedLemmas.{member_fails, comma_fails, members_end, members_lost, kinds_more, kinds_done, tuple_fails}
+use Rattle.value_text.proofs.TypedLemmas.{member_fails, comma_fails, members_close, kinds_more, kinds_done, tuple_fails}
 use Rattle.value_text.specs.Scanning.{all_placed, placed_of}
 use Rattle.value_text.specs.Typing.{kinds_at}
 use Rattle.value_text.proofs.typed.+typed.Goals as goal
@@ -54,21 +54,14 @@ members_on-loop-field-preserved t c =
     member_next (value_within c.args.inner c.args.registry.now) c.args.left c.loop-field.is_first (kind_of c.field-item.result.now.kind) _ (all_placed c.loop-field.rest.now) (all_placed c.in_ok-front.front.now) (all_placed c.in_ok-value.behind.now) (plain_of c.in_ok-value.value)
     (map plain_of c.loop-field.members.items) _ _ c.in_ok-front.ensures c.in_ok-value.ensures pushed inv
 
-pub members_on-returns-in_err-rest : goal.members_on-returns-in_err-rest
-members_on-returns-in_err-rest t c =
-    let inv = rw (kinds_done c.args.fields.now c.loop-field.field-index (omega arith)) at c.loop-field.invariant in
-    handed_over _ c.from_residual-in_err-rest.result c.in_err-rest.field-0.0 _ c.from_residual-in_err-rest.ensures
-    (members_lost (value_within c.args.inner c.args.registry.now) c.args.left c.loop-field.is_first (all_placed c.loop-field.rest.now) (map plain_of c.loop-field.members.items) _ c.in_err-rest.field-0.0 c.in_err-rest.ensures inv)
-
 pub members_on-returns : goal.members_on-returns
 members_on-returns t c =
     let inv = rw (kinds_done c.args.fields.now c.loop-field.field-index (omega arith)) at c.loop-field.invariant in
-    members_end (value_within c.args.inner c.args.registry.now) c.args.left c.loop-field.is_first (all_placed c.loop-field.rest.now) (all_placed c.in_ok-rest.rest.now) (map plain_of c.loop-field.members.items) _ c.in_ok-rest.ensures inv
+    members_close (value_within c.args.inner c.args.registry.now) c.args.left c.loop-field.is_first (all_placed c.loop-field.rest.now) (map plain_of c.loop-field.members.items) _ _ c.expect.result c.expect.ensures inv
 
-pub tuple_of-returns-in_err-rest-2 : goal.tuple_of-returns-in_err-rest-2
-tuple_of-returns-in_err-rest-2 t c =
+pub tuple_of-returns-in-Err : goal.tuple_of-returns-in-Err
+tuple_of-returns-in-Err t c =
     let members : all_members c.args.registry.now c.as_str.result.now ≡ all_members c.args.registry.now c.args.name.now = ap (all_members c.args.registry.now) c.as_str.ensures in
     let kinds = ap kinds_at c.deref.ensures.value ∙ ap (map (λ (f : Field). f.kind)) (c.in_ok-fields.ensures ∙ members) in
-    handed_over _ c.from_residual-in_err-rest-2.result c.in_err-rest-2.field-0.0 _ c.from_residual-in_err-rest-2.ensures
-    (tuple_fails c.args.registry.now (value_within c.args.inner c.args.registry.now) c.left_at-left.result c.args.name.now _ (all_placed c.args.tokens.now) (all_placed c.in_ok-rest.rest.now) _ c.in_err-rest-2.field-0.0 c.left_at-left.ensures kinds
-    c.in_ok-rest.ensures (ap (map plain_of) c.new-members.ensures.items) c.in_err-rest-2.ensures)
+    tuple_fails c.args.registry.now (value_within c.args.inner c.args.registry.now) c.left_at-left.result c.args.name.now _ (all_placed c.args.tokens.now) (all_placed c.in_ok-rest.rest.now) _ c.in-Err.misread c.left_at-left.ensures kinds
+    c.in_ok-rest.ensures (ap (map plain_of) c.new-members.ensures.items) c.in-Err.ensures
