@@ -2,7 +2,7 @@
 use crate::judging::see_number;
 use std::alloc::Global;
 use urp_stream::StreamError::{NoMessages, TooLarge};
-use urp_stream::{Block, Blocks, StreamError};
+use urp_stream::{Blocks, StreamError};
 
 /// A count and a body.
 type Given = (u32, &'static [u8]);
@@ -66,19 +66,17 @@ fn answers(blocks: &mut Blocks, piece: &[u8], wanted: Result<usize, StreamError>
 
 /// Whether the stream gives this block of this place, or none.
 fn gives(blocks: &mut Blocks, place: u64, wanted: Option<Given>) -> bool {
-    match blocks.next_block() {
-        Some(block) => is(&block, place, wanted),
-        None => wanted.is_none(),
-    }
-}
-
-fn is(block: &Block, place: u64, wanted: Option<Given>) -> bool {
-    match wanted {
+    let Some(block) = blocks.next_block() else {
+        return wanted.is_none();
+    };
+    let right = match wanted {
         Some((count, body)) => {
             block.place == place && block.count == count && block.body.as_slice() == body
         }
         None => false,
-    }
+    };
+    drop(block);
+    right
 }
 
 /// Whether the stream does what a step says.

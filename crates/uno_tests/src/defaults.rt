@@ -9,7 +9,7 @@ use crate::types::{cut, type_of};
 use crate::values::{shown, value_of};
 use std::alloc::Global;
 use uno_base::NoMemory;
-use uno_types::{Registry, TypeName};
+use uno_types::Registry;
 use uno_values::default_of;
 
 /// Types, and the default of each.
@@ -42,25 +42,13 @@ fn default_shown(alloc: Global, registry: &Registry, word: &str) -> Result<Strin
     requires { IsSound registry.now }
 {
     let kind = type_of(alloc, word)?;
-    let text = shown_default(alloc, registry, &kind);
-    drop(kind);
-    text
-}
-
-fn shown_default(alloc: Global, registry: &Registry, kind: &TypeName) -> Result<String, NoMemory>
-    requires { IsSound registry.now }
-{
-    if !registry.has_form(kind) {
+    if !registry.has_form(&kind) {
+        drop(kind);
         return Err(NoMemory);
     }
-    shown(alloc, default_of(alloc, registry, kind)?)
-}
-
-/// Whether the value of these words is printed so.
-fn is_printed(alloc: Global, words: &str, given: &str) -> Result<bool, NoMemory> {
-    let value = value_of(alloc, words)?;
-    let wanted = shown(alloc, value)?;
-    Ok(wanted.as_str() == given)
+    let value = default_of(alloc, registry, &kind);
+    drop(kind);
+    shown(alloc, value?)
 }
 
 /// Whether the default of the type of a word is printed as the value of these words.
@@ -73,17 +61,8 @@ pub(crate) fn is_right(
     requires { IsSound registry.now }
 {
     let given = default_shown(alloc, registry, word)?;
-    is_printed(alloc, words, &given)
-}
-
-#[test]
-fn each_type_has_its_default(rt: HostRuntime) {
-    let registry = sound(&rt, registry_of(rt.alloc(), VALUED));
-    for row in DEFAULTS.lines() {
-        let (word, words) = cut(row, ':');
-        let right = is_right(rt.alloc(), &registry, word, words.trim_start());
-        see(&rt, right == Ok(true), row);
-    }
+    let wanted = shown(alloc, value_of(alloc, words)?)?;
+    Ok(wanted.as_str() == given.as_str())
 }
 
 /// 1,025 structs, each with a member of the one before, and the first with a long.
@@ -93,16 +72,18 @@ const CHAIN: Lines = (
     1_024,
 );
 
-/// Whether the struct of 1,024 levels has a default, and the one of 1,025 has none.
-fn ends_at_1024(alloc: Global, registry: &Registry) -> bool
-    requires { IsSound registry.now }
-{
-    default_shown(alloc, registry, "struct/t.S01023").is_ok()
-        && default_shown(alloc, registry, "struct/t.S01024").is_err()
-}
-
 #[test]
-fn default_is_nested_at_most_1024_deep(rt: HostRuntime) {
-    let registry = sound(&rt, registry_of(rt.alloc(), CHAIN));
-    see(&rt, ends_at_1024(rt.alloc(), &registry), "1,024 levels");
+fn each_type_has_its_default_which_is_nested_at_most_1024_deep(rt: HostRuntime) {
+    let registry = sound(&rt, registry_of(rt.alloc(), VALUED));
+    for row in DEFAULTS.lines() {
+        let (word, words) = cut(row, ':');
+        let right = is_right(rt.alloc(), &registry, word, words.trim_start());
+        see(&rt, right == Ok(true), row);
+    }
+    drop(registry);
+    let chain = sound(&rt, registry_of(rt.alloc(), CHAIN));
+    let deepest = default_shown(rt.alloc(), &chain, "struct/t.S01023");
+    let deeper = default_shown(rt.alloc(), &chain, "struct/t.S01024");
+    drop(chain);
+    see(&rt, deepest.is_ok() && deeper.is_err(), "1,024 levels");
 }

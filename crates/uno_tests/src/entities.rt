@@ -125,14 +125,10 @@ fn struct_of(alloc: Global, what: &str, parts: &str) -> Result<Body, NoMemory> {
 }
 
 fn service_of(alloc: Global, what: &str, parts: &str) -> Result<Body, NoMemory> {
-    if what == "service" {
-        return new_service_of(alloc, parts);
+    if what == "old_service" {
+        let parts = all_of(alloc, parts, ' ', false)?;
+        return Ok(Body::Service(Service::Old { parts }));
     }
-    let parts = all_of(alloc, parts, ' ', false)?;
-    Ok(Body::Service(Service::Old { parts }))
-}
-
-fn new_service_of(alloc: Global, parts: &str) -> Result<Body, NoMemory> {
     let (base, rest) = cut(parts, ' ');
     let base = Name::of(alloc, base)?;
     let constructors = all_of(alloc, rest, ' ', false)?;

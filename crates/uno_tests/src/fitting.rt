@@ -3,12 +3,12 @@ ghost use Rattle.uno_model.specs.Sound.{IsSound};
 
 use crate::entities::texts::VALUED;
 use crate::entities::{registry_of, sound};
-use crate::judging::see;
+use crate::judging::{made, see};
 use crate::types::{cut, type_of};
 use crate::values::value_of;
 use std::alloc::Global;
-use uno_base::NoMemory;
-use uno_types::{Registry, TypeName};
+use std::process::Abort;
+use uno_types::Registry;
 use uno_values::fits;
 
 /// Types, and a value that fits each.
@@ -121,28 +121,15 @@ interface/t.XBase: peer=t.XTop:
 interface/t.XBase: own=t.XTop:@4097
 interface/t.XBase: peer=t.XTop:@4097";
 
-/// Whether the value of these words fits the type.
-fn does_fit(
-    alloc: Global,
-    registry: &Registry,
-    kind: &TypeName,
-    words: &str,
-) -> Result<bool, NoMemory>
-    requires { IsSound registry.now }
-{
-    let value = value_of(alloc, words)?;
-    let fit = fits(registry, &value, kind);
-    drop(value);
-    Ok(fit)
-}
-
 /// Whether the value of a row fits the type of the row.
-fn fits_row(alloc: Global, registry: &Registry, row: &str) -> Result<bool, NoMemory>
+fn fits_row(rt: &impl Abort, alloc: Global, registry: &Registry, row: &str) -> bool
     requires { IsSound registry.now }
 {
     let (word, words) = cut(row, ':');
-    let kind = type_of(alloc, word)?;
-    let fit = does_fit(alloc, registry, &kind, words.trim_start());
+    let kind = made(rt, type_of(alloc, word));
+    let value = made(rt, value_of(alloc, words.trim_start()));
+    let fit = fits(registry, &value, &kind);
+    drop(value);
     drop(kind);
     fit
 }
@@ -151,9 +138,10 @@ fn fits_row(alloc: Global, registry: &Registry, row: &str) -> Result<bool, NoMem
 fn rows_fit_as_they_say(rt: HostRuntime) {
     let registry = sound(&rt, registry_of(rt.alloc(), VALUED));
     for row in FIT.lines() {
-        see(&rt, fits_row(rt.alloc(), &registry, row) == Ok(true), row);
+        see(&rt, fits_row(&rt, rt.alloc(), &registry, row), row);
     }
     for row in UNFIT.lines() {
-        see(&rt, fits_row(rt.alloc(), &registry, row) == Ok(false), row);
+        see(&rt, !fits_row(&rt, rt.alloc(), &registry, row), row);
     }
+    drop(registry);
 }

@@ -1,15 +1,12 @@
 //! Messages that are read.
 ghost use Rattle.uno_model.specs.Sound.{IsSound};
 
-use crate::entities::texts::CALLED;
-use crate::entities::{registry_of, sound};
-use crate::judging::see_bytes;
-use crate::telling::is_told;
+use crate::judging::{made, see_bytes};
+use crate::telling::told;
 use crate::types::cut;
 use crate::waiting::Waiting;
 use std::alloc::Global;
 use std::process::Abort;
-use uno_base::NoMemory;
 use uno_types::Registry;
 use urp_message::Listener;
 
@@ -95,9 +92,12 @@ fn heard(
     requires { IsSound registry.now }
 {
     let (message, used) = listener.read(registry, bytes, expect).ok()?;
-    let right = is_told(alloc, &message, text);
+    let told = told(alloc, &message);
     drop(message);
-    if right == Ok(true) { Some(used) } else { None }
+    match told {
+        Ok(told) if told.as_str() == text => Some(used),
+        _ => None,
+    }
 }
 
 /// Whether a body holds just these messages.
@@ -128,59 +128,19 @@ fn is_read(
     rest.is_empty()
 }
 
-/// Sees that a listener reads bodies one after the other.
-fn judge(
-    rt: &impl Abort,
-    alloc: Global,
-    registry: &Registry,
-    listener: &mut Listener,
-    expect: &Waiting,
-    bodies: &[Heard],
-)
-    requires { IsSound registry.now }
-{
-    for heard_in in bodies {
-        let (body, _) = heard_in;
-        see_bytes(
-            rt,
-            is_read(alloc, registry, listener, expect, heard_in),
-            body,
-        );
-    }
-}
-
-/// Sees that a new listener does so while a call waits.
-fn judge_talk(
-    rt: &impl Abort,
-    alloc: Global,
-    registry: &Registry,
-    expect: &Waiting,
-    bodies: &[Heard],
-) -> Result<(), NoMemory>
-    requires { IsSound registry.now }
-{
-    let mut listener = Listener::new(alloc)?;
-    judge(rt, alloc, registry, &mut listener, expect, bodies);
-    drop(listener);
-    Ok(())
-}
-
-fn judge_all(rt: &impl Abort, alloc: Global, registry: &Registry) -> Result<(), NoMemory>
+/// Sees that listeners read bodies one after the other, each new and while a call waits.
+pub(crate) fn judge(rt: &impl Abort, alloc: Global, registry: &Registry)
     requires { IsSound registry.now }
 {
     for (function, bodies) in TALKS {
-        let expect = Waiting::of(alloc, *function)?;
-        let judged = judge_talk(rt, alloc, registry, &expect, bodies);
+        let expect = made(rt, Waiting::of(alloc, *function));
+        let mut listener = made(rt, Listener::new(alloc));
+        for heard_in in *bodies {
+            let (body, _) = heard_in;
+            let right = is_read(alloc, registry, &mut listener, &expect, heard_in);
+            see_bytes(rt, right, body);
+        }
+        drop(listener);
         drop(expect);
-        judged?;
     }
-    Ok(())
-}
-
-#[test]
-fn messages_are_read(rt: HostRuntime) {
-    let registry = sound(&rt, registry_of(rt.alloc(), CALLED));
-    let judged = judge_all(&rt, rt.alloc(), &registry);
-    drop(registry);
-    assert!(rt; judged.is_ok());
 }

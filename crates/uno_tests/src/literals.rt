@@ -7,7 +7,6 @@ use crate::judging::{see, see_number};
 use std::alloc::Global;
 use uno_base::NoMemory;
 use uno_types::{Registry, TypeName};
-use uno_values::Value;
 use value_text::TextError::{BadLiteral, WrongType};
 use value_text::{TextError, print_value, read_value};
 
@@ -129,7 +128,10 @@ fn is_right(
     };
     let printed = through(alloc, registry, &kind, text);
     drop(kind);
-    Ok(is_alike(&printed, text, wanted))
+    match printed {
+        Ok(bytes) => Ok(wanted.is_ok() && bytes.as_slice() == text.as_bytes()),
+        Err(error) => Ok(wanted == Err(error)),
+    }
 }
 
 /// What is printed of the value that is read.
@@ -142,28 +144,11 @@ fn through(
     requires { IsSound registry.now }
 {
     let value = read_value(alloc, registry, text, kind)?;
-    let text = printed(alloc, registry, &value);
+    let printed = print_value(alloc, registry, &value);
     drop(value);
-    text
-}
-
-fn printed(alloc: Global, registry: &Registry, value: &Value) -> Result<Vec<u8>, TextError>
-    requires { IsSound registry.now }
-{
-    match print_value(alloc, registry, value) {
+    match printed {
         Ok(bytes) => Ok(bytes),
         Err(NoMemory) => Err(TextError::NoMemory),
-    }
-}
-
-fn is_alike(
-    printed: &Result<Vec<u8>, TextError>,
-    text: &str,
-    wanted: Result<(), TextError>,
-) -> bool {
-    match printed {
-        Ok(bytes) => wanted.is_ok() && bytes.as_slice() == text.as_bytes(),
-        Err(error) => wanted == Err(*error),
     }
 }
 

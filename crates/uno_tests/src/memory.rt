@@ -1,5 +1,19 @@
-//! Where memory runs out: `rt try --test --fail-alloc N` makes the Nth request fail, and these tests pass for each N.
+//! Where memory runs out: `rt try --test --fail-alloc N` makes the Nth request fail, and this test passes for each N.
+use crate::judging::see;
 
 mod registries;
 mod slots;
 mod values;
+
+#[test]
+fn each_call_is_right_or_finds_no_memory(rt: HostRuntime) {
+    see(
+        &rt,
+        registries::texts_are_right(rt.alloc()),
+        "copies and tags",
+    );
+    see(&rt, registries::run(rt.alloc()) != Ok(false), "registries");
+    see(&rt, slots::sends(rt.alloc()) != Ok(false), "what is sent");
+    see(&rt, slots::reads(rt.alloc()) != Ok(false), "what is read");
+    see(&rt, values::are_right(rt.alloc()) != Ok(false), "values");
+}

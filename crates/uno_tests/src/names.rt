@@ -4,18 +4,12 @@ use crate::types::type_of;
 use std::alloc::Global;
 use std::process::Abort;
 use uno_base::NoMemory;
-use uno_types::{Name, Tag, TagError, Text, Tid, TypeName, is_entity_name, is_identifier};
+use uno_types::{Name, Tag, TagError, Text, Tid, is_entity_name, is_identifier};
 
 fn name_copy(alloc: Global, text: &str) -> Result<bool, NoMemory> {
     let name = Name::of(alloc, text)?;
-    let copied = has_name_copy(alloc, &name, text);
-    drop(name);
-    copied
-}
-
-fn has_name_copy(alloc: Global, name: &Name, text: &str) -> Result<bool, NoMemory> {
     let copy = name.copy(alloc)?;
-    Ok(copy.is(name) && copy.as_str() == text)
+    Ok(copy.is(&name) && copy.as_str() == text)
 }
 
 fn text_copy(alloc: Global, text: &str) -> Result<bool, NoMemory> {
@@ -37,16 +31,18 @@ fn tid_copy(alloc: Global, text: &str) -> Result<bool, NoMemory> {
 /// A copy of the type of that word.
 fn type_copy(alloc: Global, word: &str) -> Result<bool, NoMemory> {
     let kind = type_of(alloc, word)?;
-    let copied = has_copy(alloc, &kind);
-    drop(kind);
-    copied
-}
-
-fn has_copy(alloc: Global, kind: &TypeName) -> Result<bool, NoMemory> {
-    let copy = kind.copy(alloc)?;
-    let copied = copy.is(kind);
-    drop(copy);
-    Ok(copied)
+    match kind.copy(alloc) {
+        Ok(copy) => {
+            let copied = copy.is(&kind);
+            drop(copy);
+            drop(kind);
+            Ok(copied)
+        }
+        Err(error) => {
+            drop(kind);
+            Err(error)
+        }
+    }
 }
 
 /// Whether a copy of each has what it was copied from.
@@ -61,18 +57,11 @@ pub(crate) fn copies(alloc: Global, text: &str) -> Result<bool, NoMemory> {
 
 /// Whether the text is a tag, which then has just its letters, and so has a copy.
 pub(crate) fn is_tag(alloc: Global, text: &str) -> Result<bool, NoMemory> {
-    match Tag::read(alloc, text) {
-        Ok(tag) => {
-            let copied = has_tag_copy(alloc, &tag, text);
-            drop(tag);
-            copied
-        }
-        Err(TagError::NoMemory) => Err(NoMemory),
-        Err(TagError::BadTag) => Ok(false),
-    }
-}
-
-fn has_tag_copy(alloc: Global, tag: &Tag, text: &str) -> Result<bool, NoMemory> {
+    let tag = match Tag::read(alloc, text) {
+        Ok(tag) => tag,
+        Err(TagError::NoMemory) => return Err(NoMemory),
+        Err(TagError::BadTag) => return Ok(false),
+    };
     let copy = tag.copy(alloc)?;
     Ok(copy.as_str() == text && tag.as_bytes() == text.as_bytes())
 }

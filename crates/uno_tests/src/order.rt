@@ -2,7 +2,7 @@
 use crate::entities::{add_lines, entity_of, sound};
 use std::alloc::Global;
 use uno_base::NoMemory;
-use uno_types::{AddError, Entity, Registry};
+use uno_types::{AddError, Registry};
 
 /// What is added to the built-in entities.
 const ADDED: &[&str] = &[
@@ -29,17 +29,12 @@ const IN_ORDER: &[&str] = &[
     "z\u{e9}",
 ];
 
-/// Whether an entity has this name, and one of this name is found.
-fn is_found(registry: &Registry, entity: &Entity, name: &str) -> bool {
-    entity.name.as_str() == name && registry.find(name).is_some()
-}
-
 /// Whether these are the names, in this order, and each is found.
 fn has_names(registry: &Registry, names: &[&str]) -> bool {
     let mut place: usize = 0;
     for entity in registry.entities() {
         match names.get(place) {
-            Some(name) if is_found(registry, entity, name) => {}
+            Some(name) if entity.name.as_str() == *name && registry.find(name).is_some() => {}
             _ => return false,
         }
         place = place.saturating_add(1);
@@ -56,16 +51,11 @@ fn add_all(alloc: Global, registry: &mut Registry) -> Result<bool, NoMemory> {
     Ok(registry.add(again) == Err(AddError::Twice))
 }
 
-/// Whether what is added stands in order, each name once.
-fn is_right(alloc: Global, registry: &mut Registry) -> Result<bool, NoMemory> {
-    let once = add_all(alloc, registry)?;
-    Ok(once && has_names(registry, IN_ORDER))
-}
-
 #[test]
 fn the_built_in_entities_are_sound_and_what_is_added_goes_in_order(rt: HostRuntime) {
     let mut registry = sound(&rt, Registry::new(rt.alloc()));
-    let right = is_right(rt.alloc(), &mut registry);
+    let once = add_all(rt.alloc(), &mut registry);
+    let right = once == Ok(true) && has_names(&registry, IN_ORDER);
     drop(registry);
-    assert!(rt; right == Ok(true));
+    assert!(rt; right);
 }

@@ -1,12 +1,10 @@
 //! Bodies that are refused, each for the first reason in the order of reading.
 ghost use Rattle.uno_model.specs.Sound.{IsSound};
 
-use crate::entities::texts::CALLED;
-use crate::entities::{registry_of, sound};
-use crate::judging::see_bytes;
+use crate::judging::{made, see_bytes};
 use crate::waiting::Waiting;
 use std::alloc::Global;
-use uno_base::NoMemory;
+use std::process::Abort;
 use uno_types::Registry;
 use urp_message::{Listener, ReadError};
 use urp_wire::Reason;
@@ -84,7 +82,7 @@ const ROWS: &[Row] = &[
 ];
 
 /// Why a body is not read, if it is not.
-fn refusal(
+pub(crate) fn refusal(
     registry: &Registry,
     listener: &mut Listener,
     expect: &Waiting,
@@ -101,75 +99,30 @@ fn refusal(
     }
 }
 
-/// The same of a new listener.
-pub(crate) fn refusal_at_first(
-    alloc: Global,
-    registry: &Registry,
-    expect: &Waiting,
-    body: &[u8],
-) -> Result<Option<ReadError>, NoMemory>
-    requires { IsSound registry.now }
-{
-    let mut listener = Listener::new(alloc)?;
-    let refusal = refusal(registry, &mut listener, expect, body);
-    drop(listener);
-    Ok(refusal)
-}
-
-/// Whether bodies are read.
-fn are_read(
-    registry: &Registry,
-    listener: &mut Listener,
-    expect: &Waiting,
-    bodies: &[&[u8]],
-) -> bool
-    requires { IsSound registry.now }
-{
-    for body in bodies {
-        if refusal(registry, listener, expect, body).is_some() {
-            return false;
-        }
-    }
-    true
-}
-
 /// Whether a body is refused behind those that are read, and for the same reason a good one behind it.
 fn refuses(registry: &Registry, listener: &mut Listener, expect: &Waiting, row: &Row) -> bool
     requires { IsSound registry.now }
 {
     let (read, body, reason) = row;
+    for body in *read {
+        if refusal(registry, listener, expect, body).is_some() {
+            return false;
+        }
+    }
     let wanted = Some(ReadError::Broken(*reason));
-    are_read(registry, listener, expect, read)
-        && refusal(registry, listener, expect, body) == wanted
+    refusal(registry, listener, expect, body) == wanted
         && refusal(registry, listener, expect, CALL) == wanted
 }
 
-/// Whether a new listener does so.
-fn is_refused(
-    alloc: Global,
-    registry: &Registry,
-    expect: &Waiting,
-    row: &Row,
-) -> Result<bool, NoMemory>
+/// Sees that new listeners do so while a call of `check` waits.
+pub(crate) fn judge(rt: &impl Abort, alloc: Global, registry: &Registry, expect: &Waiting)
     requires { IsSound registry.now }
 {
-    let mut listener = Listener::new(alloc)?;
-    let refuses = refuses(registry, &mut listener, expect, row);
-    drop(listener);
-    Ok(refuses)
-}
-
-#[test]
-fn the_first_reason_is_told_and_then_again(rt: HostRuntime) -> Result<(), NoMemory> {
-    let expect = Waiting::of(rt.alloc(), 4)?;
-    let registry = sound(&rt, registry_of(rt.alloc(), CALLED));
     for row in ROWS {
+        let mut listener = made(rt, Listener::new(alloc));
+        let right = refuses(registry, &mut listener, expect, row);
+        drop(listener);
         let (_, body, _) = row;
-        see_bytes(
-            &rt,
-            is_refused(rt.alloc(), &registry, &expect, row) == Ok(true),
-            body,
-        );
+        see_bytes(rt, right, body);
     }
-    Ok(())
 }

@@ -1,5 +1,5 @@
 //! That a run answers where memory is ample, with the bytes of the protocol, and says how it ended.
-use crate::judging::see_number;
+use crate::judging::{made, see_number};
 use crate::sources::source_of;
 use crate::talk::{ASK, CALL, DOUBLE, OBJECT};
 use std::alloc::Global;
@@ -295,7 +295,7 @@ const HINDERED: &[Row] = &[
 ];
 
 /// The pieces, one behind the other, and zeroes up to a length.
-fn joined(alloc: Global, pieces: &[&[u8]], length: usize) -> Result<Vec<u8>, NoMemory> {
+pub(crate) fn joined(alloc: Global, pieces: &[&[u8]], length: usize) -> Result<Vec<u8>, NoMemory> {
     let mut all = Vec::new(alloc);
     for piece in pieces {
         all.extend_from_slice(piece)?;
@@ -318,12 +318,6 @@ fn are_joined(bytes: &[u8], pieces: &[&[u8]]) -> bool {
     rest.is_empty()
 }
 
-fn input_of(alloc: Global, row: &Row) -> Result<MemSource, NoMemory> {
-    let [failing, _, _] = row.failing;
-    let bytes = joined(alloc, row.input, row.length)?;
-    source_of(alloc, bytes, row.sizes, failing)
-}
-
 /// A sink of which the writes with these numbers fail.
 fn sink_of(alloc: Global, failing: &[u64]) -> Result<MemSink, NoMemory> {
     Ok(MemSink::new(alloc, Vec::from_slice(alloc, failing)?))
@@ -337,87 +331,100 @@ fn owned(alloc: Global, words: &[&str]) -> Result<Vec<String>, NoMemory> {
     Ok(all)
 }
 
-/// How a run with these words ends.
-fn ended(
+fn tag_of(alloc: Global) -> Result<Tag, NoMemory> {
+    match Tag::read(alloc, "S") {
+        Ok(tag) => Ok(tag),
+        Err(_) => Err(NoMemory),
+    }
+}
+
+/// Whether a run does what the row says.
+fn goes(
     alloc: Global,
-    words: &[&str],
+    row: &Row,
+    words: &[String],
+    tag: &Tag,
     input: &mut MemSource,
     output: &mut MemSink,
     errors: &mut MemSink,
-) -> Result<Status, NoMemory> {
-    let Ok(tag) = Tag::read(alloc, "S") else {
-        return Err(NoMemory);
-    };
-    let words = owned(alloc, words)?;
-    Ok(run(&(), alloc, &words, &tag, input, output, errors))
-}
-
-/// Whether the run of a row ends as it says, and tells that.
-fn ends(
-    alloc: Global,
-    row: &Row,
-    input: &mut MemSource,
-    output: &mut MemSink,
-) -> Result<bool, NoMemory> {
-    let [_, _, failing] = row.failing;
-    let mut errors = sink_of(alloc, failing)?;
-    let status = ended(alloc, row.words, input, output, &mut errors);
-    Ok(status == Ok(row.status) && errors.as_bytes() == row.line.as_bytes())
-}
-
-/// Whether it also writes what the row says.
-fn answers(alloc: Global, row: &Row, input: &mut MemSource) -> Result<bool, NoMemory> {
-    let [_, failing, _] = row.failing;
-    let mut output = sink_of(alloc, failing)?;
-    let ends = ends(alloc, row, input, &mut output);
-    Ok(ends == Ok(true) && are_joined(output.as_bytes(), row.output))
-}
-
-/// Whether it also leaves what the row says.
-fn is_right(alloc: Global, row: &Row) -> Result<bool, NoMemory> {
-    let mut input = input_of(alloc, row)?;
-    let answers = answers(alloc, row, &mut input);
-    let mut piece = [0u8; 100];
-    Ok(answers == Ok(true) && input.read(&mut piece) == Ok(row.left))
-}
-
-fn judge_all(rt: &impl Abort, alloc: Global, rows: &[Row]) {
-    for (number, row) in rows.iter().enumerate() {
-        see_number(rt, is_right(alloc, row) == Ok(true), number);
+) -> bool {
+    let status = run(&(), alloc, words, tag, input, output, errors);
+    if status != row.status || errors.as_bytes() != row.line.as_bytes() {
+        return false;
     }
+    let mut piece = [0u8; 100];
+    are_joined(output.as_bytes(), row.output) && input.read(&mut piece) == Ok(row.left)
 }
 
-#[test]
-fn queries_and_calls_are_answered_in_any_pieces(rt: HostRuntime) {
-    judge_all(&rt, rt.alloc(), ANSWERED);
+/// Whether the run of a row at the end with that tag does what the row says.
+fn is_right(rt: &impl Abort, alloc: Global, tag: &Tag, row: &Row) -> bool {
+    let [reads, writes, lines] = row.failing;
+    let bytes = made(rt, joined(alloc, row.input, row.length));
+    let mut input = made(rt, source_of(alloc, bytes, row.sizes, reads));
+    let mut output = made(rt, sink_of(alloc, writes));
+    let mut errors = made(rt, sink_of(alloc, lines));
+    let words = made(rt, owned(alloc, row.words));
+    let right = goes(
+        alloc,
+        row,
+        &words,
+        tag,
+        &mut input,
+        &mut output,
+        &mut errors,
+    );
+    drop(words);
+    drop(errors);
+    drop(output);
+    drop(input);
+    right
+}
+
+/// Sees that runs go as the rows say.
+fn judge_all(rt: &impl Abort, alloc: Global, tag: &Tag, what: &str, rows: &[Row]) {
+    for (number, row) in rows.iter().enumerate() {
+        assert!(rt; is_right(rt, alloc, tag, row), "{what} at {number}");
+    }
 }
 
 /// Sees that runs over these inputs end alike.
-fn judge_alike(rt: &impl Abort, alloc: Global, row: &Row, inputs: &[&'static [&'static [u8]]]) {
+fn judge_alike(
+    rt: &impl Abort,
+    alloc: Global,
+    tag: &Tag,
+    what: &str,
+    row: &Row,
+    inputs: &[&'static [&'static [u8]]],
+) {
     for (number, input) in inputs.iter().enumerate() {
         let row = Row { input, ..*row };
-        see_number(rt, is_right(alloc, &row) == Ok(true), number);
+        assert!(rt; is_right(rt, alloc, tag, &row), "{what} at {number}");
     }
 }
 
 #[test]
-fn what_may_not_come_first_breaks_at_the_first_byte(rt: HostRuntime) {
-    judge_alike(&rt, rt.alloc(), &BROKEN, NOT_FIRST);
-}
-
-#[test]
-fn what_may_not_come_next_breaks_at_its_place(rt: HostRuntime) {
-    judge_alike(&rt, rt.alloc(), &AT_66, NOT_NEXT);
-}
-
-#[test]
-fn what_may_not_come_last_breaks_or_is_not_answered(rt: HostRuntime) {
-    judge_all(&rt, rt.alloc(), NOT_LAST);
-}
-
-#[test]
-fn faults_keep_what_was_answered_and_other_words_do_nothing(rt: HostRuntime) {
-    judge_all(&rt, rt.alloc(), HINDERED);
+fn talks_are_answered_in_any_pieces_or_break_at_their_places(rt: HostRuntime) {
+    let tag = made(&rt, tag_of(rt.alloc()));
+    judge_all(&rt, rt.alloc(), &tag, "what is answered", ANSWERED);
+    judge_alike(
+        &rt,
+        rt.alloc(),
+        &tag,
+        "what may not come first",
+        &BROKEN,
+        NOT_FIRST,
+    );
+    judge_alike(
+        &rt,
+        rt.alloc(),
+        &tag,
+        "what may not come next",
+        &AT_66,
+        NOT_NEXT,
+    );
+    judge_all(&rt, rt.alloc(), &tag, "what may not come last", NOT_LAST);
+    judge_all(&rt, rt.alloc(), &tag, "faults and other words", HINDERED);
+    drop(tag);
 }
 
 const CODES: &[(Status, u8)] = &[

@@ -1,9 +1,7 @@
 //! Messages that are written, each as a block.
 ghost use Rattle.uno_model.specs.Sound.{IsSound};
 
-use crate::entities::texts::CALLED;
-use crate::entities::{registry_of, sound};
-use crate::judging::see_bytes;
+use crate::judging::{made, see_bytes};
 use crate::types::type_of;
 use crate::values::value_of;
 use crate::waiting::NODE;
@@ -92,27 +90,31 @@ const TALKS: &[&[Row]] = &[
 ];
 
 /// The message of a row.
-fn message(alloc: Global, said: &Said) -> Result<Message, NoMemory> {
+fn message(rt: &impl Abort, alloc: Global, said: &Said) -> Message {
     match said {
-        Said::Calls(face, function, words) => call(alloc, face, *function, words),
-        Said::Releases => release(alloc),
-        Said::Returns(words) => reply(alloc, 3, None, words),
-        Said::Raises(kind, words) => reply(alloc, 4, Some(kind), words),
+        Said::Calls(face, function, words) => Message::Request {
+            tid: made(rt, Tid::of(alloc, b"T")),
+            oid: made(rt, Text::of(alloc, "S;1")),
+            face: made(rt, Name::of(alloc, face)),
+            function: *function,
+            args: made(rt, args_of(alloc, words)),
+        },
+        Said::Releases => Message::Release {
+            tid: made(rt, Tid::of(alloc, b"U")),
+            oid: made(rt, Text::of(alloc, "S;1")),
+            face: made(rt, Name::of(alloc, NODE)),
+        },
+        Said::Returns(words) => {
+            let value = made(rt, value_of(alloc, words));
+            let outs = Vec::new(alloc);
+            reply(rt, alloc, 3, Answer::Returned { value, outs })
+        }
+        Said::Raises(kind, words) => {
+            let kind = made(rt, type_of(alloc, kind));
+            let value = made(rt, value_of(alloc, words));
+            reply(rt, alloc, 4, Answer::Raised(AnyValue { kind, value }))
+        }
     }
-}
-
-fn call(alloc: Global, face: &str, function: u16, words: &str) -> Result<Message, NoMemory> {
-    let tid = Tid::of(alloc, b"T")?;
-    let oid = Text::of(alloc, "S;1")?;
-    let face = Name::of(alloc, face)?;
-    let args = args_of(alloc, words)?;
-    Ok(Message::Request {
-        tid,
-        oid,
-        face,
-        function,
-        args,
-    })
 }
 
 fn args_of(alloc: Global, words: &str) -> Result<Vec<Value>, NoMemory> {
@@ -121,48 +123,13 @@ fn args_of(alloc: Global, words: &str) -> Result<Vec<Value>, NoMemory> {
     Ok(args)
 }
 
-fn release(alloc: Global) -> Result<Message, NoMemory> {
-    let tid = Tid::of(alloc, b"U")?;
-    let oid = Text::of(alloc, "S;1")?;
-    let face = Name::of(alloc, NODE)?;
-    Ok(Message::Release { tid, oid, face })
-}
-
-fn reply(
-    alloc: Global,
-    function: u16,
-    raised: Option<&str>,
-    words: &str,
-) -> Result<Message, NoMemory> {
-    let tid = Tid::of(alloc, b"T")?;
-    let face = Name::of(alloc, NODE)?;
-    let answer = answer_of(alloc, raised, words)?;
-    Ok(Message::Reply {
-        tid,
-        face,
+fn reply(rt: &impl Abort, alloc: Global, function: u16, answer: Answer) -> Message {
+    Message::Reply {
+        tid: made(rt, Tid::of(alloc, b"T")),
+        face: made(rt, Name::of(alloc, NODE)),
         function,
         answer,
-    })
-}
-
-/// An exception of the type that is raised, or a value that is returned.
-fn answer_of(alloc: Global, raised: Option<&str>, words: &str) -> Result<Answer, NoMemory> {
-    match raised {
-        Some(kind) => thrown(alloc, kind, words),
-        None => returned(alloc, words),
     }
-}
-
-fn returned(alloc: Global, words: &str) -> Result<Answer, NoMemory> {
-    let value = value_of(alloc, words)?;
-    let outs = Vec::new(alloc);
-    Ok(Answer::Returned { value, outs })
-}
-
-fn thrown(alloc: Global, kind: &str, words: &str) -> Result<Answer, NoMemory> {
-    let kind = type_of(alloc, kind)?;
-    let value = value_of(alloc, words)?;
-    Ok(Answer::Raised(AnyValue { kind, value }))
 }
 
 /// The most that a message may weigh.
@@ -188,48 +155,26 @@ fn is_written(
     Ok(written.as_slice() == block)
 }
 
-/// Whether the message of a row is written as its block.
-fn says(
-    alloc: Global,
-    registry: &Registry,
-    speaker: &mut Speaker,
-    row: &Row,
-) -> Result<bool, NoMemory>
+/// Sees that the message of a row is written as its block.
+fn judge_row(rt: &impl Abort, alloc: Global, registry: &Registry, speaker: &mut Speaker, row: &Row)
     requires { IsSound registry.now }
 {
     let (said, block) = row;
-    let message = message(alloc, said)?;
+    let message = message(rt, alloc, said);
     let written = is_written(alloc, registry, speaker, &message, block);
     drop(message);
-    written
-}
-
-/// Sees what a speaker says.
-fn judge(rt: &impl Abort, alloc: Global, registry: &Registry, speaker: &mut Speaker, rows: &[Row])
-    requires { IsSound registry.now }
-{
-    for row in rows {
-        let (_, block) = row;
-        see_bytes(rt, says(alloc, registry, speaker, row) == Ok(true), block);
-    }
+    see_bytes(rt, written == Ok(true), block);
 }
 
 /// Sees what speakers say, each from the start.
-fn judge_all(rt: &impl Abort, alloc: Global, registry: &Registry) -> Result<(), NoMemory>
+pub(crate) fn judge(rt: &impl Abort, alloc: Global, registry: &Registry)
     requires { IsSound registry.now }
 {
     for rows in TALKS {
-        let mut speaker = Speaker::new(alloc)?;
-        judge(rt, alloc, registry, &mut speaker, rows);
+        let mut speaker = made(rt, Speaker::new(alloc));
+        for row in *rows {
+            judge_row(rt, alloc, registry, &mut speaker, row);
+        }
         drop(speaker);
     }
-    Ok(())
-}
-
-#[test]
-fn blocks_are_written(rt: HostRuntime) {
-    let registry = sound(&rt, registry_of(rt.alloc(), CALLED));
-    let judged = judge_all(&rt, rt.alloc(), &registry);
-    drop(registry);
-    assert!(rt; judged.is_ok());
 }

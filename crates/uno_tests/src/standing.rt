@@ -8,7 +8,7 @@ use crate::types::{cut, type_of};
 use std::alloc::Global;
 use std::process::Abort;
 use uno_base::NoMemory;
-use uno_types::{Registry, TypeName};
+use uno_types::Registry;
 
 const BASES: &str = "
 interface t.XTop +?t.XMay +t.XMust;
@@ -71,18 +71,18 @@ pub(crate) fn may_stand(
     requires { IsSound registry.now }
 {
     let to = type_of(alloc, to)?;
-    let may = takes(alloc, registry, &to, from);
-    drop(to);
-    may
-}
-
-fn takes(alloc: Global, registry: &Registry, to: &TypeName, from: &str) -> Result<bool, NoMemory>
-    requires { IsSound registry.now }
-{
-    let from = type_of(alloc, from)?;
-    let may = registry.assignable(to, &from);
-    drop(from);
-    Ok(may)
+    match type_of(alloc, from) {
+        Ok(from) => {
+            let may = registry.assignable(&to, &from);
+            drop(from);
+            drop(to);
+            Ok(may)
+        }
+        Err(error) => {
+            drop(to);
+            Err(error)
+        }
+    }
 }
 
 /// Sees that each of the types may stand for one, or only that one itself.
@@ -98,17 +98,9 @@ fn judge_types(
 {
     for from in all_from.split(' ') {
         let wanted = all || to == from;
-        answers(
-            rt,
-            may_stand(alloc, registry, to, from) == Ok(wanted),
-            to,
-            from,
-        );
+        let right = may_stand(alloc, registry, to, from) == Ok(wanted);
+        assert!(rt; right, "at {to} from {from}");
     }
-}
-
-fn answers(rt: &impl Abort, right: bool, to: &str, from: &str) {
-    assert!(rt; right, "at {to} from {from}");
 }
 
 fn judge_row(rt: &impl Abort, alloc: Global, registry: &Registry, row: &str)

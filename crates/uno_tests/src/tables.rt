@@ -88,48 +88,32 @@ fn is_numbered(alloc: Global, registry: &Registry, row: &Row) -> Result<bool, No
     Ok(right)
 }
 
-/// Whether bases come first, and attributes before methods, and an exception and an unknown name have no table.
-fn tables_are_right(alloc: Global, registry: &Registry) -> bool {
-    has_table(alloc, registry, "demo.XBoth", BOTH)
-        && has_none(alloc, registry, "com.sun.star.uno.Exception")
-        && has_none(alloc, registry, "demo.XNone")
-}
-
-#[test]
-fn functions_stand_in_order_and_have_their_numbers(rt: HostRuntime) {
-    let registry = sound(&rt, registry_of(rt.alloc(), DEMO));
-    see(&rt, tables_are_right(rt.alloc(), &registry), "the tables");
-    for (number, row) in NUMBERED.iter().enumerate() {
-        see_number(
-            &rt,
-            is_numbered(rt.alloc(), &registry, row) == Ok(true),
-            number,
-        );
-    }
-}
-
-/// Whether there are so many functions, the last of them declared by that interface.
-fn ends_in(functions: &[Function], count: usize, owner: &str) -> bool {
+/// Whether the interface has so many functions, and declares the last of them.
+fn has_long_table(alloc: Global, registry: &Registry, name: &str, count: usize) -> bool {
+    let Ok(functions) = function_table(alloc, registry, name) else {
+        return false;
+    };
     match functions.last() {
-        Some(last) => functions.len() == count && last.owner.as_str() == owner,
+        Some(last) => functions.len() == count && last.owner.as_str() == name,
         None => false,
     }
 }
 
-/// Whether the interface has so many functions, and declares the last of them.
-fn has_long_table(alloc: Global, registry: &Registry, name: &str, count: usize) -> bool {
-    match function_table(alloc, registry, name) {
-        Ok(functions) => ends_in(&functions, count, name),
-        Err(_) => false,
-    }
-}
-
+/// Bases come first, and attributes before methods; an exception and an unknown name have no table.
 #[test]
-fn the_end_of_a_long_chain_has_its_table(rt: HostRuntime) {
-    let registry = sound(&rt, registry_of(rt.alloc(), CHAIN_UP));
-    see(
-        &rt,
-        has_long_table(rt.alloc(), &registry, "t.X19999", 20_003),
-        "the chain",
-    );
+fn functions_stand_in_order_and_have_their_numbers(rt: HostRuntime) {
+    let registry = sound(&rt, registry_of(rt.alloc(), DEMO));
+    let right = has_table(rt.alloc(), &registry, "demo.XBoth", BOTH)
+        && has_none(rt.alloc(), &registry, "com.sun.star.uno.Exception")
+        && has_none(rt.alloc(), &registry, "demo.XNone");
+    see(&rt, right, "the tables");
+    for (number, row) in NUMBERED.iter().enumerate() {
+        let right = is_numbered(rt.alloc(), &registry, row) == Ok(true);
+        see_number(&rt, right, number);
+    }
+    drop(registry);
+    let chain = sound(&rt, registry_of(rt.alloc(), CHAIN_UP));
+    let right = has_long_table(rt.alloc(), &chain, "t.X19999", 20_003);
+    drop(chain);
+    see(&rt, right, "the chain");
 }

@@ -5,14 +5,8 @@ use uno_types::{Name, Text, Tid};
 use uno_values::Value;
 use urp_message::{Answer, Message};
 
-/// Whether a message is told by this text.
-pub(crate) fn is_told(alloc: Global, message: &Message, text: &str) -> Result<bool, NoMemory> {
-    let told = told(alloc, message)?;
-    Ok(told.as_str() == text)
-}
-
 /// A message as a text.
-fn told(alloc: Global, message: &Message) -> Result<String, NoMemory> {
+pub(crate) fn told(alloc: Global, message: &Message) -> Result<String, NoMemory> {
     match message {
         Message::Request {
             tid,
@@ -21,7 +15,10 @@ fn told(alloc: Global, message: &Message) -> Result<String, NoMemory> {
             function,
             args,
         } => call_told(alloc, tid, oid, face, *function, args),
-        Message::Release { tid, oid, face } => release_told(alloc, tid, oid, face),
+        Message::Release { tid, oid, face } => {
+            let (tid, oid, face) = (text(tid), oid.as_str(), face.as_str());
+            Ok(format!(in alloc; "{tid} releases {oid} {face}")?)
+        }
         Message::Reply {
             tid,
             face,
@@ -39,13 +36,8 @@ fn call_told(
     function: u16,
     args: &[Value],
 ) -> Result<String, NoMemory> {
-    let (tid, oid, face) = (text(tid)?, oid.as_str(), face.as_str());
+    let (tid, oid, face) = (text(tid), oid.as_str(), face.as_str());
     Ok(format!(in alloc; "{tid} calls {oid} {face} {function} {args:?}")?)
-}
-
-fn release_told(alloc: Global, tid: &Tid, oid: &Text, face: &Name) -> Result<String, NoMemory> {
-    let (tid, oid, face) = (text(tid)?, oid.as_str(), face.as_str());
-    Ok(format!(in alloc; "{tid} releases {oid} {face}")?)
 }
 
 fn reply_told(
@@ -55,7 +47,7 @@ fn reply_told(
     function: u16,
     answer: &Answer,
 ) -> Result<String, NoMemory> {
-    let tid = text(tid)?;
+    let tid = text(tid);
     match answer {
         Answer::Returned { value, outs } => {
             let face = face.as_str();
@@ -68,9 +60,10 @@ fn reply_told(
     }
 }
 
-fn text(tid: &Tid) -> Result<&str, NoMemory> {
+/// A name of a chain of calls that is no text is told as an empty one.
+fn text(tid: &Tid) -> &str {
     match std::str::from_utf8(tid.as_bytes()) {
-        Ok(text) => Ok(text),
-        Err(_) => Err(NoMemory),
+        Ok(text) => text,
+        Err(_) => "",
     }
 }

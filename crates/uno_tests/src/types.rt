@@ -8,14 +8,10 @@ pub(crate) fn type_of(alloc: Global, word: &str) -> Result<TypeName, NoMemory> {
     let mut kind = one_of(alloc, word.trim_start_matches("[]"))?;
     for between in word.split("[]") {
         if between.is_empty() {
-            kind = sequence_of(alloc, kind)?;
+            kind = TypeName::Sequence(Box::new(alloc, kind)?);
         }
     }
     Ok(kind)
-}
-
-fn sequence_of(alloc: Global, element: TypeName) -> Result<TypeName, NoMemory> {
-    Ok(TypeName::Sequence(Box::new(alloc, element)?))
 }
 
 fn one_of(alloc: Global, word: &str) -> Result<TypeName, NoMemory> {
@@ -23,16 +19,13 @@ fn one_of(alloc: Global, word: &str) -> Result<TypeName, NoMemory> {
     if name.is_empty() {
         return Ok(simple(word));
     }
-    Ok(named(what, Name::of(alloc, name)?))
-}
-
-fn named(what: &str, name: Name) -> TypeName {
-    match what {
+    let name = Name::of(alloc, name)?;
+    Ok(match what {
         "enum" => TypeName::Enum(name),
         "struct" => TypeName::Struct(name),
         "exception" => TypeName::Exception(name),
         _ => TypeName::Interface(name),
-    }
+    })
 }
 
 /// Any word that is not here is `long`.

@@ -78,17 +78,15 @@ fn are(found: &[Reference], sides: &str) -> bool {
     let mut rest = sides;
     for reference in found {
         let (mark, oid) = side(reference);
-        rest = behind(behind(rest, mark), oid);
+        let Some(behind) = rest.strip_prefix(mark) else {
+            return false;
+        };
+        match behind.strip_prefix(oid) {
+            Some(behind) => rest = behind,
+            None => return false,
+        }
     }
     rest.is_empty()
-}
-
-/// What stands behind the front; of a text with another front, one that is never used up.
-fn behind<'a>(text: &'a str, front: &str) -> &'a str {
-    match text.strip_prefix(front) {
-        Some(rest) => rest,
-        None => "none",
-    }
 }
 
 fn side(reference: &Reference) -> (&str, &str) {
@@ -103,12 +101,8 @@ fn side(reference: &Reference) -> (&str, &str) {
 fn is_copied(alloc: Global, value: &Value) -> Result<bool, NoMemory> {
     let copy = value.copy(alloc)?;
     let copy = shown(alloc, copy)?;
-    is_shown(alloc, value, &copy)
-}
-
-fn is_shown(alloc: Global, value: &Value, text: &str) -> Result<bool, NoMemory> {
     let own = printed(alloc, value)?;
-    Ok(own.as_str() == text)
+    Ok(own.as_str() == copy.as_str())
 }
 
 /// Whether the value takes so many bytes, has these references, and has an equal copy.

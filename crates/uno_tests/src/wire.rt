@@ -2,10 +2,11 @@
 ghost use Rattle.uno_model.specs.Sound.{IsSound};
 
 use crate::entities::sound;
-use crate::judging::{see, see_number};
+use crate::judging::{made, see, see_number};
 use crate::types::type_of;
 use crate::values::value_of;
 use std::alloc::Global;
+use std::process::Abort;
 use uno_base::NoMemory;
 use uno_types::{Registry, TypeName};
 use uno_values::{Value, depth_of, fits, weight};
@@ -93,30 +94,17 @@ fn used(
     Ok(used)
 }
 
-/// The same with no slot known.
-fn used_at_first(
-    alloc: Global,
-    registry: &Registry,
-    kind: &TypeName,
-    bytes: &[u8],
-) -> Result<usize, WireError>
-    requires { IsSound registry.now }
-{
-    let mut caches = ReadCaches::new(alloc)?;
-    let used = used(alloc, registry, &mut caches, kind, bytes);
-    drop(caches);
-    used
-}
-
-/// Whether bytes are read or refused as the row says.
-fn is_read(alloc: Global, registry: &Registry, row: &Row) -> Result<bool, NoMemory>
+/// Whether bytes are read or refused as the row says, with no slot known.
+fn is_read(rt: &impl Abort, alloc: Global, registry: &Registry, row: &Row) -> bool
     requires { IsSound registry.now }
 {
     let (word, bytes, wanted) = row;
-    let kind = type_of(alloc, word)?;
-    let used = used_at_first(alloc, registry, &kind, bytes);
+    let mut caches = made(rt, ReadCaches::new(alloc));
+    let kind = made(rt, type_of(alloc, word));
+    let used = used(alloc, registry, &mut caches, &kind, bytes);
     drop(kind);
-    Ok(used == *wanted)
+    drop(caches);
+    used == *wanted
 }
 
 /// A type, a value of it, and its bytes.
@@ -174,71 +162,29 @@ fn is_spelled(
     Ok(to.as_slice() == bytes)
 }
 
-/// Whether what is written of the value of these words is these bytes.
-fn is_written(
-    alloc: Global,
-    registry: &Registry,
-    caches: &mut SendCaches,
-    kind: &TypeName,
-    words: &str,
-    bytes: &[u8],
-) -> Result<bool, NoMemory>
+/// Sees that one end writes all rows.
+fn judge_written(rt: &impl Abort, alloc: Global, registry: &Registry)
     requires { IsSound registry.now }
 {
-    let value = value_of(alloc, words)?;
-    let right = is_spelled(alloc, registry, caches, kind, &value, bytes);
-    drop(value);
-    right
-}
-
-/// The same of a row.
-fn is_row_written(
-    alloc: Global,
-    registry: &Registry,
-    caches: &mut SendCaches,
-    row: &Written,
-) -> Result<bool, NoMemory>
-    requires { IsSound registry.now }
-{
-    let (word, words, bytes) = row;
-    let kind = type_of(alloc, word)?;
-    let right = is_written(alloc, registry, caches, &kind, words, bytes);
-    drop(kind);
-    right
-}
-
-fn are_written(
-    alloc: Global,
-    registry: &Registry,
-    caches: &mut SendCaches,
-) -> Result<bool, NoMemory>
-    requires { IsSound registry.now }
-{
+    let mut caches = made(rt, SendCaches::new(alloc));
     for row in WRITTEN {
-        if !is_row_written(alloc, registry, caches, row)? {
-            return Ok(false);
-        }
+        let (word, words, bytes) = row;
+        let kind = made(rt, type_of(alloc, word));
+        let value = made(rt, value_of(alloc, words));
+        let right = is_spelled(alloc, registry, &mut caches, &kind, &value, bytes);
+        drop(value);
+        drop(kind);
+        see(rt, right == Ok(true), words);
     }
-    Ok(true)
-}
-
-/// Whether one end writes all rows.
-fn writes_all(alloc: Global, registry: &Registry) -> Result<bool, NoMemory>
-    requires { IsSound registry.now }
-{
-    let mut caches = SendCaches::new(alloc)?;
-    are_written(alloc, registry, &mut caches)
+    drop(caches);
 }
 
 #[test]
 fn bytes_are_read_or_refused_and_values_are_written(rt: HostRuntime) {
     let registry = sound(&rt, Registry::new(rt.alloc()));
     for (number, row) in ROWS.iter().enumerate() {
-        see_number(&rt, is_read(rt.alloc(), &registry, row) == Ok(true), number);
+        see_number(&rt, is_read(&rt, rt.alloc(), &registry, row), number);
     }
-    see(
-        &rt,
-        writes_all(rt.alloc(), &registry) == Ok(true),
-        "what is written",
-    );
+    judge_written(&rt, rt.alloc(), &registry);
+    drop(registry);
 }

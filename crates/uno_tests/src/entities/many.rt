@@ -7,21 +7,16 @@ pub(crate) type Lines = (&'static str, &'static str, u32);
 
 /// In the pieces, `#` is the number of the piece, from 0 on, and `$` the number behind it.
 pub(crate) fn spelled(alloc: Global, lines: Lines) -> Result<String, NoMemory> {
-    let mut text = String::new(alloc);
-    spell(alloc, &mut text, lines)?;
-    Ok(text)
-}
-
-fn spell(alloc: Global, text: &mut String, lines: Lines) -> Result<(), NoMemory> {
     let (whole, piece, count) = lines;
+    let mut text = String::new(alloc);
     for letter in whole.chars() {
         if letter == '@' {
-            repeat(alloc, text, piece, count)?;
+            repeat(alloc, &mut text, piece, count)?;
         } else {
             text.push(letter)?;
         }
     }
-    Ok(())
+    Ok(text)
 }
 
 fn repeat(alloc: Global, text: &mut String, piece: &str, count: u32) -> Result<(), NoMemory> {

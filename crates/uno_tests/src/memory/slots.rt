@@ -30,7 +30,7 @@ fn are_taken(cache: &mut SendCache) -> bool {
     }
 }
 
-fn sends(alloc: Global) -> Result<bool, NoMemory> {
+pub(super) fn sends(alloc: Global) -> Result<bool, NoMemory> {
     let mut cache = SendCache::new(alloc)?;
     Ok(are_taken(&mut cache))
 }
@@ -51,13 +51,7 @@ fn are_meant(cache: &mut ReadCache) -> bool {
     first != Ok(false) && second != Ok(false) && means(cache, 4, None)
 }
 
-fn reads(alloc: Global) -> Result<bool, NoMemory> {
+pub(super) fn reads(alloc: Global) -> Result<bool, NoMemory> {
     let mut cache = ReadCache::new(alloc)?;
     Ok(are_meant(&mut cache))
-}
-
-#[test]
-fn name_takes_a_slot_and_slot_gets_its_meaning_or_there_is_no_memory(rt: HostRuntime) {
-    assert!(rt; sends(rt.alloc()) != Ok(false));
-    assert!(rt; reads(rt.alloc()) != Ok(false));
 }
