@@ -76,9 +76,7 @@ pub(crate) fn table_of(
 {
     let met = interfaces_of(alloc, registry, name)?;
     let mut table = Vec::new(alloc);
-    let pushed = push_all(&mut table, alloc, registry, met.names());
-    drop(met);
-    pushed?;
+    push_all(&mut table, alloc, registry, met.names())?;
     Ok(table)
 }
 

@@ -141,10 +141,10 @@ fn written_kind<'a>(
     if !is_slot(slot) {
         return Err(WireError::Bad(Reason::BadSlot));
     }
-    note(types, slot, name.as_bytes())?;
     let Some(kind) = kind_of_text(alloc, registry, class, name)? else {
         return Err(WireError::Bad(Reason::UnknownType));
     };
+    note(types, slot, name.as_bytes())?;
     Ok((kind, rest))
 }
 
