@@ -1,11 +1,10 @@
 -- A body has at most one of the two forms, and says all that the request carries.
-use Rattle.std.proofs.Common.{◌≡◌, ◌≢◌, ℕ, ◌+◌, ◌-◌, ◌^◌, ◌<◌, List, [], ◌∷◌, ◌++◌, length, refl, sym, ap, ◌∙◌, append_assoc, arith, length-append, get_or, ℤ}
-use Rattle.std.proofs.Common.{pos, negsuc, to_z, subst, take, true}
+use Rattle.std.proofs.Common.{◌≡◌, ◌≢◌, ℕ, ◌+◌, ◌^◌, ◌<◌, List, [], ◌∷◌, ◌++◌, length, refl, sym, ap, ◌∙◌, append_assoc, arith, length-append, get_or, ℤ}
+use Rattle.std.proofs.Common.{pos, negsuc, to_z, subst}
 use Rattle.std.proofs.lemmas.List.{append_cancel_left}
 use Rattle.uno_base.proofs.Lists.{same_fronts}
 use Rattle.std.specs.Prelude.{codes, FitsSigned}
 use Rattle.std.specs.Int.{w32, to_be_bytes, from_be_bytes, cast_unsigned}
-use Rattle.std.specs.Int.Signed.{lt_z}
 use Rattle.std.proofs.lemmas.Int.{to_z-of_z, ints}
 use Rattle.std.proofs.Math.Facts.{Fits-of_z}
 use Rattle.std.proofs.lemmas.Nat.{from_be_bytes-to_be_bytes_4}
@@ -106,30 +105,6 @@ long_read bytes a is e =
     let fits = has_double-fits a is in
     let below : cast_unsigned w32 a < 2 ^ 32 = omega (arith, Fits-of_z {w = w32} fits) in
     ap (λ bs. to_z w32 (from_be_bytes w32 bs)) e ∙ ap (to_z w32) (from_be_bytes-to_be_bytes_4 (cast_unsigned w32 a) below) ∙ to_z-of_z w32 a fits
-
--- no call is built with an argument whose double is below or above all longs
-not_below : (a : ℤ) → IsBuilt (Twice a) → lt_z a (negsuc (2 ^ 30 - 1)) ≡ true → ⊥
-not_below (pos n) is low = cc
-not_below (negsuc n) is low = omega (arith, is.0, ints)
-
-not_above : (a : ℤ) → IsBuilt (Twice a) → lt_z (pos (2 ^ 30 - 1)) a ≡ true → ⊥
-not_above (pos n) is high = omega (arith, is.1, ints)
-not_above (negsuc n) is high = cc
-
--- bytes that are such a number are no argument of a call that is built
-pub no_call_below : (bytes front : List ℕ) (n a : ℤ) → front ≡ take 4 bytes → n ≡ to_z w32 (from_be_bytes w32 front) → lt_z (to_z w32 (cast_unsigned w32 n)) (negsuc (2 ^ 30 - 1)) ≡ true
-    → IsBuilt (Twice a) → bytes ≢ twice_argument a
-no_call_below bytes front n a at_front reads low is e =
-    let same : n ≡ a = reads ∙ long_read front a is (at_front ∙ ap (take 4) e) in
-    let bits : to_z w32 (cast_unsigned w32 n) ≡ a = ap (λ z. to_z w32 (cast_unsigned w32 z)) same ∙ to_z-of_z w32 a (has_double-fits a is) in
-    not_below a is (sym (ap (λ z. lt_z z (negsuc (2 ^ 30 - 1))) bits) ∙ low)
-
-pub no_call_above : (bytes front : List ℕ) (n a : ℤ) → front ≡ take 4 bytes → n ≡ to_z w32 (from_be_bytes w32 front) → lt_z (pos (2 ^ 30 - 1)) (to_z w32 (cast_unsigned w32 n)) ≡ true
-    → IsBuilt (Twice a) → bytes ≢ twice_argument a
-no_call_above bytes front n a at_front reads high is e =
-    let same : n ≡ a = reads ∙ long_read front a is (at_front ∙ ap (take 4) e) in
-    let bits : to_z w32 (cast_unsigned w32 n) ≡ a = ap (λ z. to_z w32 (cast_unsigned w32 z)) same ∙ to_z-of_z w32 a (has_double-fits a is) in
-    not_above a is (sym (ap (λ z. lt_z (pos (2 ^ 30 - 1)) z) bits) ∙ high)
 
 -- a call that was read has a number that its bits give back
 pub twice_returned : (tag body : List ℕ) (a : ℤ) → IsBuilt (Twice a) → body ≡ request_body tag (Twice a)

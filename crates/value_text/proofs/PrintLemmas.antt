@@ -1,16 +1,8 @@
 -- Texts joined by commas, one after the other.
 use Rattle.std.proofs.Common.{◌≡◌, ◌<◌, ◌≤◌, ◌+◌, length, drop, get_or, Bool, true, false, List, [], ◌∷◌, ◌++◌, ℕ, refl, sym, ap, ◌∙◌, codes}
 use Rattle.std.proofs.lemmas.List.{append-nil, append_assoc, drop_more, drop_all}
-use Rattle.std.specs.List.{flat_map}
 use Rattle.uno_model.specs.Literals.{joined}
 use Rattle.value_text.specs.Printing.{comma_before}
-
--- one more byte is written
-pub writes_next : (f : ℕ → List ℕ) (bytes : List ℕ) (i : ℕ) (a b d : List ℕ) → i < length bytes → b ≡ a ++ f (get_or bytes i 0)
-    → a ++ flat_map f (drop i bytes) ≡ d → b ++ flat_map f (drop (i + 1) bytes) ≡ d
-writes_next f bytes i a b d within written all =
-    let left : drop i bytes ≡ get_or bytes i 0 ∷ drop (i + 1) bytes = drop_more bytes i 0 within in
-    rw written (append_assoc a (f (get_or bytes i 0)) (flat_map f (drop (i + 1) bytes)) ∙ ap (λ xs. a ++ flat_map f xs) (sym left) ∙ all)
 
 -- what is left of texts that are joined, where the next is the first or another
 unfoldable pub joined_on : Bool → List (List ℕ) → List ℕ
