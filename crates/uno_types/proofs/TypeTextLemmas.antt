@@ -61,7 +61,11 @@ passed : (text word : List ℕ) (k : Kind) (rest : Option Kind) → (text ≡ wo
 passed text word k rest other none = rw (not_equal text word other) none
 
 -- what is none of the words names no simple type
-pub no_simple : (text : List ℕ) → (text ≡ codes "void" → ⊥) → (text ≡ codes "char" → ⊥) → (text ≡ codes "boolean" → ⊥) → (text ≡ codes "byte" → ⊥) → (text ≡ codes "short" → ⊥) → (text ≡ codes "unsigned short" → ⊥) → (text ≡ codes "long" → ⊥) → (text ≡ codes "unsigned long" → ⊥) → (text ≡ codes "hyper" → ⊥) → (text ≡ codes "unsigned hyper" → ⊥) → (text ≡ codes "string" → ⊥) → (text ≡ codes "type" → ⊥) → (text ≡ codes "any" → ⊥) → None ≡ simple_of text
+pub no_simple : (text : List ℕ)
+    → (text ≡ codes "void" → ⊥) → (text ≡ codes "char" → ⊥) → (text ≡ codes "boolean" → ⊥) → (text ≡ codes "byte" → ⊥) → (text ≡ codes "short" → ⊥)
+    → (text ≡ codes "unsigned short" → ⊥) → (text ≡ codes "long" → ⊥) → (text ≡ codes "unsigned long" → ⊥) → (text ≡ codes "hyper" → ⊥)
+    → (text ≡ codes "unsigned hyper" → ⊥) → (text ≡ codes "string" → ⊥) → (text ≡ codes "type" → ⊥) → (text ≡ codes "any" → ⊥)
+    → None ≡ simple_of text
 unfolding simple_of
 no_simple text a b c d e f g h i j k l m =
     passed text _ _ _ a (passed text _ _ _ b (passed text _ _ _ c (passed text _ _ _ d (passed text _ _ _ e (passed text _ _ _ f

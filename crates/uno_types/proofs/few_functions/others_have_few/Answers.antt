@@ -5,13 +5,16 @@ use Rattle.uno_types.proofs.few_functions.others_have_few.Goals as goal
 
 pub loop-place-preserved : goal.loop-place-preserved
 loop-place-preserved c = record {
-  few = few_at_more (entities_of c.args.entities.now) c.args.later.now c.loop-place.place _ c.in_ok-waits_or_has_few.field-0 c.loop-place.invariant.few c.in_ok-waits_or_has_few.ensures.few c.if-not-branch.false;
+  few = few_at_more (entities_of c.args.entities.now) c.args.later.now c.loop-place.place _ c.in_ok-waits_or_has_few.field-0 c.loop-place.invariant.few
+      c.in_ok-waits_or_has_few.ensures.few c.if-not-branch.false;
   known = c.in_ok-waits_or_has_few.ensures.after;
 }
 
 pub returns-then-not-branch-clause-few : goal.returns-then-not-branch-clause-few
 returns-then-not-branch-clause-few c =
-    one_waits_not (entities_of c.args.entities.now) c.args.later.now c.loop-place.place _ c.in_ok-waits_or_has_few.field-0 (omega (arith, c.requires.long, c.loop-place-test.true)) c.in_ok-waits_or_has_few.ensures.few c.if-not-branch.true
+    one_waits_not (entities_of c.args.entities.now) c.args.later.now c.loop-place.place _ c.in_ok-waits_or_has_few.field-0
+    (omega (arith, c.requires.long, c.loop-place-test.true)) c.in_ok-waits_or_has_few.ensures.few c.if-not-branch.true
 
 pub returns-clause-few : goal.returns-clause-few
-returns-clause-few c = none_left (entities_of c.args.entities.now) c.args.later.now c.loop-place.place (omega (arith, c.requires.long, c.loop-place-test.false)) c.loop-place.invariant.few
+returns-clause-few c =
+    none_left (entities_of c.args.entities.now) c.args.later.now c.loop-place.place (omega (arith, c.requires.long, c.loop-place-test.false)) c.loop-place.invariant.few

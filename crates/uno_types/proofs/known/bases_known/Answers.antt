@@ -7,11 +7,17 @@ use Rattle.uno_types.proofs.known.bases_known.Goals as goal
 
 pub loop-base-preserved : goal.loop-base-preserved
 loop-base-preserved c =
-    each_more (λ l. list_all (λ b. is_there c.args.registry.now is_interface b.name) (map base_of l)) (λ b. is_there c.args.registry.now is_interface b.name) (λ x rest. refl) c.args.bases.now c.loop-base.base-index _ _ c.loop-base.invariant c.loop-base-test.true c.base-item.is (ap (is_there c.args.registry.now is_interface) (sym c.as_str.ensures) ∙ sym c.is_there.ensures ∙ c.if-not-is_there.false)
+    each_more (λ l. list_all (λ b. is_there c.args.registry.now is_interface b.name) (map base_of l)) (λ b. is_there c.args.registry.now is_interface b.name)
+    (λ x rest. refl) c.args.bases.now c.loop-base.base-index _ _ c.loop-base.invariant c.loop-base-test.true c.base-item.is
+    (ap (is_there c.args.registry.now is_interface) (sym c.as_str.ensures) ∙ sym c.is_there.ensures ∙ c.if-not-is_there.false)
 
 pub returns-then-not-is_there : goal.returns-then-not-is_there
 returns-then-not-is_there c =
-    each_fails (λ l. list_all (λ b. is_there c.args.registry.now is_interface b.name) (map base_of l)) (λ b. is_there c.args.registry.now is_interface b.name) (λ x rest. refl) c.args.bases.now c.loop-base.base-index _ _ c.loop-base.invariant c.loop-base-test.true c.base-item.is (ap (is_there c.args.registry.now is_interface) (sym c.as_str.ensures) ∙ sym c.is_there.ensures ∙ c.if-not-is_there.true)
+    each_fails (λ l. list_all (λ b. is_there c.args.registry.now is_interface b.name) (map base_of l)) (λ b. is_there c.args.registry.now is_interface b.name)
+    (λ x rest. refl) c.args.bases.now c.loop-base.base-index _ _ c.loop-base.invariant c.loop-base-test.true c.base-item.is
+    (ap (is_there c.args.registry.now is_interface) (sym c.as_str.ensures) ∙ sym c.is_there.ensures ∙ c.if-not-is_there.true)
 
 pub returns : goal.returns
-returns c = each_passed (λ l. list_all (λ b. is_there c.args.registry.now is_interface b.name) (map base_of l)) refl c.args.bases.now c.loop-base.base-index _ c.loop-base.invariant c.loop-base-test.false
+returns c =
+    each_passed (λ l. list_all (λ b. is_there c.args.registry.now is_interface b.name) (map base_of l)) refl c.args.bases.now c.loop-base.base-index _
+    c.loop-base.invariant c.loop-base-test.false

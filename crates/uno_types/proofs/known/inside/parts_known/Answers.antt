@@ -6,11 +6,13 @@ use Rattle.uno_types.proofs.known.inside.parts_known.Goals as goal
 
 pub loop-part-preserved : goal.loop-part-preserved
 loop-part-preserved c =
-    all_more (part_known c.args.registry.now) part_of c.args.parts.now c.loop-part.part-index _ _ c.loop-part.invariant c.loop-part-test.true c.part-item.is (sym c.part_known.ensures ∙ c.if-not-part_known.false)
+    all_more (part_known c.args.registry.now) part_of c.args.parts.now c.loop-part.part-index _ _ c.loop-part.invariant c.loop-part-test.true c.part-item.is
+    (sym c.part_known.ensures ∙ c.if-not-part_known.false)
 
 pub returns-then-not-part_known : goal.returns-then-not-part_known
 returns-then-not-part_known c =
-    all_fails (part_known c.args.registry.now) part_of c.args.parts.now c.loop-part.part-index _ _ c.loop-part.invariant c.loop-part-test.true c.part-item.is (sym c.part_known.ensures ∙ c.if-not-part_known.true)
+    all_fails (part_known c.args.registry.now) part_of c.args.parts.now c.loop-part.part-index _ _ c.loop-part.invariant c.loop-part-test.true c.part-item.is
+    (sym c.part_known.ensures ∙ c.if-not-part_known.true)
 
 pub returns : goal.returns
 returns c = all_passed (part_known c.args.registry.now) part_of c.args.parts.now c.loop-part.part-index _ c.loop-part.invariant c.loop-part-test.false

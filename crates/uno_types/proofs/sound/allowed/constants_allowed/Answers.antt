@@ -6,11 +6,13 @@ use Rattle.uno_types.proofs.sound.allowed.constants_allowed.Goals as goal
 
 pub loop-constant-preserved : goal.loop-constant-preserved
 loop-constant-preserved c =
-    all_more (λ x. is_value x.kind) constant_of c.args.constants.now c.loop-constant.constant-index _ _ c.loop-constant.invariant c.loop-constant-test.true c.constant-item.is (sym c.is_value.ensures ∙ c.if-not-is_value.false)
+    all_more (λ x. is_value x.kind) constant_of c.args.constants.now c.loop-constant.constant-index _ _ c.loop-constant.invariant c.loop-constant-test.true
+    c.constant-item.is (sym c.is_value.ensures ∙ c.if-not-is_value.false)
 
 pub returns-then-not-is_value : goal.returns-then-not-is_value
 returns-then-not-is_value c =
-    all_fails (λ x. is_value x.kind) constant_of c.args.constants.now c.loop-constant.constant-index _ _ c.loop-constant.invariant c.loop-constant-test.true c.constant-item.is (sym c.is_value.ensures ∙ c.if-not-is_value.true)
+    all_fails (λ x. is_value x.kind) constant_of c.args.constants.now c.loop-constant.constant-index _ _ c.loop-constant.invariant c.loop-constant-test.true
+    c.constant-item.is (sym c.is_value.ensures ∙ c.if-not-is_value.true)
 
 pub returns : goal.returns
 returns c = all_passed (λ x. is_value x.kind) constant_of c.args.constants.now c.loop-constant.constant-index _ c.loop-constant.invariant c.loop-constant-test.false

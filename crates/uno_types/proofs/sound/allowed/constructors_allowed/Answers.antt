@@ -6,11 +6,15 @@ use Rattle.uno_types.proofs.sound.allowed.constructors_allowed.Goals as goal
 
 pub loop-constructor-preserved : goal.loop-constructor-preserved
 loop-constructor-preserved c =
-    all_more constructor_allowed constructor_of c.args.constructors.now c.loop-constructor.constructor-index _ _ c.loop-constructor.invariant c.loop-constructor-test.true c.constructor-item.is (sym c.constructor_allowed.ensures ∙ c.if-not-constructor_allowed.false)
+    all_more constructor_allowed constructor_of c.args.constructors.now c.loop-constructor.constructor-index _ _ c.loop-constructor.invariant c.loop-constructor-test.true
+    c.constructor-item.is (sym c.constructor_allowed.ensures ∙ c.if-not-constructor_allowed.false)
 
 pub returns-then-not-constructor_allowed : goal.returns-then-not-constructor_allowed
 returns-then-not-constructor_allowed c =
-    all_fails constructor_allowed constructor_of c.args.constructors.now c.loop-constructor.constructor-index _ _ c.loop-constructor.invariant c.loop-constructor-test.true c.constructor-item.is (sym c.constructor_allowed.ensures ∙ c.if-not-constructor_allowed.true)
+    all_fails constructor_allowed constructor_of c.args.constructors.now c.loop-constructor.constructor-index _ _ c.loop-constructor.invariant
+    c.loop-constructor-test.true c.constructor-item.is (sym c.constructor_allowed.ensures ∙ c.if-not-constructor_allowed.true)
 
 pub returns : goal.returns
-returns c = all_passed constructor_allowed constructor_of c.args.constructors.now c.loop-constructor.constructor-index _ c.loop-constructor.invariant c.loop-constructor-test.false
+returns c =
+    all_passed constructor_allowed constructor_of c.args.constructors.now c.loop-constructor.constructor-index _ c.loop-constructor.invariant
+    c.loop-constructor-test.false

@@ -6,11 +6,13 @@ use Rattle.uno_types.proofs.sound.allowed.params_allowed.Goals as goal
 
 pub loop-param-preserved : goal.loop-param-preserved
 loop-param-preserved c =
-    all_more (λ x. is_value x.kind) param_of c.args.params.now c.loop-param.param-index _ _ c.loop-param.invariant c.loop-param-test.true c.param-item.is (sym c.is_value.ensures ∙ c.if-not-is_value.false)
+    all_more (λ x. is_value x.kind) param_of c.args.params.now c.loop-param.param-index _ _ c.loop-param.invariant c.loop-param-test.true c.param-item.is
+    (sym c.is_value.ensures ∙ c.if-not-is_value.false)
 
 pub returns-then-not-is_value : goal.returns-then-not-is_value
 returns-then-not-is_value c =
-    all_fails (λ x. is_value x.kind) param_of c.args.params.now c.loop-param.param-index _ _ c.loop-param.invariant c.loop-param-test.true c.param-item.is (sym c.is_value.ensures ∙ c.if-not-is_value.true)
+    all_fails (λ x. is_value x.kind) param_of c.args.params.now c.loop-param.param-index _ _ c.loop-param.invariant c.loop-param-test.true c.param-item.is
+    (sym c.is_value.ensures ∙ c.if-not-is_value.true)
 
 pub returns : goal.returns
 returns c = all_passed (λ x. is_value x.kind) param_of c.args.params.now c.loop-param.param-index _ c.loop-param.invariant c.loop-param-test.false

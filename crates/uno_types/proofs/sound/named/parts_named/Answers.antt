@@ -9,11 +9,17 @@ use Rattle.uno_types.proofs.sound.named.parts_named.Goals as goal
 
 pub loop-part-preserved : goal.loop-part-preserved
 loop-part-preserved c =
-    each_more (λ l. list_all is_identifier (flat_map part_names (map part_of l))) (λ x. list_all is_identifier (part_names (part_of x))) (λ x rest. list_all-append is_identifier (part_names (part_of x)) (flat_map part_names (map part_of rest))) c.args.parts.now c.loop-part.part-index _ _ c.loop-part.invariant c.loop-part-test.true c.part-item.is (sym c.part_named.ensures ∙ c.if-not-part_named.false)
+    each_more (λ l. list_all is_identifier (flat_map part_names (map part_of l))) (λ x. list_all is_identifier (part_names (part_of x)))
+    (λ x rest. list_all-append is_identifier (part_names (part_of x)) (flat_map part_names (map part_of rest))) c.args.parts.now c.loop-part.part-index _ _
+    c.loop-part.invariant c.loop-part-test.true c.part-item.is (sym c.part_named.ensures ∙ c.if-not-part_named.false)
 
 pub returns-then-not-part_named : goal.returns-then-not-part_named
 returns-then-not-part_named c =
-    each_fails (λ l. list_all is_identifier (flat_map part_names (map part_of l))) (λ x. list_all is_identifier (part_names (part_of x))) (λ x rest. list_all-append is_identifier (part_names (part_of x)) (flat_map part_names (map part_of rest))) c.args.parts.now c.loop-part.part-index _ _ c.loop-part.invariant c.loop-part-test.true c.part-item.is (sym c.part_named.ensures ∙ c.if-not-part_named.true)
+    each_fails (λ l. list_all is_identifier (flat_map part_names (map part_of l))) (λ x. list_all is_identifier (part_names (part_of x)))
+    (λ x rest. list_all-append is_identifier (part_names (part_of x)) (flat_map part_names (map part_of rest))) c.args.parts.now c.loop-part.part-index _ _
+    c.loop-part.invariant c.loop-part-test.true c.part-item.is (sym c.part_named.ensures ∙ c.if-not-part_named.true)
 
 pub returns : goal.returns
-returns c = each_passed (λ l. list_all is_identifier (flat_map part_names (map part_of l))) refl c.args.parts.now c.loop-part.part-index _ c.loop-part.invariant c.loop-part-test.false
+returns c =
+    each_passed (λ l. list_all is_identifier (flat_map part_names (map part_of l))) refl c.args.parts.now c.loop-part.part-index _ c.loop-part.invariant
+    c.loop-part-test.false
