@@ -1,8 +1,8 @@
 -- Functions as plain trees.
 use Rattle.std.specs.Prelude.{List, map}
 use Rattle.uno_model.specs.Functions as plain
-use Rattle.uno_types.specs.Entities.{param_of}
-use Rattle.uno_types.specs.TypeNames.{kind_of}
+use Rattle.uno_entities.specs.Entities.{param_of}
+use Rattle.uno_entities.specs.TypeNames.{kind_of}
 use Rattle.type_registry.specs.declared.function.Function.{Function}
 
 abbrev pub function_of : Function → plain.Function

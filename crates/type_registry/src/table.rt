@@ -4,7 +4,7 @@ ghost use Rattle.std.specs.List.{flat_map};
 ghost use Rattle.uno_model.specs.Functions.{functions_of, declared_by, declared_in, accessors_of, calls_of, getter, setter, call};
 ghost use Rattle.uno_model.specs.Registry.{find_entity};
 ghost use Rattle.uno_model.specs.Sound.{is_there, is_interface};
-ghost use Rattle.uno_types.specs.Entities.{attribute_of, method_of, member_of, param_of, body_of};
+ghost use Rattle.uno_entities.specs.Entities.{attribute_of, method_of, member_of, param_of, body_of};
 ghost use Rattle.type_registry.specs.Functions.{function_of, functions_at};
 ghost use Rattle.type_registry.specs.Met.{names_at};
 

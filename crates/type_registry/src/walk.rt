@@ -2,7 +2,7 @@
 ghost use Rattle.std.specs.Prelude.{◌≡◌, ◌∷◌, ◌++◌, [], ◌+◌, ◌<◌, map, IfOk, OnOk};
 ghost use Rattle.uno_model.specs.Functions.{interfaces_of, met_within};
 ghost use Rattle.uno_model.specs.Registry.{required, at_most_one, stands_on};
-ghost use Rattle.uno_types.specs.Entities.{base_of, body_of};
+ghost use Rattle.uno_entities.specs.Entities.{base_of, body_of};
 ghost use Rattle.type_registry.specs.Tasks.{bases_in, visits, do_one, done, cost, cost_within, costs, doing_of, tasks_of};
 
 use crate::met::Met;

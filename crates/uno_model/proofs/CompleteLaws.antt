@@ -154,7 +154,9 @@ module _ {X : Type 0} (P : X → Type 0) (E : X → List Token) (read : Reads X)
       by_one : Comes (read ps) x (closes square ∷ ts) → Comes (elements_on (suc n) left read ps) (x ∷ []) ts
       by_one (inl too_deep) = inl (rw too_deep refl)
       by_one (inr one) = let at = one_token one.0 (closes square) ts one.1 in by_last one.0 at.1 at.0 one.2 at.2 at.3 at.4
-  elements_back (suc n) left x (y ∷ ys) ps ts each room good others e = by_one (each x ps (comma ∷ (E y ++ listed E false ys ++ closes square ∷ ts)) good whole) (λ qs f. elements_back n left y ys qs ts each (omega arith) others.0 others.1 f)
+  elements_back (suc n) left x (y ∷ ys) ps ts each room good others e =
+      by_one (each x ps (comma ∷ (E y ++ listed E false ys ++ closes square ∷ ts)) good whole)
+      (λ qs f. elements_back n left y ys qs ts each (omega arith) others.0 others.1 f)
     where
       whole : bare ps ≡ E x ++ comma ∷ (E y ++ listed E false ys ++ closes square ∷ ts)
       whole = e
@@ -223,7 +225,8 @@ module _ {X : Type 0} (P : X → Type 0) (E : X → List Token) (read : Reads X)
           let begun : bare (p ∷ rs) ≡ head.0 ∷ (head.1 ++ (listed E false ys ++ closes square ∷ ts)) = whole ∙ ap (λ z. z ++ (listed E false ys ++ closes square ∷ ts)) head.2 in
           let token : p.token ≡ head.0 = cc in
           let some : closes_square p.token ≡ false = ap closes_square token ∙ head.3 in
-          let long : length (bare (p ∷ rs)) ≡ length (listed E true (y ∷ ys)) + length (closes square ∷ ts) = ap length (ap bare (sym split) ∙ f) ∙ length-append (listed E true (y ∷ ys)) (closes square ∷ ts) in
+          let long : length (bare (p ∷ rs)) ≡ length (listed E true (y ∷ ys)) + length (closes square ∷ ts) = ap length (ap bare (sym split) ∙ f)
+          ∙ length-append (listed E true (y ∷ ys)) (closes square ∷ ts) in
           let same_length : length (bare (p ∷ rs)) ≡ length (p ∷ rs) = length-map (p ∷ rs) (λ (q : Placed). q.token) in
           let room : length ys < length (p ∷ rs) = omega (arith, long, same_length, listed_length (y ∷ ys) true) in
           subst (λ r. Comes r (y ∷ ys) ts) (sym (in_some p rs some)) (elements_back (length (p ∷ rs)) (left_at ps) y ys (p ∷ rs) ts each room good_ys.0 good_ys.1 whole)
@@ -275,7 +278,8 @@ members_back reg read left is_first (more x vs) [] ps ts all fits closed sized e
 members_back reg read left is_first (more x vs) (k ∷ ks) ps ts all fits closed sized e =
     let parts = append_none (refs x) (refs_in vs) closed in
     let front_it = by_comma is_first e in
-    by_value front_it.0 front_it.2 (all k x front_it.0 (tokens_in reg false vs ++ closes curly ∷ ts) fits.0 parts.0 sized.0 front_it.1) (λ qs f. members_back reg read left false vs ks qs ts all fits.1 parts.1 sized.1 f)
+    by_value front_it.0 front_it.2 (all k x front_it.0 (tokens_in reg false vs ++ closes curly ∷ ts) fits.0 parts.0 sized.0 front_it.1)
+    (λ qs f. members_back reg read left false vs ks qs ts all fits.1 parts.1 sized.1 f)
   where
     Inner : Type 0
     Inner = (qs : List Placed) → bare qs ≡ tokens_in reg false vs ++ closes curly ∷ ts → (xs : List Plain) × (plains xs ≡ vs) × Comes (members_on read left false ks qs) xs ts
@@ -430,12 +434,14 @@ list_comes : (reg : List Entity) (read : Kind → Reads Plain) (k : Kind) (vs : 
     → bare ps ≡ opens square ∷ (tokens_in reg true vs ++ closes square ∷ ts) → Comes (sequence_of (read k) ps) (list_of vs) ts
 list_comes reg read k vs ps ts all fits closed sized e =
     let spelled : tokens_in reg true vs ≡ listed (tokens_of reg) true (list_of vs) = ap (tokens_in reg true) (sym (list_back vs)) ∙ listed_plains reg true (list_of vs) in
-    sequence_back (Good reg k) (tokens_of reg) (read k) (list_of vs) ps ts (λ x qs us good f. all k x qs us good.0 good.1 good.2 f) (λ x good. value_begins reg x) (each_value reg k vs fits closed sized)
+    sequence_back (Good reg k) (tokens_of reg) (read k) (list_of vs) ps ts (λ x qs us good f. all k x qs us good.0 good.1 good.2 f)
+    (λ x good. value_begins reg x) (each_value reg k vs fits closed sized)
     (e ∙ ap (λ us. opens square ∷ (us ++ closes square ∷ ts)) spelled)
 
 bytes_come : (reg : List Entity) (bs : List ℕ) (ps : List Placed) (ts : List Token) → All IsByte bs
     → bare ps ≡ opens square ∷ (byte_tokens true bs ++ closes square ∷ ts) → Comes (sequence_of (only_token byte_in) ps) bs ts
-bytes_come reg bs ps ts all e = sequence_back IsByte byte_token (only_token byte_in) bs ps ts byte_comes byte_begins (each_byte bs all) (e ∙ ap (λ us. opens square ∷ (us ++ closes square ∷ ts)) (listed_bytes true bs))
+bytes_come reg bs ps ts all e = sequence_back IsByte byte_token (only_token byte_in) bs ps ts byte_comes byte_begins (each_byte bs all)
+    (e ∙ ap (λ us. opens square ∷ (us ++ closes square ∷ ts)) (listed_bytes true bs))
 
 -- what is read is made into a value
 made : {X : Type 0} (r : Result (X × List Placed) Fault) (x : X) (mk : X → Plain) (ts : List Token) → Comes r x ts → Comes (on_ok {B = Plain × List Placed} r (λ y. Ok (mk y.0, y.1))) (mk x) ts
@@ -511,7 +517,8 @@ null_comes reg read null _ ps ts fits closed e = absurd fits
 null_comes reg read (own oid face) k ps ts fits closed e = let bad : ⊥ = cc in absurd bad
 null_comes reg read (peer oid face) k ps ts fits closed e = let bad : ⊥ = cc in absurd bad
 
-list_step : (reg : List Entity) (read : Kind → Reads Plain) (k : Kind) (ps : List Placed) → k ≢ kd.byte → value_step reg read (kd.sequence k) ps ≡ on_ok {B = Plain × List Placed} (sequence_of (read k) ps) (λ y. Ok (v.list k (plains y.0), y.1))
+list_step : (reg : List Entity) (read : Kind → Reads Plain) (k : Kind) (ps : List Placed) → k ≢ kd.byte → value_step reg read (kd.sequence k) ps
+    ≡ on_ok {B = Plain × List Placed} (sequence_of (read k) ps) (λ y. Ok (v.list k (plains y.0), y.1))
 unfolding value_step
 list_step reg read kd.byte ps other = absurd (other refl)
 list_step reg read _ ps other = refl
@@ -539,27 +546,42 @@ step_comes : (reg : List Entity) (read : Kind → Reads Plain) (k : Kind) (x : P
     → list_all items_differ reg ≡ true → Comes_all reg read → Fits reg x k → refs x ≡ [] → IsSized x → bare ps ≡ tokens_of reg x ++ ts
     → Comes (value_step reg read k ps) x ts
 unfolding Fits refs IsSized tokens_of value_step
-step_comes reg read k v.void ps ts differ all fits closed sized e = subst (λ j. Comes (value_step reg read j ps) v.void ts) (sym fits) (single_comes reg kd.void v.void (word (codes "void")) ps ts e refl)
-step_comes reg read k (v.char n) ps ts differ all fits closed sized e = subst (λ j. Comes (value_step reg read j ps) (v.char n) ts) (sym fits) (single_comes reg kd.char (v.char n) (number (pos n)) ps ts e (ap (some_as v.char) (unsigned_back 16 n sized)))
-step_comes reg read k (v.boolean true) ps ts differ all fits closed sized e = subst (λ j. Comes (value_step reg read j ps) (v.boolean true) ts) (sym fits) (single_comes reg kd.boolean (v.boolean true) (word (codes "true")) ps ts e refl)
-step_comes reg read k (v.boolean false) ps ts differ all fits closed sized e = subst (λ j. Comes (value_step reg read j ps) (v.boolean false) ts) (sym fits) (single_comes reg kd.boolean (v.boolean false) (word (codes "false")) ps ts e refl)
-step_comes reg read k (v.byte n) ps ts differ all fits closed sized e = subst (λ j. Comes (value_step reg read j ps) (v.byte n) ts) (sym fits) (single_comes reg kd.byte (v.byte n) (number n) ps ts e (ap (some_as v.byte) (signed_back 7 n sized)))
-step_comes reg read k (v.short n) ps ts differ all fits closed sized e = subst (λ j. Comes (value_step reg read j ps) (v.short n) ts) (sym fits) (single_comes reg kd.short (v.short n) (number n) ps ts e (ap (some_as v.short) (signed_back 15 n sized)))
+step_comes reg read k v.void ps ts differ all fits closed sized e = subst (λ j. Comes (value_step reg read j ps) v.void ts) (sym fits)
+    (single_comes reg kd.void v.void (word (codes "void")) ps ts e refl)
+step_comes reg read k (v.char n) ps ts differ all fits closed sized e = subst (λ j. Comes (value_step reg read j ps) (v.char n) ts) (sym fits)
+    (single_comes reg kd.char (v.char n) (number (pos n)) ps ts e (ap (some_as v.char) (unsigned_back 16 n sized)))
+step_comes reg read k (v.boolean true) ps ts differ all fits closed sized e = subst (λ j. Comes (value_step reg read j ps) (v.boolean true) ts)
+    (sym fits) (single_comes reg kd.boolean (v.boolean true) (word (codes "true")) ps ts e refl)
+step_comes reg read k (v.boolean false) ps ts differ all fits closed sized e = subst (λ j. Comes (value_step reg read j ps) (v.boolean false) ts)
+    (sym fits) (single_comes reg kd.boolean (v.boolean false) (word (codes "false")) ps ts e refl)
+step_comes reg read k (v.byte n) ps ts differ all fits closed sized e = subst (λ j. Comes (value_step reg read j ps) (v.byte n) ts) (sym fits)
+    (single_comes reg kd.byte (v.byte n) (number n) ps ts e (ap (some_as v.byte) (signed_back 7 n sized)))
+step_comes reg read k (v.short n) ps ts differ all fits closed sized e = subst (λ j. Comes (value_step reg read j ps) (v.short n) ts) (sym fits)
+    (single_comes reg kd.short (v.short n) (number n) ps ts e (ap (some_as v.short) (signed_back 15 n sized)))
 step_comes reg read k (v.unsigned_short n) ps ts differ all fits closed sized e =
-    subst (λ j. Comes (value_step reg read j ps) (v.unsigned_short n) ts) (sym fits) (single_comes reg kd.unsigned_short (v.unsigned_short n) (number (pos n)) ps ts e (ap (some_as v.unsigned_short) (unsigned_back 16 n sized)))
-step_comes reg read k (v.long n) ps ts differ all fits closed sized e = subst (λ j. Comes (value_step reg read j ps) (v.long n) ts) (sym fits) (single_comes reg kd.long (v.long n) (number n) ps ts e (ap (some_as v.long) (signed_back 31 n sized)))
+    subst (λ j. Comes (value_step reg read j ps) (v.unsigned_short n) ts) (sym fits)
+    (single_comes reg kd.unsigned_short (v.unsigned_short n) (number (pos n)) ps ts e (ap (some_as v.unsigned_short) (unsigned_back 16 n sized)))
+step_comes reg read k (v.long n) ps ts differ all fits closed sized e = subst (λ j. Comes (value_step reg read j ps) (v.long n) ts) (sym fits)
+    (single_comes reg kd.long (v.long n) (number n) ps ts e (ap (some_as v.long) (signed_back 31 n sized)))
 step_comes reg read k (v.unsigned_long n) ps ts differ all fits closed sized e =
-    subst (λ j. Comes (value_step reg read j ps) (v.unsigned_long n) ts) (sym fits) (single_comes reg kd.unsigned_long (v.unsigned_long n) (number (pos n)) ps ts e (ap (some_as v.unsigned_long) (unsigned_back 32 n sized)))
-step_comes reg read k (v.hyper n) ps ts differ all fits closed sized e = subst (λ j. Comes (value_step reg read j ps) (v.hyper n) ts) (sym fits) (single_comes reg kd.hyper (v.hyper n) (number n) ps ts e (ap (some_as v.hyper) (signed_back 63 n sized)))
+    subst (λ j. Comes (value_step reg read j ps) (v.unsigned_long n) ts) (sym fits)
+    (single_comes reg kd.unsigned_long (v.unsigned_long n) (number (pos n)) ps ts e (ap (some_as v.unsigned_long) (unsigned_back 32 n sized)))
+step_comes reg read k (v.hyper n) ps ts differ all fits closed sized e = subst (λ j. Comes (value_step reg read j ps) (v.hyper n) ts) (sym fits)
+    (single_comes reg kd.hyper (v.hyper n) (number n) ps ts e (ap (some_as v.hyper) (signed_back 63 n sized)))
 step_comes reg read k (v.unsigned_hyper n) ps ts differ all fits closed sized e =
-    subst (λ j. Comes (value_step reg read j ps) (v.unsigned_hyper n) ts) (sym fits) (single_comes reg kd.unsigned_hyper (v.unsigned_hyper n) (number (pos n)) ps ts e (ap (some_as v.unsigned_hyper) (unsigned_back 64 n sized)))
+    subst (λ j. Comes (value_step reg read j ps) (v.unsigned_hyper n) ts) (sym fits)
+    (single_comes reg kd.unsigned_hyper (v.unsigned_hyper n) (number (pos n)) ps ts e (ap (some_as v.unsigned_hyper) (unsigned_back 64 n sized)))
 step_comes reg read k (v.str s) ps ts differ all fits closed sized e = subst (λ j. Comes (value_step reg read j ps) (v.str s) ts) (sym fits) (single_comes reg kd.str (v.str s) (string s) ps ts e refl)
-step_comes reg read k (v.kind t) ps ts differ all fits closed sized e = subst (λ j. Comes (value_step reg read j ps) (v.kind t) ts) (sym fits.0) (single_comes reg kd.kind (v.kind t) (named t) ps ts e refl)
-step_comes reg read k (v.any t x) ps ts differ all fits closed sized e = subst (λ j. Comes (value_step reg read j ps) (v.any t x) ts) (sym fits.0) (any_comes reg read t x ps ts all fits.3 closed sized e)
+step_comes reg read k (v.kind t) ps ts differ all fits closed sized e = subst (λ j. Comes (value_step reg read j ps) (v.kind t) ts) (sym fits.0)
+    (single_comes reg kd.kind (v.kind t) (named t) ps ts e refl)
+step_comes reg read k (v.any t x) ps ts differ all fits closed sized e = subst (λ j. Comes (value_step reg read j ps) (v.any t x) ts) (sym fits.0)
+    (any_comes reg read t x ps ts all fits.3 closed sized e)
 step_comes reg read k (v.enum name n) ps ts differ all fits closed sized e =
     subst (λ j. Comes (value_step reg read j ps) (v.enum name n) ts) (sym fits.0)
-    (single_comes reg (kd.enum name) (v.enum name n) (item_token (first_item (items_of (find_entity name reg)) n) n) ps ts e (ap (some_as (v.enum name)) (item_back (items_of (find_entity name reg)) n (found_differ reg name differ) sized)))
-step_comes reg read k (v.tuple name vs) ps ts differ all fits closed sized e = tuple_comes reg read name vs k ps ts all fits.0 fits.2 closed sized (bracketed (opens curly) (closes curly) (tokens_in reg true vs) ts (bare ps) e)
+    (single_comes reg (kd.enum name) (v.enum name n) (item_token (first_item (items_of (find_entity name reg)) n) n) ps ts e
+    (ap (some_as (v.enum name)) (item_back (items_of (find_entity name reg)) n (found_differ reg name differ) sized)))
+step_comes reg read k (v.tuple name vs) ps ts differ all fits closed sized e = tuple_comes reg read name vs k ps ts all fits.0 fits.2 closed sized
+    (bracketed (opens curly) (closes curly) (tokens_in reg true vs) ts (bare ps) e)
 step_comes reg read k (v.list t vs) ps ts differ all fits closed sized e =
     let come = list_comes reg read t vs ps ts all fits.3 closed sized (bracketed (opens square) (closes square) (tokens_in reg true vs) ts (bare ps) e) in
     let made_it = made (sequence_of (read t) ps) (list_of vs) (λ xs. v.list t (plains xs)) ts come in

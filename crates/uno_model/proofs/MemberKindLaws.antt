@@ -60,8 +60,10 @@ with_body name published body = Some (record { name = name; published = publishe
 
 ruled_body : (reg : List Entity) (name : List ℕ) (published : Bool) (body : Body) → body_allowed name body ≡ true → body_known reg body ≡ true
     → list_all (λ f. is_member reg f.kind) (own_members (with_body name published body)) ≡ true
-ruled_body reg name published (struct base members) allowed known = ruled reg members (and_parts (short_name name) _ allowed).1 (and_parts (list_all (is_there reg is_struct) (at_most_one base)) _ known).1
-ruled_body reg name published (exception base members) allowed known = ruled reg members (and_parts (short_name name) _ allowed).1 (and_parts (list_all (is_there reg is_exception) (at_most_one base)) _ known).1
+ruled_body reg name published (struct base members) allowed known =
+    ruled reg members (and_parts (short_name name) _ allowed).1 (and_parts (list_all (is_there reg is_struct) (at_most_one base)) _ known).1
+ruled_body reg name published (exception base members) allowed known =
+    ruled reg members (and_parts (short_name name) _ allowed).1 (and_parts (list_all (is_there reg is_exception) (at_most_one base)) _ known).1
 ruled_body reg name published (interface bs members) allowed known = refl
 ruled_body reg name published (enum items) allowed known = refl
 ruled_body reg name published (constants cs) allowed known = refl

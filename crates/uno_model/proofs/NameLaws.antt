@@ -46,7 +46,9 @@ no_bracket cs = by_parts (parts_of cs) refl
 
 -- no entity has the name of a simple type
 other_name : (name word : List ℕ) → is_entity_name name ≡ true → is_entity_name word ≡ false → bytes_eq name word ≡ false
-other_name name word named no_name = false_from_ne_true (bytes_eq name word) (λ same. both_ways (is_entity_name word) no_name (subst (λ n. is_entity_name n ≡ true) ((bytes_eq-Decides name word).0 same) named))
+other_name name word named no_name =
+    false_from_ne_true (bytes_eq name word)
+    (λ same. both_ways (is_entity_name word) no_name (subst (λ n. is_entity_name n ≡ true) ((bytes_eq-Decides name word).0 same) named))
 
 pub no_simple : (name : List ℕ) → is_entity_name name ≡ true → simple_of name ≡ None
 unfolding simple_of parts_of
@@ -228,12 +230,29 @@ simple_step reg text k j known flat level rest behind found = by_test (bytes_eq 
     by_test true same =
         let one : Some k ≡ Some j = rw same at found in
         let is : k ≡ j = cc in
-        subst (IsNamedWithin reg text 0) is (record { named = sym ((bytes_eq-Decides text (name_of k)).0 same); formed = and_from (kind_known reg k) (elements_plain k) known flat; within = omega (arith, level) })
+        subst (IsNamedWithin reg text 0) is
+        (record {
+          named = sym ((bytes_eq-Decides text (name_of k)).0 same);
+          formed = and_from (kind_known reg k) (elements_plain k) known flat;
+          within = omega (arith, level);
+        })
     by_test false other = behind (rw other at found)
 
 simple_gives : (reg : List Entity) (text : List ℕ) (j : Kind) → simple_of text ≡ Some j → IsNamedWithin reg text 0 j
 unfolding simple_of
-simple_gives reg text j = (simple_step reg text kd.void j refl refl refl _ (simple_step reg text kd.char j refl refl refl _ (simple_step reg text kd.boolean j refl refl refl _ (simple_step reg text kd.byte j refl refl refl _ (simple_step reg text kd.short j refl refl refl _ (simple_step reg text kd.unsigned_short j refl refl refl _ (simple_step reg text kd.long j refl refl refl _ (simple_step reg text kd.unsigned_long j refl refl refl _ (simple_step reg text kd.hyper j refl refl refl _ (simple_step reg text kd.unsigned_hyper j refl refl refl _ (simple_step reg text kd.str j refl refl refl _ (simple_step reg text kd.kind j refl refl refl _ (simple_step reg text kd.any j refl refl refl _ (λ (e : None ≡ Some j). let bad : ⊥ = cc in absurd bad))))))))))))))
+simple_gives reg text j = (simple_step reg text kd.void j refl refl refl _
+    (simple_step reg text kd.char j refl refl refl _
+    (simple_step reg text kd.boolean j refl refl refl _
+    (simple_step reg text kd.byte j refl refl refl _
+    (simple_step reg text kd.short j refl refl refl _
+    (simple_step reg text kd.unsigned_short j refl refl refl _
+    (simple_step reg text kd.long j refl refl refl _
+    (simple_step reg text kd.unsigned_long j refl refl refl _
+    (simple_step reg text kd.hyper j refl refl refl _
+    (simple_step reg text kd.unsigned_hyper j refl refl refl _
+    (simple_step reg text kd.str j refl refl refl _
+    (simple_step reg text kd.kind j refl refl refl _
+    (simple_step reg text kd.any j refl refl refl _ (λ (e : None ≡ Some j). let bad : ⊥ = cc in absurd bad))))))))))))))
 
 body_gives : (reg : List Entity) (text : List ℕ) (j : Kind) (e : Entity) → find_entity text reg ≡ Some e → (b : Body) → e.body ≡ b
     → kind_of_body text b ≡ Some j → IsNamedWithin reg text 0 j

@@ -21,7 +21,9 @@ chosen false x y z e = inr (refl, e)
 pub found_place : (name : List ℕ) (es : List Entity) (e : Entity) → find_entity name es ≡ Some e → (i : ℕ) × (slice_get es i ≡ Some e) × (e.name ≡ name)
 unfolding find_entity
 found_place name [] e found = let bad : None ≡ Some e = found in cc
-found_place name (x ∷ xs) e found = elim (chosen (bytes_eq name x.name) (Some x) (find_entity name xs) (Some e) found) [ inl here ↦ at_head here.0 here.1 | inr behind ↦ later (found_place name xs e behind.1) ]
+found_place name (x ∷ xs) e found =
+    elim (chosen (bytes_eq name x.name) (Some x) (find_entity name xs) (Some e) found)
+    [ inl here ↦ at_head here.0 here.1 | inr behind ↦ later (found_place name xs e behind.1) ]
   where
     at_head : bytes_eq name x.name ≡ true → Some x ≡ Some e → (i : ℕ) × (slice_get (x ∷ xs) i ≡ Some e) × (e.name ≡ name)
     at_head same is = let one : x ≡ e = cc in (0, is, sym (ap (λ (y : Entity). y.name) one) ∙ sym ((bytes_eq-Decides name x.name).0 same))

@@ -74,9 +74,18 @@ decimal_back limit n r some within small ends = by_list (decimal n) refl
 
 -- the first bytes of tokens differ
 plain_front : (c : ℕ) → 49 ≤ c → c ≤ 57
-    → (((((((c == 91) ≡ false) × ((c == 123) ≡ false)) × ((c == 34) ≡ false)) × ((c == 60) ≡ false)) × ((c == 40) ≡ false)) × (begins_identifier c ≡ false)) × (((c == 48) ≡ false) × ((c == 45) ≡ false))
-plain_front c low high =
-    ((((((ne_eqb c 91 (λ e. omega arith), ne_eqb c 123 (λ e. omega arith)), ne_eqb c 34 (λ e. omega arith)), ne_eqb c 60 (λ e. omega arith)), ne_eqb c 40 (λ e. omega arith)), grind arith), (ne_eqb c 48 (λ e. omega arith), ne_eqb c 45 (λ e. omega arith)))
+    → (((((((c == 91) ≡ false) × ((c == 123) ≡ false)) × ((c == 34) ≡ false)) × ((c == 60) ≡ false)) × ((c == 40) ≡ false))
+    × (begins_identifier c ≡ false)) × (((c == 48) ≡ false) × ((c == 45) ≡ false))
+plain_front c low high = (
+  (
+    (
+      (((ne_eqb c 91 (λ e. omega arith), ne_eqb c 123 (λ e. omega arith)), ne_eqb c 34 (λ e. omega arith)), ne_eqb c 60 (λ e. omega arith)),
+      ne_eqb c 40 (λ e. omega arith),
+    ),
+    grind arith,
+  ),
+  (ne_eqb c 48 (λ e. omega arith), ne_eqb c 45 (λ e. omega arith)),
+)
 
 abbrev pub NumberFits : ℤ → Type 0
 NumberFits (pos n) = n ≤ largest
@@ -94,7 +103,8 @@ number_back reg (pos (suc n)) r fits ends =
     by_first c cs e low high reads =
         let apart = plain_front c low high in
         let digits : digits_at largest (c ∷ (cs ++ r)) ≡ Ok (suc n, r) = ap (λ ds. digits_at largest (ds ++ r)) (sym e) ∙ reads in
-        let value_it : value_at reg (c ∷ (cs ++ r)) ≡ Ok (number (pos (suc n)), r) = numbers c (cs ++ r) apart.0.0.0.0.0.0 apart.0.0.0.0.0.1 apart.0.0.0.0.1 apart.0.0.0.1 apart.0.0.1 apart.0.1 apart.1.0 apart.1.1 digits in
+        let value_it : value_at reg (c ∷ (cs ++ r)) ≡ Ok (number (pos (suc n)), r) =
+        numbers c (cs ++ r) apart.0.0.0.0.0.0 apart.0.0.0.0.0.1 apart.0.0.0.0.1 apart.0.0.0.1 apart.0.0.1 apart.0.1 apart.1.0 apart.1.1 digits in
         ap (λ ds. value_at reg (ds ++ r)) e ∙ value_it
       where
         numbers : (d : ℕ) (ds : List ℕ) → (d == 91) ≡ false → (d == 123) ≡ false → (d == 34) ≡ false → (d == 60) ≡ false → (d == 40) ≡ false

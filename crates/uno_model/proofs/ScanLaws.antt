@@ -131,7 +131,8 @@ string_sound true (c ∷ cs) s r e = by_escape (escape_of c) refl (λ t f. strin
     by_escape (Some b) is inner =
         let parts = byte_parts b (string_at false cs) s r (rw is at e) in
         let front_it = escape_is c b is in
-        ap (λ x. 92 ∷ (c ∷ x)) (inner parts.0 parts.1) ∙ ap (λ x. x ++ (flat_map escaped parts.0 ++ 34 ∷ r)) (sym front_it) ∙ sym (append_assoc (escaped b) (flat_map escaped parts.0) (34 ∷ r)) ∙ ap (λ x. flat_map escaped x ++ 34 ∷ r) (sym parts.2)
+        ap (λ x. 92 ∷ (c ∷ x)) (inner parts.0 parts.1) ∙ ap (λ x. x ++ (flat_map escaped parts.0 ++ 34 ∷ r)) (sym front_it)
+        ∙ sym (append_assoc (escaped b) (flat_map escaped parts.0) (34 ∷ r)) ∙ ap (λ x. flat_map escaped x ++ 34 ∷ r) (sym parts.2)
     by_escape None is inner = absurd (not_ok (suc (length cs)) (s, r) (rw is at e))
 string_sound false (c ∷ cs) s r e = by_quote (c == 34) refl (λ t f. string_sound false cs t r f) (λ f. string_sound true cs s r f)
   where
@@ -146,7 +147,8 @@ string_sound false (c ∷ cs) s r e = by_quote (c == 34) refl (λ t f. string_so
     by_line false no_quote no_slash no_line inner =
         let parts = byte_parts c (string_at false cs) s r (rw (no_quote, no_slash, no_line) at e) in
         let itself : escaped c ≡ c ∷ [] = rw (no_quote, no_slash, no_line) refl in
-        ap (λ x. c ∷ x) (inner parts.0 parts.1) ∙ ap (λ x. x ++ (flat_map escaped parts.0 ++ 34 ∷ r)) (sym itself) ∙ sym (append_assoc (escaped c) (flat_map escaped parts.0) (34 ∷ r)) ∙ ap (λ x. flat_map escaped x ++ 34 ∷ r) (sym parts.2)
+        ap (λ x. c ∷ x) (inner parts.0 parts.1) ∙ ap (λ x. x ++ (flat_map escaped parts.0 ++ 34 ∷ r)) (sym itself)
+        ∙ sym (append_assoc (escaped c) (flat_map escaped parts.0) (34 ∷ r)) ∙ ap (λ x. flat_map escaped x ++ 34 ∷ r) (sym parts.2)
 
     by_slash : (b : Bool) → (c == 34) ≡ false → (c == 92) ≡ b → Plainly → Escaped → c ∷ cs ≡ flat_map escaped s ++ 34 ∷ r
     by_slash true no_quote slash inner escapes = ap (λ x. x ∷ cs) (eqb-true c 92 slash) ∙ escapes (rw (no_quote, slash) at e)
@@ -199,7 +201,12 @@ cast_sound : (reg : List Entity) (left : ℕ) (bytes : List ℕ) (k : Kind) (cs 
 cast_sound reg left bytes kd.any cs t r is e = absurd (not_ok left (t, r) e)
 cast_sound reg left bytes k cs t r is e =
     let parts = ok_parts (cast k) t cs r e in
-    let all : IsTokenAt reg (40 ∷ bytes) (cast k) cs = record { spelled = ap (λ x. 40 ∷ x) (is.spelled ∙ sym (append_assoc (name_of k) (41 ∷ []) cs)); typed = ((λ same. let bad : ⊥ = cc in bad), is.type) } in
+    let all : IsTokenAt reg (40 ∷ bytes) (cast k) cs =
+    record {
+      spelled = ap (λ x. 40 ∷ x) (is.spelled ∙ sym (append_assoc (name_of k) (41 ∷ []) cs));
+      typed =
+          ((λ same. let bad : ⊥ = cc in bad), is.type);
+    } in
     subst (λ x. IsTokenAt reg (40 ∷ bytes) t x) parts.1 (subst (λ x. IsTokenAt reg (40 ∷ bytes) x cs) parts.0 all)
 
 word_sound : (reg : List Entity) (bytes : List ℕ) (t : Token) (r : List ℕ) → word_at reg bytes ≡ Ok (t, r) → IsTokenAt reg bytes t r
@@ -223,7 +230,11 @@ number_sound reg (c ∷ cs) t r e = by_zero (c == 48) refl
     by_negative (Ok x) no_zero minus digits =
         let parts = ok_parts (number (negative_of x.0)) t x.1 r (rw (no_zero, minus, digits) at e) in
         let is = digits_at_sound lowest cs x.0 x.1 (omega arith) (omega arith) digits in
-        let all : IsTokenAt reg (c ∷ cs) (number (negative_of x.0)) x.1 = record { spelled = ap (λ y. y ∷ cs) (eqb-true c 45 minus) ∙ ap (λ y. 45 ∷ y) is.0 ∙ ap (λ y. y ++ x.1) (sym (negative_is x.0 is.1)); typed = tt } in
+        let all : IsTokenAt reg (c ∷ cs) (number (negative_of x.0)) x.1 =
+        record {
+          spelled = ap (λ y. y ∷ cs) (eqb-true c 45 minus) ∙ ap (λ y. 45 ∷ y) is.0 ∙ ap (λ y. y ++ x.1) (sym (negative_is x.0 is.1));
+          typed = tt;
+        } in
         subst (λ y. IsTokenAt reg (c ∷ cs) t y) parts.1 (subst (λ y. IsTokenAt reg (c ∷ cs) y x.1) parts.0 all)
     by_negative (Err left) no_zero minus digits = absurd (not_ok left (t, r) (rw (no_zero, minus, digits) at e))
 
@@ -247,31 +258,43 @@ number_sound reg (c ∷ cs) t r e = by_zero (c == 48) refl
     by_zero false no_zero = by_minus (c == 45) no_zero refl
 
 -- one fixed byte
-fixed_sound : (reg : List Entity) (c d : ℕ) (cs : List ℕ) (u t : Token) (r : List ℕ) → (c == d) ≡ true → spell u ≡ d ∷ [] → HasType reg u → ◌≡◌ {A = Result (Token × List ℕ) ℕ} (Ok (u, cs)) (Ok (t, r)) → IsTokenAt reg (c ∷ cs) t r
+fixed_sound : (reg : List Entity) (c d : ℕ) (cs : List ℕ) (u t : Token) (r : List ℕ) → (c == d) ≡ true → spell u ≡ d ∷ [] → HasType reg u
+    → ◌≡◌ {A = Result (Token × List ℕ) ℕ} (Ok (u, cs)) (Ok (t, r)) → IsTokenAt reg (c ∷ cs) t r
 fixed_sound reg c d cs u t r same spelled_so typed e =
     let parts = ok_parts u t cs r e in
     let all : IsTokenAt reg (c ∷ cs) u cs = record { spelled = ap (λ y. y ∷ cs) (eqb-true c d same) ∙ ap (λ y. y ++ cs) (sym spelled_so); typed = typed } in
     subst (λ y. IsTokenAt reg (c ∷ cs) t y) parts.1 (subst (λ y. IsTokenAt reg (c ∷ cs) y cs) parts.0 all)
 
-string_token_sound : (reg : List Entity) (c : ℕ) (cs : List ℕ) (t : Token) (r : List ℕ) → (c == 34) ≡ true → on_ok {B = Token × List ℕ} (string_at false cs) (λ x. Ok (string x.0, x.1)) ≡ Ok (t, r) → IsTokenAt reg (c ∷ cs) t r
+string_token_sound : (reg : List Entity) (c : ℕ) (cs : List ℕ) (t : Token) (r : List ℕ) → (c == 34) ≡ true
+    → on_ok {B = Token × List ℕ} (string_at false cs) (λ x. Ok (string x.0, x.1)) ≡ Ok (t, r) → IsTokenAt reg (c ∷ cs) t r
 string_token_sound reg c cs t r quote e = by_string (string_at false cs) refl
   where
     by_string : (m : Result (List ℕ × List ℕ) ℕ) → string_at false cs ≡ m → IsTokenAt reg (c ∷ cs) t r
     by_string (Ok x) read =
         let parts = ok_parts (string x.0) t x.1 r (rw read at e) in
         let is = string_sound false cs x.0 x.1 read in
-        let all : IsTokenAt reg (c ∷ cs) (string x.0) x.1 = record { spelled = ap (λ y. y ∷ cs) (eqb-true c 34 quote) ∙ ap (λ y. 34 ∷ y) (is ∙ sym (append_assoc (flat_map escaped x.0) (34 ∷ []) x.1)); typed = tt } in
+        let all : IsTokenAt reg (c ∷ cs) (string x.0) x.1 =
+        record {
+          spelled = ap (λ y. y ∷ cs) (eqb-true c 34 quote)
+              ∙ ap (λ y. 34 ∷ y) (is ∙ sym (append_assoc (flat_map escaped x.0) (34 ∷ []) x.1));
+          typed = tt;
+        } in
         subst (λ y. IsTokenAt reg (c ∷ cs) t y) parts.1 (subst (λ y. IsTokenAt reg (c ∷ cs) y x.1) parts.0 all)
     by_string (Err left) read = absurd (not_ok left (t, r) (rw read at e))
 
-named_token_sound : (reg : List Entity) (c : ℕ) (cs : List ℕ) (t : Token) (r : List ℕ) → list_all is_named reg ≡ true → (c == 60) ≡ true → on_ok {B = Token × List ℕ} (type_at reg 62 cs) (λ x. Ok (named x.0, x.1)) ≡ Ok (t, r) → IsTokenAt reg (c ∷ cs) t r
+named_token_sound : (reg : List Entity) (c : ℕ) (cs : List ℕ) (t : Token) (r : List ℕ) → list_all is_named reg ≡ true → (c == 60) ≡ true
+    → on_ok {B = Token × List ℕ} (type_at reg 62 cs) (λ x. Ok (named x.0, x.1)) ≡ Ok (t, r) → IsTokenAt reg (c ∷ cs) t r
 named_token_sound reg c cs t r named_all mark e = by_type (type_at reg 62 cs) refl
   where
     by_type : (m : Result (Kind × List ℕ) ℕ) → type_at reg 62 cs ≡ m → IsTokenAt reg (c ∷ cs) t r
     by_type (Ok x) read =
         let parts = ok_parts (named x.0) t x.1 r (rw read at e) in
         let is = type_sound reg 62 cs x.0 x.1 named_all read in
-        let all : IsTokenAt reg (c ∷ cs) (named x.0) x.1 = record { spelled = ap (λ y. y ∷ cs) (eqb-true c 60 mark) ∙ ap (λ y. 60 ∷ y) (is.spelled ∙ sym (append_assoc (name_of x.0) (62 ∷ []) x.1)); typed = is.type } in
+        let all : IsTokenAt reg (c ∷ cs) (named x.0) x.1 =
+        record {
+          spelled = ap (λ y. y ∷ cs) (eqb-true c 60 mark) ∙ ap (λ y. 60 ∷ y) (is.spelled ∙ sym (append_assoc (name_of x.0) (62 ∷ []) x.1));
+          typed = is.type;
+        } in
         subst (λ y. IsTokenAt reg (c ∷ cs) t y) parts.1 (subst (λ y. IsTokenAt reg (c ∷ cs) y x.1) parts.0 all)
     by_type (Err left) read = absurd (not_ok left (t, r) (rw read at e))
 
@@ -376,7 +399,8 @@ tokens_sound (suc n) reg awaited outer bytes ps named_all e = by_whole (is_whole
         let parts = list_parts (record { left = length bytes; token = x.0 }) (tokens_at n reg (behind x.0) (opened x.0 outer) x.1) ps (rw (going, read) at e) in
         let one = token_sound reg awaited outer bytes x.0 x.1 named_all read in
         let others = inner x.0 x.1 parts.0 parts.1 in
-        let all : AreTokens reg bytes (record { left = length bytes; token = x.0 } ∷ parts.0) = record { spelled = one.spelled ∙ ap (λ y. spell x.0 ++ y) others.spelled; typed = (one.typed, others.typed) } in
+        let all : AreTokens reg bytes (record { left = length bytes; token = x.0 } ∷ parts.0) =
+        record { spelled = one.spelled ∙ ap (λ y. spell x.0 ++ y) others.spelled; typed = (one.typed, others.typed) } in
         subst (AreTokens reg bytes) (sym parts.2) all
     by_token (Err left) going read inner = absurd (not_ok left ps (rw (going, read) at e))
 

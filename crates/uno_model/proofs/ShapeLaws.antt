@@ -46,7 +46,8 @@ identifier_bytes (c ∷ cs) is =
   where
     each : (ds : List ℕ) → list_all goes_on_identifier ds ≡ true → list_all is_name_byte ds ≡ true
     each [] all = refl
-    each (d ∷ ds) all = let more_it = and_parts (goes_on_identifier d) (list_all goes_on_identifier ds) all in and_from (is_name_byte d) _ (or_left (goes_on_identifier d) _ more_it.0) (each ds more_it.1)
+    each (d ∷ ds) all = let more_it = and_parts (goes_on_identifier d) (list_all goes_on_identifier ds) all in
+        and_from (is_name_byte d) _ (or_left (goes_on_identifier d) _ more_it.0) (each ds more_it.1)
 
 -- each part of a name has such bytes alone, and so the name
 parts_bytes : (cs : List ℕ) → list_all (list_all is_name_byte) (parts_of cs) ≡ true → list_all is_name_byte cs ≡ true
@@ -229,12 +230,16 @@ token_back : (reg : List Entity) (awaited : Awaited) (outer : List Bracket) (t :
 token_back reg value outer t r named_all is good follows = front_back reg t r named_all is good follows
 token_back reg element outer (closes square) r named_all is good follows = refl
 token_back reg element outer (closes curly) r named_all is good follows = let bad : ⊥ = cc in absurd bad
-token_back reg element outer (opens b) r named_all is good follows = let reads = front_back reg (opens b) r named_all is good follows in element_front reg (spell (opens b) ++ r) (opens b) r reads ∙ reads
+token_back reg element outer (opens b) r named_all is good follows = let reads = front_back reg (opens b) r named_all is good follows in
+    element_front reg (spell (opens b) ++ r) (opens b) r reads ∙ reads
 token_back reg element outer comma r named_all is good follows = let bad : ⊥ = cc in absurd bad
-token_back reg element outer (number z) r named_all is good follows = let reads = front_back reg (number z) r named_all is good follows in element_front reg (spell (number z) ++ r) (number z) r reads ∙ reads
+token_back reg element outer (number z) r named_all is good follows = let reads = front_back reg (number z) r named_all is good follows in
+    element_front reg (spell (number z) ++ r) (number z) r reads ∙ reads
 token_back reg element outer (word w) r named_all is good follows = let reads = front_back reg (word w) r named_all is good follows in element_front reg (w ++ r) (word w) r reads ∙ reads
-token_back reg element outer (string s) r named_all is good follows = let reads = front_back reg (string s) r named_all is good follows in element_front reg (spell (string s) ++ r) (string s) r reads ∙ reads
-token_back reg element outer (named k) r named_all is good follows = let reads = front_back reg (named k) r named_all is good follows in element_front reg (spell (named k) ++ r) (named k) r reads ∙ reads
+token_back reg element outer (string s) r named_all is good follows = let reads = front_back reg (string s) r named_all is good follows in
+    element_front reg (spell (string s) ++ r) (string s) r reads ∙ reads
+token_back reg element outer (named k) r named_all is good follows = let reads = front_back reg (named k) r named_all is good follows in
+    element_front reg (spell (named k) ++ r) (named k) r reads ∙ reads
 token_back reg element outer (cast k) r named_all is good follows = let reads = front_back reg (cast k) r named_all is good follows in element_front reg (spell (cast k) ++ r) (cast k) r reads ∙ reads
 token_back reg separator [] t r named_all is good follows = let bad : ⊥ = cc in absurd bad
 token_back reg separator (b ∷ outer) comma r named_all is good follows = refl
@@ -365,27 +370,35 @@ mutual
   members_order reg outer none ks f gs ts have is fits order = no_member reg ks f gs is fits
   members_order reg outer (more x vs) [] f gs ts have is fits order = absurd fits
   members_order reg outer (more x vs) (k ∷ ks) f gs ts have is fits order =
-      rw (append_assoc (tokens_of reg x) (tokens_in reg false vs) (closes curly ∷ ts)) (value_order reg (curly ∷ outer) x k (tokens_in reg false vs ++ closes curly ∷ ts) have fits.0 (others_order reg outer vs ks ts have fits.1 order))
+      rw (append_assoc (tokens_of reg x) (tokens_in reg false vs) (closes curly ∷ ts))
+      (value_order reg (curly ∷ outer) x k (tokens_in reg false vs ++ closes curly ∷ ts) have fits.0
+      (others_order reg outer vs ks ts have fits.1 order))
 
   others_order : (reg : List Entity) (outer : List Bracket) (vs : Plains) (ks : List Kind) (ts : List Token) → HaveMembers reg → FitEach reg vs ks
       → ordered separator outer ts ≡ true → ordered separator (curly ∷ outer) (tokens_in reg false vs ++ closes curly ∷ ts) ≡ true
   others_order reg outer none ks ts have fits order = order
   others_order reg outer (more x vs) [] ts have fits order = absurd fits
   others_order reg outer (more x vs) (k ∷ ks) ts have fits order =
-      rw (append_assoc (tokens_of reg x) (tokens_in reg false vs) (closes curly ∷ ts)) (value_order reg (curly ∷ outer) x k (tokens_in reg false vs ++ closes curly ∷ ts) have fits.0 (others_order reg outer vs ks ts have fits.1 order))
+      rw (append_assoc (tokens_of reg x) (tokens_in reg false vs) (closes curly ∷ ts))
+      (value_order reg (curly ∷ outer) x k (tokens_in reg false vs ++ closes curly ∷ ts) have fits.0
+      (others_order reg outer vs ks ts have fits.1 order))
 
   elements_order : (reg : List Entity) (outer : List Bracket) (vs : Plains) (k : Kind) (ts : List Token) → HaveMembers reg → FitAll reg vs k
       → ordered separator outer ts ≡ true → ordered element (square ∷ outer) (tokens_in reg true vs ++ closes square ∷ ts) ≡ true
   elements_order reg outer none k ts have fits order = order
   elements_order reg outer (more x vs) k ts have fits order =
       rw (append_assoc (tokens_of reg x) (tokens_in reg false vs) (closes square ∷ ts))
-      (lift_order (square ∷ outer) (tokens_of reg x) (tokens_in reg false vs ++ closes square ∷ ts) (value_begins reg x) (value_order reg (square ∷ outer) x k (tokens_in reg false vs ++ closes square ∷ ts) have fits.0 (more_order reg outer vs k ts have fits.1 order)))
+      (lift_order (square ∷ outer) (tokens_of reg x) (tokens_in reg false vs ++ closes square ∷ ts) (value_begins reg x)
+      (value_order reg (square ∷ outer) x k (tokens_in reg false vs ++ closes square ∷ ts) have fits.0
+      (more_order reg outer vs k ts have fits.1 order)))
 
   more_order : (reg : List Entity) (outer : List Bracket) (vs : Plains) (k : Kind) (ts : List Token) → HaveMembers reg → FitAll reg vs k
       → ordered separator outer ts ≡ true → ordered separator (square ∷ outer) (tokens_in reg false vs ++ closes square ∷ ts) ≡ true
   more_order reg outer none k ts have fits order = order
   more_order reg outer (more x vs) k ts have fits order =
-      rw (append_assoc (tokens_of reg x) (tokens_in reg false vs) (closes square ∷ ts)) (value_order reg (square ∷ outer) x k (tokens_in reg false vs ++ closes square ∷ ts) have fits.0 (more_order reg outer vs k ts have fits.1 order))
+      rw (append_assoc (tokens_of reg x) (tokens_in reg false vs) (closes square ∷ ts))
+      (value_order reg (square ∷ outer) x k (tokens_in reg false vs ++ closes square ∷ ts) have fits.0
+      (more_order reg outer vs k ts have fits.1 order))
 
 -- ---- a sound registry
 
@@ -424,7 +437,8 @@ pub sound_members : (reg : List Entity) → IsSound reg → HaveMembers reg
 sound_members reg sound name k (inl is) type =
     members_of_entity reg name is_struct sound.members (λ b struct_it. or_left (is_struct b) _ struct_it) (known_of reg (kd.struct name) (subst (λ j. is_type reg j ≡ true) is type))
 sound_members reg sound name k (inr is) type =
-    members_of_entity reg name is_exception sound.members (λ b exception_it. or_right (is_struct b) (is_exception b) exception_it) (known_of reg (kd.exception name) (subst (λ j. is_type reg j ≡ true) is type))
+    members_of_entity reg name is_exception sound.members (λ b exception_it. or_right (is_struct b) (is_exception b) exception_it)
+    (known_of reg (kd.exception name) (subst (λ j. is_type reg j ≡ true) is type))
 
 -- ---- an item's name is a known word
 
@@ -523,7 +537,10 @@ bytes_good : (reg : List Entity) (is_first : Bool) (bs : List ℕ) → All IsByt
 unfolding byte_tokens
 bytes_good reg is_first [] all = tt
 bytes_good reg is_first (b ∷ bs) all =
-    tokens_append reg (comma_tokens is_first) _ (comma_good reg is_first) (range_fits 7 (cast_signed w8 b) (omega arith) (signed_range b (all 0 b (omega arith))), bytes_good reg false bs (λ k d within. all (suc k) d (omega arith)))
+    tokens_append reg (comma_tokens is_first) _ (comma_good reg is_first) (
+      range_fits 7 (cast_signed w8 b) (omega arith) (signed_range b (all 0 b (omega arith))),
+      bytes_good reg false bs (λ k d within. all (suc k) d (omega arith)),
+    )
 
 any_good : (reg : List Entity) (t : Kind) (x : Plain) (b : Bool) → is_void t ≡ b → t ≢ kd.any → is_type reg t ≡ true → Fits reg x t
     → AreTokensOf reg (tokens_of reg x) → AreTokensOf reg (tokens_of reg (v.any t x))
@@ -556,7 +573,11 @@ mutual
   value_good reg (v.kind t) k named_all fits sized = (fits.1, tt)
   value_good reg (v.any t x) k named_all fits sized = any_good reg t x (is_void t) refl fits.1 fits.2 fits.3 (value_good reg x t named_all fits.3 sized)
   value_good reg (v.enum name n) k named_all fits sized = (item_good reg name n named_all sized, tt)
-  value_good reg (v.tuple name vs) k named_all fits sized = (tt, tokens_append reg (tokens_in reg true vs) (closes curly ∷ []) (members_good reg true vs (member_kinds reg name) named_all fits.2 sized) (tt, tt))
+  value_good reg (v.tuple name vs) k named_all fits sized = (
+    tt,
+    tokens_append reg (tokens_in reg true vs) (closes curly ∷ []) (members_good reg true vs (member_kinds reg name) named_all fits.2 sized)
+        (tt, tt),
+  )
   value_good reg (v.list t vs) k named_all fits sized = (tt, tokens_append reg (tokens_in reg true vs) (closes square ∷ []) (elements_good reg true vs t named_all fits.3 sized) (tt, tt))
   value_good reg (v.bytes b) k named_all fits sized = (tt, tokens_append reg (byte_tokens true b) (closes square ∷ []) (bytes_good reg true b sized) (tt, tt))
   value_good reg (v.ref r) k named_all fits sized = ((refl, refl), tt)
@@ -566,13 +587,17 @@ mutual
   members_good reg is_first none ks named_all fits sized = tt
   members_good reg is_first (more x vs) [] named_all fits sized = absurd fits
   members_good reg is_first (more x vs) (k ∷ ks) named_all fits sized =
-      tokens_append reg (comma_tokens is_first) _ (comma_good reg is_first) (tokens_append reg (tokens_of reg x) _ (value_good reg x k named_all fits.0 sized.0) (members_good reg false vs ks named_all fits.1 sized.1))
+      tokens_append reg (comma_tokens is_first) _ (comma_good reg is_first)
+      (tokens_append reg (tokens_of reg x) _ (value_good reg x k named_all fits.0 sized.0)
+      (members_good reg false vs ks named_all fits.1 sized.1))
 
   elements_good : (reg : List Entity) (is_first : Bool) (vs : Plains) (k : Kind) → list_all is_named reg ≡ true → FitAll reg vs k → AllSized vs
       → AreTokensOf reg (tokens_in reg is_first vs)
   elements_good reg is_first none k named_all fits sized = tt
   elements_good reg is_first (more x vs) k named_all fits sized =
-      tokens_append reg (comma_tokens is_first) _ (comma_good reg is_first) (tokens_append reg (tokens_of reg x) _ (value_good reg x k named_all fits.0 sized.0) (elements_good reg false vs k named_all fits.1 sized.1))
+      tokens_append reg (comma_tokens is_first) _ (comma_good reg is_first)
+      (tokens_append reg (tokens_of reg x) _ (value_good reg x k named_all fits.0 sized.0)
+      (elements_good reg false vs k named_all fits.1 sized.1))
 
 -- ---- the whole text
 

@@ -71,7 +71,8 @@ mutual
   spells_print reg (any t void) closed = append-nil _
   spells_print reg (any t v) closed = ap (λ x. 40 ∷ x) (append_assoc (name_of t) (codes ")") _) ∙ ap (λ x. 40 ∷ (name_of t ++ 41 ∷ x)) (spells_print reg v closed)
   spells_print reg (enum name n) closed = append-nil _ ∙ item_spelled (first_item (items_of (find_entity name reg)) n) n
-  spells_print reg (tuple name vs) closed = bracketed 123 125 (tokens_in reg true vs) (closes curly) (joined (print_each reg vs)) refl (spells_each reg true vs closed ∙ joined_on_all (print_each reg vs))
+  spells_print reg (tuple name vs) closed = bracketed 123 125 (tokens_in reg true vs) (closes curly) (joined (print_each reg vs)) refl
+      (spells_each reg true vs closed ∙ joined_on_all (print_each reg vs))
   spells_print reg (list t vs) closed = bracketed 91 93 (tokens_in reg true vs) (closes square) (joined (print_each reg vs)) refl (spells_each reg true vs closed ∙ joined_on_all (print_each reg vs))
   spells_print reg (bytes b) closed = bracketed 91 93 (byte_tokens true b) (closes square) (joined (map byte_text b)) refl (bytes_spelled true b ∙ joined_on_all (map byte_text b))
   spells_print reg (ref r) closed = null_spelled r closed
@@ -80,4 +81,6 @@ mutual
   spells_each reg is_first none closed = refl
   spells_each reg is_first (more v vs) closed =
       let parts = append_none (refs v) (refs_in vs) closed in
-      spells-append (comma_tokens is_first) _ ∙ ap (λ t. spells (comma_tokens is_first) ++ t) (spells-append (tokens_of reg v) (tokens_in reg false vs) ∙ ap (λ t. t ++ spells (tokens_in reg false vs)) (spells_print reg v parts.0) ∙ ap (λ t. print reg v ++ t) (spells_each reg false vs parts.1))
+      spells-append (comma_tokens is_first) _ ∙ ap (λ t. spells (comma_tokens is_first) ++ t)
+      (spells-append (tokens_of reg v) (tokens_in reg false vs) ∙ ap (λ t. t ++ spells (tokens_in reg false vs)) (spells_print reg v parts.0)
+      ∙ ap (λ t. print reg v ++ t) (spells_each reg false vs parts.1))

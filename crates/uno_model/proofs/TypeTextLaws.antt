@@ -75,7 +75,12 @@ text_finds reg text named = by_length (nat_le (length text) 4096) refl
     outside : nat_le (length text) 4096 ≡ true → (k : Kind) → IsNamedWithin reg text 64 k → IsNamed reg text k
     outside few k is =
         let long : nat_le (length (name_of k)) 4096 ≡ true = ap (λ t. nat_le (length t) 4096) is.named ∙ few in
-        record { named = is.named; is = and_from (is_formed reg k) (is_namable k) is.formed (and_from (nat_le (length (name_of k)) 4096) (nat_le (nesting k) 64) long (le-leb (nesting k) 64 is.within)) }
+        record {
+          named = is.named;
+          is =
+              and_from (is_formed reg k) (is_namable k) is.formed
+              (and_from (nat_le (length (name_of k)) 4096) (nat_le (nesting k) 64) long (le-leb (nesting k) 64 is.within));
+        }
 
     by_found : (o : Option Kind) → nat_le (length text) 4096 ≡ true → Finds (IsNamedWithin reg text 64) o → Finds (IsNamed reg text) o
     by_found None few none = λ k is. none k (inside k is)

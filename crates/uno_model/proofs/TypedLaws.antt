@@ -329,7 +329,8 @@ module _ {X : Type 0} (reg : List Entity) (P : X → Type 0) (E : X → List Tok
   more_elements : (x : X) (ys xs : List X) (ps qs r rest : List Placed) (p : Placed) → IsElement x ps (p ∷ qs) → p.token ≡ comma → AreElements ys qs r
       → x ∷ ys ≡ xs → r ≡ rest → AreElements xs ps rest
   more_elements x ys xs ps qs r rest p is comma_it are one two =
-      let spelled : bare ps ≡ (E x ++ listed E false ys) ++ closes square ∷ bare r = is.spelled ∙ ap (λ t. E x ++ t ∷ bare qs) comma_it ∙ ap (λ t. E x ++ t) are.onward ∙ sym (append_assoc (E x) (listed E false ys) (closes square ∷ bare r)) in
+      let spelled : bare ps ≡ (E x ++ listed E false ys) ++ closes square ∷ bare r = is.spelled ∙ ap (λ t. E x ++ t ∷ bare qs) comma_it
+      ∙ ap (λ t. E x ++ t) are.onward ∙ sym (append_assoc (E x) (listed E false ys) (closes square ∷ bare r)) in
       let all : AreElements (x ∷ ys) ps r = record { good = (is.good, are.good); spelled = spelled; onward = ap (λ t. comma ∷ t) spelled; typed = are.typed } in
       subst (λ s. AreElements xs ps s) two (subst (λ zs. AreElements zs ps r) one all)
 
@@ -340,7 +341,8 @@ module _ {X : Type 0} (reg : List Entity) (P : X → Type 0) (E : X → List Tok
   behind_sound left x xs ps (p ∷ qs) rest more_read inner is e = by_close (closes_square p.token) refl
     where
       by_more : (m : Result (List X × List Placed) Fault) → more_read qs ≡ m → is_comma p.token ≡ true → with_first x m ≡ Ok (xs, rest) → AreElements xs ps rest
-      by_more (Ok y) read goes says = more_elements x y.0 xs ps qs y.1 rest p is (comma_is p.token goes) (inner qs y.1 y.0 is.typed.1 read) (ok_parts (x ∷ y.0) xs y.1 rest says).0 (ok_parts (x ∷ y.0) xs y.1 rest says).1
+      by_more (Ok y) read goes says = more_elements x y.0 xs ps qs y.1 rest p is (comma_is p.token goes) (inner qs y.1 y.0 is.typed.1 read)
+          (ok_parts (x ∷ y.0) xs y.1 rest says).0 (ok_parts (x ∷ y.0) xs y.1 rest says).1
       by_more (Err f) read goes says = let bad : ⊥ = cc in absurd bad
 
       by_comma : (b : Bool) → is_comma p.token ≡ b → closes_square p.token ≡ false → AreElements xs ps rest
@@ -428,7 +430,8 @@ comma_sound reg false left ps qs typed e =
     let typed_all : Typed reg (at.0 ∷ qs) = subst (Typed reg) at.1 typed in
     (ap bare at.1 ∙ ap (λ t. t ∷ bare qs) (comma_is at.0.token at.2), typed_all.1)
 
-no_members : (reg : List Entity) (left : ℕ) (is_first : Bool) (ps rest : List Placed) (xs : List Plain) → Typed reg ps → on_ok {B = List Plain × List Placed} (expect left closes_curly ps) (λ qs. Ok ([], qs)) ≡ Ok (xs, rest) → AreMembers reg is_first [] xs ps rest
+no_members : (reg : List Entity) (left : ℕ) (is_first : Bool) (ps rest : List Placed) (xs : List Plain) → Typed reg ps
+    → on_ok {B = List Plain × List Placed} (expect left closes_curly ps) (λ qs. Ok ([], qs)) ≡ Ok (xs, rest) → AreMembers reg is_first [] xs ps rest
 unfolding FitEach refs_in tokens_in
 no_members reg left is_first ps rest xs typed e = by_close (expect left closes_curly ps) refl
   where
@@ -449,7 +452,9 @@ unfolding FitEach refs_in tokens_in
 one_member reg is_first k ks x ys ps qs rs rest comma_it is are = record {
   fits = (is.fits, are.fits);
   closed = ap (λ r. r ++ refs_in (plains ys)) is.closed ∙ are.closed;
-  spelled = comma_it ∙ ap (λ t. comma_tokens is_first ++ t) (is.spelled ∙ ap (λ t. tokens_of reg x ++ t) are.spelled ∙ sym (append_assoc (tokens_of reg x) (tokens_in reg false (plains ys)) (closes curly ∷ bare rest)))
+  spelled = comma_it ∙ ap (λ t. comma_tokens is_first ++ t)
+      (is.spelled ∙ ap (λ t. tokens_of reg x ++ t) are.spelled
+      ∙ sym (append_assoc (tokens_of reg x) (tokens_in reg false (plains ys)) (closes curly ∷ bare rest)))
       ∙ sym (append_assoc (comma_tokens is_first) (tokens_of reg x ++ tokens_in reg false (plains ys)) (closes curly ∷ bare rest));
   typed = are.typed;
 }
@@ -620,7 +625,9 @@ unfolding FitAll refs_in
 all_fit reg k [] each = (tt, refl)
 all_fit reg k (x ∷ xs) each = let others = all_fit reg k xs each.1 in ((each.0.0, others.0), ap (λ r. r ++ refs_in (plains xs)) each.0.1 ∙ others.1)
 
-bytes_sound : (reg : List Entity) (ps rest : List Placed) (x : Plain) → Typed reg ps → on_ok {B = Plain × List Placed} (sequence_of (only_token byte_in) ps) (λ y. Ok (v.bytes y.0, y.1)) ≡ Ok (x, rest) → IsTypedRead reg (kd.sequence kd.byte) x ps rest
+bytes_sound : (reg : List Entity) (ps rest : List Placed) (x : Plain) → Typed reg ps
+    → on_ok {B = Plain × List Placed} (sequence_of (only_token byte_in) ps) (λ y. Ok (v.bytes y.0, y.1)) ≡ Ok (x, rest)
+    → IsTypedRead reg (kd.sequence kd.byte) x ps rest
 unfolding Fits tokens_of refs
 bytes_sound reg ps rest x typed e = by_all (sequence_of (only_token byte_in) ps) refl
   where
@@ -629,7 +636,8 @@ bytes_sound reg ps rest x typed e = by_all (sequence_of (only_token byte_in) ps)
         let parts = ok_parts (v.bytes y.0) x y.1 rest (rw one at e) in
         let are = sequence_sound reg AnyByte byte_token (only_token byte_in) ps y.1 y.0 (bytes_read reg) typed one in
         let spelled : bare ps ≡ tokens_of reg (v.bytes y.0) ++ bare y.1 =
-        are.spelled ∙ ap (λ t. opens square ∷ (t ++ closes square ∷ bare y.1)) (sym (listed_bytes true y.0)) ∙ ap (λ t. opens square ∷ t) (sym (append_assoc (byte_tokens true y.0) (closes square ∷ []) (bare y.1))) in
+        are.spelled ∙ ap (λ t. opens square ∷ (t ++ closes square ∷ bare y.1)) (sym (listed_bytes true y.0))
+        ∙ ap (λ t. opens square ∷ t) (sym (append_assoc (byte_tokens true y.0) (closes square ∷ []) (bare y.1))) in
         let all : IsTypedRead reg (kd.sequence kd.byte) (v.bytes y.0) ps y.1 = record { fits = refl; closed = refl; spelled = spelled; typed = are.typed } in
         subst (λ r. IsTypedRead reg (kd.sequence kd.byte) x ps r) parts.1 (subst (λ z. IsTypedRead reg (kd.sequence kd.byte) z ps y.1) parts.0 all)
     by_all (Err f) one = absurd (not_ok f (x, rest) (rw one at e))
@@ -646,7 +654,8 @@ list_sound reg read k ps rest x other type reads typed e = by_all (sequence_of (
         let are = sequence_sound reg (FitsWell reg k) (tokens_of reg) (read k) ps y.1 y.0 (values_read reg read k reads) typed one in
         let good = all_fit reg k y.0 are.good in
         let spelled : bare ps ≡ tokens_of reg (v.list k (plains y.0)) ++ bare y.1 =
-        are.spelled ∙ ap (λ t. opens square ∷ (t ++ closes square ∷ bare y.1)) (sym (listed_plains reg true y.0)) ∙ ap (λ t. opens square ∷ t) (sym (append_assoc (tokens_in reg true (plains y.0)) (closes square ∷ []) (bare y.1))) in
+        are.spelled ∙ ap (λ t. opens square ∷ (t ++ closes square ∷ bare y.1)) (sym (listed_plains reg true y.0))
+        ∙ ap (λ t. opens square ∷ t) (sym (append_assoc (tokens_in reg true (plains y.0)) (closes square ∷ []) (bare y.1))) in
         let all : IsTypedRead reg (kd.sequence k) (v.list k (plains y.0)) ps y.1 = record { fits = (refl, other, type, good.0); closed = good.1; spelled = spelled; typed = are.typed } in
         subst (λ r. IsTypedRead reg (kd.sequence k) x ps r) parts.1 (subst (λ z. IsTypedRead reg (kd.sequence k) z ps y.1) parts.0 all)
     by_all (Err f) one = absurd (not_ok f (x, rest) (rw one at e))
@@ -661,7 +670,8 @@ struct_sound reg read k name ps rest x kind_it type reads typed e = by_all (tupl
     by_all (Ok y) one =
         let parts = ok_parts (v.tuple name (plains y.0)) x y.1 rest (rw one at e) in
         let are = tuple_sound reg read (member_kinds reg name) ps y.1 y.0 reads typed one in
-        let spelled : bare ps ≡ tokens_of reg (v.tuple name (plains y.0)) ++ bare y.1 = are.spelled ∙ ap (λ t. opens curly ∷ t) (sym (append_assoc (tokens_in reg true (plains y.0)) (closes curly ∷ []) (bare y.1))) in
+        let spelled : bare ps ≡ tokens_of reg (v.tuple name (plains y.0)) ++ bare y.1 =
+        are.spelled ∙ ap (λ t. opens curly ∷ t) (sym (append_assoc (tokens_in reg true (plains y.0)) (closes curly ∷ []) (bare y.1))) in
         let all : IsTypedRead reg k (v.tuple name (plains y.0)) ps y.1 = record { fits = (kind_it, type, are.fits); closed = are.closed; spelled = spelled; typed = are.typed } in
         subst (λ r. IsTypedRead reg k x ps r) parts.1 (subst (λ z. IsTypedRead reg k z ps y.1) parts.0 all)
     by_all (Err f) one = absurd (not_ok f (x, rest) (rw one at e))

@@ -134,14 +134,19 @@ fn fits_row(rt: &impl Abort, alloc: Global, registry: &Registry, row: &str) -> b
     fit
 }
 
+/// Sees that the values of all rows fit, or that none does.
+fn judge(rt: &impl Abort, alloc: Global, registry: &Registry, rows: &str, fit: bool)
+    requires { IsSound registry.now }
+{
+    for row in rows.lines() {
+        see(rt, fits_row(rt, alloc, registry, row) == fit, row);
+    }
+}
+
 #[test]
 fn rows_fit_as_they_say(rt: HostRuntime) {
     let registry = sound(&rt, registry_of(rt.alloc(), VALUED));
-    for row in FIT.lines() {
-        see(&rt, fits_row(&rt, rt.alloc(), &registry, row), row);
-    }
-    for row in UNFIT.lines() {
-        see(&rt, !fits_row(&rt, rt.alloc(), &registry, row), row);
-    }
+    judge(&rt, rt.alloc(), &registry, FIT, true);
+    judge(&rt, rt.alloc(), &registry, UNFIT, false);
     drop(registry);
 }

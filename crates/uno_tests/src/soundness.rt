@@ -6,8 +6,9 @@ use std::alloc::Global;
 use std::process::Abort;
 use uno_base::NoMemory;
 
-/// In each line entities, and whether a registry that has them besides the known ones is sound.
-const NAMES: &str = "sound: enum t.longs A
+/// In each line entities, and whether a registry that has them besides the known ones is sound: on names, on items, on what is named,
+/// on types, on services and what else there is, on what is missing, and on circles.
+const ROWS: &str = "sound: enum t.longs A
 not: enum t.long A
 sound: enum a1 A
 not: enum 1a A
@@ -21,16 +22,14 @@ not: struct t.S in:long
 not: exception t.F +t.Bad out:long
 not: interface t.X +t.XKnown a.b:long
 sound: interface t.X +t.XKnown gets()void
-not: interface t.X +t.XKnown get()void";
-
-const ITEMS: &str = "sound: enum t.E A B C; enum t.F A
+not: interface t.X +t.XKnown get()void
+sound: enum t.E A B C; enum t.F A
 sound: enum t.E A a
 not: enum t.E A B A
 not: enum t.E A A
 sound: struct t.S a:long a:long
-sound: interface t.X +t.XKnown go()void go()void";
-
-const USED: &str = "sound: interface t.X +t.XKnown
+sound: interface t.X +t.XKnown go()void go()void
+sound: interface t.X +t.XKnown
 not: interface t.X +t.XNone
 not: interface t.X +t.Known
 sound: interface t.X +t.XKnown +?t.XKnown
@@ -55,9 +54,8 @@ not: typedef t.T exception/t.Known
 not: typedef t.T long; struct t.S a:struct/t.T
 not: exception t.F +t.Bad a:struct/t.None
 not: interface t.X +t.XKnown a:struct/t.None
-not: interface t.X +t.XKnown go()struct/t.None";
-
-const TYPES: &str = "sound: interface t.X +t.XKnown a:[]any
+not: interface t.X +t.XKnown go()struct/t.None
+sound: interface t.X +t.XKnown a:[]any
 not: interface t.X +t.XKnown a:void
 not: interface t.X +t.XKnown a:exception/t.Bad
 not: interface t.X +t.XKnown a:[][]void
@@ -68,9 +66,8 @@ not: struct t.S a:void
 not: exception t.F +t.Bad a:exception/t.Bad
 sound: typedef t.T exception/t.Bad
 not: typedef t.T void
-not: typedef t.T []exception/t.Bad";
-
-const SERVICES: &str = "sound: service t.V t.XKnown make()
+not: typedef t.T []exception/t.Bad
+sound: service t.V t.XKnown make()
 not: service t.V t.XKnown
 not: service t.V t.Known make()
 not: service t.V t.XKnown make(+in)
@@ -85,18 +82,16 @@ sound: old_singleton t.One t.V;old_service t.V
 not: old_singleton t.One t.XKnown
 sound: constants t.C
 not: constants t.C A:void
-not: constants t.C void:long";
-
-const MISSING: &str = "not: enum t.E
+not: constants t.C void:long
+not: enum t.E
 not: struct t.S
 not: struct t.S +t.T; struct t.T
 sound: struct t.S +t.T; struct t.T +t.Known
 not: exception t.F
 sound: exception t.F a:long
 not: interface t.X
-not: interface t.X +?t.XKnown";
-
-const CIRCLES: &str = "not: interface t.X +t.X
+not: interface t.X +?t.XKnown
+not: interface t.X +t.X
 not: interface t.X +t.XKnown +?t.X
 not: interface t.X +t.Y; interface t.Y +t.XKnown +?t.X
 sound: interface t.X +t.Y; interface t.Y +t.XKnown a:interface/t.X
@@ -107,8 +102,6 @@ sound: struct t.S a:struct/t.T; struct t.T a:[]struct/t.S
 not: struct t.S +t.S a:long
 not: struct t.S +t.T a:long; struct t.T a:struct/t.S
 not: exception t.F +t.F a:long";
-
-const TABLES: &[&str] = &[NAMES, ITEMS, USED, TYPES, SERVICES, MISSING, CIRCLES];
 
 fn is_sound(alloc: Global, lines: Lines) -> Result<bool, NoMemory> {
     let registry = with_known(alloc, lines)?;
@@ -126,10 +119,8 @@ pub(crate) fn judge(rt: &impl Abort, alloc: Global, lines: Lines, wanted: bool) 
 
 #[test]
 fn each_fact_is_asked(rt: HostRuntime) {
-    for rows in TABLES {
-        for row in rows.lines() {
-            let (wanted, entities) = cut(row, ':');
-            judge(&rt, rt.alloc(), (entities, "", 0), wanted == "sound");
-        }
+    for row in ROWS.lines() {
+        let (wanted, entities) = cut(row, ':');
+        judge(&rt, rt.alloc(), (entities, "", 0), wanted == "sound");
     }
 }

@@ -4,6 +4,7 @@ ghost use Rattle.uno_model.specs.Sound.{IsSound};
 use crate::entities::many::Lines;
 use crate::entities::texts::{CHAIN_DOWN, CHAIN_UP, LADDER};
 use crate::entities::{sound, with_known};
+use crate::judging::see;
 use crate::types::{cut, type_of};
 use std::alloc::Global;
 use std::process::Abort;
@@ -85,40 +86,42 @@ pub(crate) fn may_stand(
     }
 }
 
-/// Sees that each of the types may stand for one, or only that one itself.
-fn judge_types(
-    rt: &impl Abort,
-    alloc: Global,
-    registry: &Registry,
-    to: &str,
-    all_from: &str,
-    all: bool,
-)
+/// Whether the types may stand for one, or only that one itself.
+fn stand_for(alloc: Global, registry: &Registry, to: &str, all_from: &str, all: bool) -> bool
     requires { IsSound registry.now }
 {
     for from in all_from.split(' ') {
-        let wanted = all || to == from;
-        let right = may_stand(alloc, registry, to, from) == Ok(wanted);
-        assert!(rt; right, "at {to} from {from}");
+        if may_stand(alloc, registry, to, from) != Ok(all || to == from) {
+            return false;
+        }
     }
+    true
 }
 
+/// Sees that the types of a row stand for one another as it says.
 fn judge_row(rt: &impl Abort, alloc: Global, registry: &Registry, row: &str)
     requires { IsSound registry.now }
 {
     let (all, types) = cut(row, ':');
     let (all_to, all_from) = cut(types, '|');
     for to in all_to.trim().split(' ') {
-        judge_types(rt, alloc, registry, to, all_from.trim(), all == "all");
+        let right = stand_for(alloc, registry, to, all_from.trim(), all == "all");
+        see(rt, right, row);
     }
+}
+
+/// Sees that all rows are right of a registry with these entities and the known ones.
+fn judge(rt: &impl Abort, alloc: Global, lines: Lines, rows: &str) {
+    let registry = sound(rt, with_known(alloc, lines));
+    for row in rows.lines() {
+        judge_row(rt, alloc, &registry, row);
+    }
+    drop(registry);
 }
 
 #[test]
 fn types_stand_for_their_bases_and_no_others(rt: HostRuntime) {
     for (lines, rows) in TABLES {
-        let registry = sound(&rt, with_known(rt.alloc(), *lines));
-        for row in rows.lines() {
-            judge_row(&rt, rt.alloc(), &registry, row);
-        }
+        judge(&rt, rt.alloc(), *lines, rows);
     }
 }

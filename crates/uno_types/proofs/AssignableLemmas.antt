@@ -16,8 +16,8 @@ use Rattle.uno_model.proofs.CircleLaws.{all_at}
 use Rattle.uno_model.proofs.PlaceLaws.{contains_cases, at_slice}
 use Rattle.uno_model.proofs.ReachLaws.{found_place}
 use Rattle.uno_model.proofs.ReachesLaws.{required_named}
-use Rattle.uno_types.proofs.SpreadLemmas.{entity_at}
-use Rattle.uno_types.specs.Finding.{IsPlaceOf, IsBaseAt}
+use Rattle.uno_entities.proofs.SpreadLemmas.{entity_at}
+use Rattle.uno_entities.specs.Finding.{IsPlaceOf, IsBaseAt}
 
 -- one level, the last and any other
 pub last_level : (levels : ℕ) (reg : List Entity) (to from : List ℕ) → levels ≡ 0 → reaches_within levels reg to from ≡ bytes_eq from to

@@ -1,14 +1,6 @@
-pub mod AllLemmas
 pub mod AssignableLemmas
-pub mod Different
-pub mod FewLemmas
-pub mod FindingLemmas
-pub mod FunctionLemmas
-pub mod GraphLemmas
 pub mod LevelLemmas
 pub mod MemberLemmas
-pub mod NameParts
 pub mod NearMemberLemmas
 pub mod SoundLemmas
-pub mod SpreadLemmas
 pub mod TypeTextLemmas

@@ -12,8 +12,8 @@ use Rattle.uno_model.specs.Entities as plain
 use Rattle.uno_model.specs.Registry.{find_entity, members_within}
 use Rattle.uno_model.proofs.MemberLaws.{members_up, no_members}
 use Rattle.uno_types.specs.declared.members.Level.{Level}
-use Rattle.uno_types.specs.declared.entity.Field.{Field}
-use Rattle.uno_types.specs.Entities.{field_of}
+use Rattle.uno_entities.specs.declared.entity.Field.{Field}
+use Rattle.uno_entities.specs.Entities.{field_of}
 use Rattle.uno_types.specs.Members.{IsLevel, base_named}
 
 -- ---- one level

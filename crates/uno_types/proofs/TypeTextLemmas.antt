@@ -10,8 +10,8 @@ use Rattle.uno_model.specs.Entities.{Entity}
 use Rattle.uno_model.specs.Kinds.{Kind}
 use Rattle.uno_model.specs.NamedTypes.{IsNamedWithin, word_of, simple_of}
 use Rattle.uno_model.specs.Sound.{is_named, is_plain}
-use Rattle.uno_types.specs.TypeNames.{kind_of}
-use Rattle.uno_types.specs.declared.type_name.TypeName.{TypeName}
+use Rattle.uno_entities.specs.TypeNames.{kind_of}
+use Rattle.uno_entities.specs.declared.type_name.TypeName.{TypeName}
 
 -- without `[]` in front
 pub word_found : (reg : List Entity) (text : List ℕ) (levels : ℕ) (found : Option TypeName) → IsTrue (list_all is_named reg)

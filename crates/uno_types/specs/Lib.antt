@@ -1,10 +1,4 @@
-pub mod Building
-pub mod Counts
-pub mod Entities
 pub mod ErrorTexts
-pub mod Finding
 pub mod Known
 pub mod Members
-pub mod Spreading
 pub mod Tag
-pub mod TypeNames

@@ -6,8 +6,8 @@ use Rattle.uno_model.specs.Entities as plain
 use Rattle.uno_model.specs.Registry.{own_members, member_bases}
 use Rattle.uno_model.specs.Sound.{is_struct, is_exception, is_there, is_some_list}
 use Rattle.uno_types.specs.declared.members.Level.{Level}
-use Rattle.uno_types.specs.declared.entity.Field.{Field}
-use Rattle.uno_types.specs.Entities.{field_of}
+use Rattle.uno_entities.specs.declared.entity.Field.{Field}
+use Rattle.uno_entities.specs.Entities.{field_of}
 
 -- the base's name, as a list of at most one
 abbrev pub base_named : Option (Bor (List ℕ)) → List (List ℕ)

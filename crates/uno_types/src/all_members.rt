@@ -1,7 +1,7 @@
 //! All members of a struct or an exception at once.
 ghost use Rattle.std.specs.Prelude.{◌≡◌, ◌++◌, ◌^◌, ◌≤◌, map, IfOk, OnOk};
 ghost use Rattle.uno_model.specs.Registry.{all_members, members_within};
-ghost use Rattle.uno_types.specs.Entities.{field_of};
+ghost use Rattle.uno_entities.specs.Entities.{field_of};
 ghost use Rattle.uno_types.specs.Members.{fields_at, stacked};
 
 use crate::{Field, Level, Registry};

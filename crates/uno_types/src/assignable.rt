@@ -6,15 +6,14 @@ ghost use Rattle.uno_model.specs.Kinds as kd;
 ghost use Rattle.uno_model.specs.Reaches.{reaches_within};
 ghost use Rattle.uno_model.specs.Registry.{IsRising, IsBaseOf, Assignable, stands_on_body, required, at_most_one};
 ghost use Rattle.uno_model.specs.Sound.{IsSound};
-ghost use Rattle.uno_types.specs.Entities.{entity_of, entities_of, base_of};
-ghost use Rattle.uno_types.specs.Finding.{IsBaseAt};
-ghost use Rattle.uno_types.specs.TypeNames.{kind_of};
+ghost use Rattle.uno_entities.specs.Entities.{entity_of, entities_of, base_of};
+ghost use Rattle.uno_entities.specs.Finding.{IsBaseAt};
+ghost use Rattle.uno_entities.specs.TypeNames.{kind_of};
 
-use crate::bases::bases_of;
-use crate::registry::place_in;
 use crate::{Base, Body, Entity, Name, Registry, TypeName};
 use std::alloc::Global;
 use uno_base::NoMemory;
+use uno_entities::{bases_of, place_in};
 
 impl Registry {
     /// Whether a value of the one type may stand where the other is asked.

@@ -2,11 +2,11 @@
 ghost use Rattle.std.specs.Prelude.{◌≡◌};
 ghost use Rattle.uno_model.specs.Kinds as kd;
 ghost use Rattle.uno_model.specs.Types.{is_type, is_formed};
-ghost use Rattle.uno_types.specs.TypeNames.{kind_of};
+ghost use Rattle.uno_entities.specs.TypeNames.{kind_of};
 
 use crate::known::{Wanted, is_there, kind_known};
-use crate::sound::{elements_plain, is_namable};
 use crate::{Registry, TypeName};
+use uno_entities::elements_plain;
 
 impl Registry {
     /// Whether it is a simple type, an entity of the registry that is a type, or a sequence of such a type other than void
@@ -14,7 +14,7 @@ impl Registry {
     pub fn has_type(&self, kind: &TypeName) -> bool
         ensures { result ≡ is_type self.now (kind_of kind.now) }
     {
-        self.has_form(kind) && is_namable(kind)
+        self.has_form(kind) && kind.is_namable()
     }
 
     /// The same, but for the limits of its name.

@@ -3,7 +3,7 @@ ghost use Rattle.std.specs.Prelude.{◌≡◌, map};
 ghost use Rattle.std.specs.List.{list_all};
 ghost use Rattle.uno_model.specs.Registry.{at_most_one};
 ghost use Rattle.uno_model.specs.Sound.{body_known, is_there, kind_known, is_interface};
-ghost use Rattle.uno_types.specs.Entities.{base_of, constant_of, service_of, singleton_of, body_of};
+ghost use Rattle.uno_entities.specs.Entities.{base_of, constant_of, service_of, singleton_of, body_of};
 ghost use Rattle.uno_types.specs.Known.{test_of};
 
 mod inside;

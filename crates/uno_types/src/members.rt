@@ -4,7 +4,7 @@ ghost use Rattle.std.specs.List.{list_all};
 ghost use Rattle.uno_model.specs.Circles.{HasNoCircle};
 ghost use Rattle.uno_model.specs.Registry.{find_entity, leads_to, at_most_one, members_within, all_members};
 ghost use Rattle.uno_model.specs.Sound.{has_member};
-ghost use Rattle.uno_types.specs.Entities.{field_of, body_of, entity_of, entities_of};
+ghost use Rattle.uno_entities.specs.Entities.{field_of, body_of, entity_of, entities_of};
 ghost use Rattle.uno_types.specs.Members.{IsLevel, base_named, carries, member_near};
 
 use crate::{Body, Entity, Field, Name, Registry};

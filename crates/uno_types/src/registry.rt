@@ -2,15 +2,15 @@
 ghost use Rattle.std.specs.Prelude.{◌≡◌, ◌≢◌, ◌+◌, ◌<◌, ◌≤◌, ◌↔◌, length, take, drop, IfOk, OnOk, OnErr, IfErr, IfSome, IsNone, MatchOption, MatchResult, Some, None, option_map, slice_get, insert};
 ghost use Rattle.uno_model.specs.BuiltIn.{built_in};
 ghost use Rattle.uno_model.specs.Registry.{find_entity, Adds, IsRising};
-ghost use Rattle.uno_types.specs.Entities.{entity_of, entities_of};
-ghost use Rattle.uno_types.specs.Finding.{IsPlaceOf, IsGapOf};
+ghost use Rattle.uno_entities.specs.Entities.{entity_of, entities_of};
+ghost use Rattle.uno_entities.specs.Finding.{IsPlaceOf, IsGapOf};
 ghost use Rattle.uno_types.specs.declared.registry.AddError.TheVariants.{NoMemory, Twice};
 
 use crate::Entity;
-use crate::built_in::built_in_entities;
 use std::alloc::{AllocFailed, Global};
 use std::marker::Model;
 use uno_base::NoMemory;
+use uno_entities::{built_in_entities, place_in};
 
 /// Why an entity was not added.
 #[derive(Clone, Copy, Debug, PartialEq, Eq)]
@@ -46,7 +46,7 @@ impl Model for Registry {
 
     ghost coded = { Prim.hlevel (codes, kind_code) };
 
-    ghost use Rattle.uno_types.specs.Entities.{entities_of};
+    ghost use Rattle.uno_entities.specs.Entities.{entities_of};
     ghost use Rattle.uno_model.specs.Registry.{IsRising};
 
     ghost view = { λ r. entities_of r.entities.items };
@@ -105,7 +105,7 @@ fn entity_at(entities: &[Entity], place: usize) -> Option<&Entity>
 }
 
 /// The gap where an entity of this name would go, unless one is there.
-#[tactic(auto, using(crate::proofs::FindingLemmas::place_there))]
+#[tactic(auto, using(uno_entities::proofs::FindingLemmas::place_there))]
 fn gap_in(entities: &[Entity], name: &str) -> Option<usize>
     requires { IsRising (entities_of entities.now) }
     ensures { MatchOption result (find_entity name.now (entities_of entities.now) ≢ None) (λ i. IsGapOf name.now (entities_of entities.now) i) }
@@ -130,13 +130,4 @@ fn insert_in(entities: &mut Vec<Entity>, entity: Entity) -> Result<(), AddError>
     };
     entities.insert(gap, entity)?;
     Ok(())
-}
-
-/// The place of the entity of this name, or the gap where one would go.
-pub(crate) fn place_in(entities: &[Entity], name: &str) -> Result<usize, usize>
-    requires { IsRising (entities_of entities.now) }
-    ensures place { IfOk result (λ i. IsPlaceOf name.now (entities_of entities.now) i) }
-    ensures gap { IfErr result (λ i. IsGapOf name.now (entities_of entities.now) i) }
-{
-    entities.binary_search_by(|entity| entity.name.as_str().cmp(name))
 }

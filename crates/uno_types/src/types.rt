@@ -4,13 +4,13 @@ ghost use Rattle.std.specs.List.{list_all};
 ghost use Rattle.uno_model.specs.Kinds.{Kind};
 ghost use Rattle.uno_model.specs.NamedTypes.{IsNamed, IsNamedWithin, kind_of_body, word_of, simple_of};
 ghost use Rattle.uno_model.specs.Sound.{IsSound, is_named};
-ghost use Rattle.uno_types.specs.Entities.{body_of};
-ghost use Rattle.uno_types.specs.TypeNames.{kind_of};
+ghost use Rattle.uno_entities.specs.Entities.{body_of};
+ghost use Rattle.uno_entities.specs.TypeNames.{kind_of};
 
-use crate::sound::is_plain;
 use crate::{Body, Name, Registry, TypeName};
 use std::alloc::Global;
 use uno_base::NoMemory;
+use uno_entities::is_plain;
 
 /// How many bytes the name of a type may have, and how many `[]`.
 const MOST_BYTES: usize = 4096;

@@ -12,10 +12,10 @@ use Rattle.uno_model.specs.Registry.{find_entity, all_members}
 use Rattle.uno_model.specs.Sound.{IsSound, is_there, is_enum, is_allowed, is_some_list, few_modules, short_name, body_allowed}
 use Rattle.uno_model.proofs.MemberKindLaws.{found_entity, members_formed}
 use Rattle.uno_model.specs.Types.{is_formed}
-use Rattle.uno_types.specs.declared.entity.Field.{Field}
-use Rattle.uno_types.specs.Entities.{field_of}
+use Rattle.uno_entities.specs.declared.entity.Field.{Field}
+use Rattle.uno_entities.specs.Entities.{field_of}
 use Rattle.uno_types.specs.Members.{fields_at}
-use Rattle.uno_types.specs.TypeNames.{kind_of}
+use Rattle.uno_entities.specs.TypeNames.{kind_of}
 use Rattle.uno_values.specs.Fitting.{kinds_at}
 use Rattle.uno_values.specs.declared.value.Value.{Value}
 use Rattle.uno_values.specs.Values.{plain_of, plains_of}

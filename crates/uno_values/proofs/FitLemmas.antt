@@ -10,11 +10,11 @@ use Rattle.uno_model.specs.Entities as plain
 use Rattle.uno_model.specs.Fits.{Fits, FitEach, FitAll}
 use Rattle.uno_model.specs.Registry.{find_entity, members_within}
 use Rattle.uno_model.proofs.MemberLaws.{no_members}
-use Rattle.uno_types.specs.Entities.{field_of}
+use Rattle.uno_entities.specs.Entities.{field_of}
 use Rattle.uno_types.specs.Members.{IsLevel}
 use Rattle.uno_types.specs.declared.members.Level.{Level}
-use Rattle.uno_types.specs.TypeNames.{kind_of}
-use Rattle.uno_types.specs.declared.entity.Field.{Field}
+use Rattle.uno_entities.specs.TypeNames.{kind_of}
+use Rattle.uno_entities.specs.declared.entity.Field.{Field}
 use Rattle.uno_types.proofs.MemberLemmas.{behind, from_level, behind_none, behind_base}
 use Rattle.uno_values.proofs.Parts.{part_at}
 use Rattle.uno_values.specs.declared.value.Value.{Value}

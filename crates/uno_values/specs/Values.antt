@@ -3,7 +3,7 @@ use Rattle.std.specs.Prelude.{List, map}
 use Rattle.uno_model.specs.Kinds.{Kind}
 use Rattle.uno_model.specs.Values.{Plain, Plains, plains, void, char, boolean, byte, short, unsigned_short, long}
 use Rattle.uno_model.specs.Values.{unsigned_long, hyper, unsigned_hyper, str, kind, any, enum, tuple, list, bytes, ref}
-use Rattle.uno_types.specs.TypeNames.{kind_of}
+use Rattle.uno_entities.specs.TypeNames.{kind_of}
 use Rattle.uno_values.specs.References.{ref_of}
 use Rattle.uno_values.specs.declared.value.Value.{Value}
 use Rattle.uno_values.specs.declared.value.AnyValue.{AnyValue}

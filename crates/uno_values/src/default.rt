@@ -7,8 +7,8 @@ ghost use Rattle.uno_model.specs.Registry.{find_entity};
 ghost use Rattle.uno_model.specs.Sound.{IsSound, is_there, is_enum};
 ghost use Rattle.uno_model.specs.Types.{is_formed};
 ghost use Rattle.uno_model.specs.Values.{any, void};
-ghost use Rattle.uno_types.specs.Entities.{body_of};
-ghost use Rattle.uno_types.specs.TypeNames.{kind_of};
+ghost use Rattle.uno_entities.specs.Entities.{body_of};
+ghost use Rattle.uno_entities.specs.TypeNames.{kind_of};
 ghost use Rattle.uno_values.specs.Fitting.{kinds_at};
 ghost use Rattle.uno_values.specs.Values.{plain_of, plains_of};
 

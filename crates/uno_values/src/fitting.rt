@@ -4,7 +4,7 @@ ghost use Rattle.uno_model.specs.Fits.{Fits, FitEach, FitAll, RefFits, Interface
 ghost use Rattle.uno_model.specs.Kinds as kd;
 ghost use Rattle.uno_model.specs.Sound.{IsSound};
 ghost use Rattle.uno_model.specs.Types.{is_type};
-ghost use Rattle.uno_types.specs.TypeNames.{kind_of};
+ghost use Rattle.uno_entities.specs.TypeNames.{kind_of};
 ghost use Rattle.uno_values.specs.References.{ref_of};
 ghost use Rattle.uno_values.specs.Fitting.{kinds_of};
 ghost use Rattle.uno_values.specs.Values.{plain_of, plains_of};

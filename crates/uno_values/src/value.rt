@@ -1,7 +1,7 @@
 //! Values, a case for each type.
 ghost use Rattle.std.specs.Prelude.{◌≡◌, IfOk};
 ghost use Rattle.uno_model.specs.Values.{any, enum, tuple, list};
-ghost use Rattle.uno_types.specs.TypeNames.{kind_of};
+ghost use Rattle.uno_entities.specs.TypeNames.{kind_of};
 ghost use Rattle.uno_values.specs.Values.{plain_of, plains_of};
 
 use crate::Reference;

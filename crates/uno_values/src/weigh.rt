@@ -1,7 +1,7 @@
 //! The weight of a value: the bytes that it takes on the wire with each name written out.
 ghost use Rattle.std.specs.Prelude.{◌≡◌, ◌+◌, ◌^◌, ◌-◌, min};
 ghost use Rattle.uno_model.specs.Weights.{weight, weights, count, compressed_weight, text_weight, kind_weight, ref_weight};
-ghost use Rattle.uno_types.specs.TypeNames.{kind_of};
+ghost use Rattle.uno_entities.specs.TypeNames.{kind_of};
 ghost use Rattle.uno_values.specs.References.{ref_of};
 ghost use Rattle.uno_values.specs.Values.{plain_of, plains_of};
 

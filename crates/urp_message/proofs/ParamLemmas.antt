@@ -6,8 +6,8 @@ use Rattle.message_model.specs.Calls.{kinds_on}
 use Rattle.uno_model.specs.Entities as plain
 use Rattle.uno_model.specs.Kinds.{Kind}
 use Rattle.uno_model.specs.declared.way.Way.{Way}
-use Rattle.uno_types.specs.Entities.{param_of}
-use Rattle.uno_types.specs.declared.entity.Param.{Param}
+use Rattle.uno_entities.specs.Entities.{param_of}
+use Rattle.uno_entities.specs.declared.entity.Param.{Param}
 
 -- the first parameter's type, if it is carried, stands before the others
 kinds_step : (test : Way → Bool) (p : plain.Param) (ps : List plain.Param) → kinds_on test (p ∷ ps) ≡ kinds_on test (p ∷ []) ++ kinds_on test ps

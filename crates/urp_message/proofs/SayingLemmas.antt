@@ -15,8 +15,8 @@ use Rattle.uno_model.specs.Kinds.{Kind}
 use Rattle.uno_model.specs.Kinds as kd
 use Rattle.uno_model.specs.Types.{is_type}
 use Rattle.uno_model.specs.Values.{Plain, plains, depth, depth_in}
-use Rattle.uno_types.specs.TypeNames.{kind_of}
-use Rattle.uno_types.specs.declared.type_name.TypeName.{TypeName}
+use Rattle.uno_entities.specs.TypeNames.{kind_of}
+use Rattle.uno_entities.specs.declared.type_name.TypeName.{TypeName}
 use Rattle.uno_values.specs.Values.{plain_of}
 use Rattle.uno_values.specs.declared.value.Value.{Value}
 use Rattle.urp_message.specs.Params.{kinds_at}

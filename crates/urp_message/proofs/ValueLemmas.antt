@@ -5,8 +5,8 @@ use Rattle.std.specs.Borrow.{Bor}
 use Rattle.std.specs.Result.{IsErrAnd}
 use Rattle.uno_model.specs.Kinds.{Kind}
 use Rattle.uno_model.specs.Values.{Plain}
-use Rattle.uno_types.specs.TypeNames.{kind_of}
-use Rattle.uno_types.specs.declared.type_name.TypeName.{TypeName}
+use Rattle.uno_entities.specs.TypeNames.{kind_of}
+use Rattle.uno_entities.specs.declared.type_name.TypeName.{TypeName}
 use Rattle.urp_message.specs.Params.{kinds_at}
 use Rattle.urp_model.specs.Parts.{◌>>=◌}
 use Rattle.urp_model.specs.Reading.{Reads, members_at}

@@ -1,7 +1,7 @@
 -- The parts of headers as plain data.
 use Rattle.message_model.specs.Headers as header
 use Rattle.uno_model.specs.Kinds as kd
-use Rattle.uno_types.specs.TypeNames.{kind_of}
+use Rattle.uno_entities.specs.TypeNames.{kind_of}
 use Rattle.urp_message.specs.declared.listener.opening.Opening.{Opening}
 use Rattle.urp_message.specs.declared.listener.request.Called.{Called}
 use Rattle.urp_message.specs.declared.listener.target.Target.{Target}

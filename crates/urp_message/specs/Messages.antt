@@ -2,7 +2,7 @@
 use Rattle.std.specs.Prelude.{map, option_map}
 use Rattle.message_model.specs.Headers as header
 use Rattle.message_model.specs.Messages as plain
-use Rattle.uno_types.specs.TypeNames.{kind_of}
+use Rattle.uno_entities.specs.TypeNames.{kind_of}
 use Rattle.uno_values.specs.Values.{plain_of}
 use Rattle.message_model.specs.WritingMessages as written
 use Rattle.urp_message.specs.declared.last.Heard.{Heard}
@@ -13,7 +13,7 @@ use Rattle.urp_message.specs.declared.message.Answer.TheVariants.{Returned, Rais
 use Rattle.urp_message.specs.declared.message.Message.{Message}
 use Rattle.urp_message.specs.declared.message.Message.TheVariants.{Request, Release, Reply}
 use Rattle.urp_wire.specs.Gives.{tables_of}
-use Rattle.urp_wire.specs.Written.{names_of}
+use Rattle.wire_writing.specs.Written.{names_of}
 
 -- an answer
 abbrev pub answer_of : Answer → plain.Answer

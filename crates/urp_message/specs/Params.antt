@@ -4,8 +4,8 @@ use Rattle.std.specs.Borrow.{Bor}
 use Rattle.message_model.specs.Calls.{goes, comes}
 use Rattle.uno_model.specs.Kinds.{Kind}
 use Rattle.uno_model.specs.declared.way.Way.{Way}
-use Rattle.uno_types.specs.TypeNames.{kind_of}
-use Rattle.uno_types.specs.declared.type_name.TypeName.{TypeName}
+use Rattle.uno_entities.specs.TypeNames.{kind_of}
+use Rattle.uno_entities.specs.declared.type_name.TypeName.{TypeName}
 use Rattle.urp_message.specs.declared.params.Phase.{Phase}
 use Rattle.urp_message.specs.declared.params.Phase.TheVariants as phase
 

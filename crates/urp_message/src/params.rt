@@ -1,7 +1,7 @@
 //! The parameters whose values a request carries, and those whose values a reply carries (Developer's Guide, methods).
 ghost use Rattle.std.specs.Prelude.{◌≡◌, ◌++◌, ◌∷◌, [], map, IfOk, OnOk};
 ghost use Rattle.message_model.specs.Calls.{kinds_on};
-ghost use Rattle.uno_types.specs.Entities.{param_of};
+ghost use Rattle.uno_entities.specs.Entities.{param_of};
 ghost use Rattle.urp_message.specs.Params.{carries, kinds_at};
 
 use std::alloc::Global;

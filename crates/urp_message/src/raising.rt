@@ -5,7 +5,7 @@ ghost use Rattle.message_model.specs.Calls.{is_base, runtime_exception, may_rais
 ghost use Rattle.type_registry.specs.Functions.{function_of};
 ghost use Rattle.uno_model.specs.Kinds as kd;
 ghost use Rattle.uno_model.specs.Sound.{IsSound};
-ghost use Rattle.uno_types.specs.TypeNames.{kind_of};
+ghost use Rattle.uno_entities.specs.TypeNames.{kind_of};
 
 use type_registry::Function;
 use uno_types::{Name, Registry, TypeName};

@@ -9,7 +9,7 @@ ghost use Rattle.uno_model.specs.Sound.{IsSound};
 ghost use Rattle.uno_model.specs.Types.{is_type};
 ghost use Rattle.uno_model.specs.Values.{any, depth};
 ghost use Rattle.uno_model.specs.Weights.{weight, weights, text_weight, compressed_weight, kind_weight};
-ghost use Rattle.uno_types.specs.TypeNames.{kind_of};
+ghost use Rattle.uno_entities.specs.TypeNames.{kind_of};
 ghost use Rattle.uno_values.specs.Values.{plain_of, plains_of};
 ghost use Rattle.urp_message.specs.Messages.{answer_of, message_of};
 ghost use Rattle.message_model.specs.Messages.{raised};

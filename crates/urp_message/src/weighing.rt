@@ -4,7 +4,7 @@ ghost use Rattle.std.specs.Prelude.{◌≡◌, ◌+◌, ◌-◌, ◌^◌, min, l
 ghost use Rattle.message_model.specs.Speaking.{message_weight, answer_weight, heading_weight, name_weight};
 ghost use Rattle.uno_model.specs.Values.{any};
 ghost use Rattle.uno_model.specs.Weights.{weight, weights, text_weight, kind_weight};
-ghost use Rattle.uno_types.specs.TypeNames.{kind_of};
+ghost use Rattle.uno_entities.specs.TypeNames.{kind_of};
 ghost use Rattle.uno_values.specs.Values.{plain_of, plains_of};
 ghost use Rattle.urp_message.specs.Messages.{answer_of, message_of};
 

@@ -113,7 +113,10 @@ module _ {N : Type 0} (same : N → N → Bool) (decides : (x y : N) → Decides
 -- a number that is the first number and one more, and 0 at a name: it grows along the list with that name in front
 pub grows_again : {N : Type 0} (f g : N → ℕ) (name : N) (s : ℕ) (es : List (N × ℕ)) → g name ≡ 0 → ((q : N) → (name ≡ q → ⊥) → g q ≡ suc (f q))
     → AllByRecursion (λ e. name ≡ e.0 → ⊥) es → Grows f es → Grows g ((name, s) ∷ es)
-grows_again {N = N} f g name s es none more others grows = (all_weaker (λ e. name ≡ e.0 → ⊥) (λ e. g name < g e.0) (λ e other. let at = more e.0 other in omega arith) es others, grows_still es others grows) where
+grows_again {N = N} f g name s es none more others grows = (
+  all_weaker (λ e. name ≡ e.0 → ⊥) (λ e. g name < g e.0) (λ e other. let at = more e.0 other in omega arith) es others,
+  grows_still es others grows,
+) where
   above : (x : N) (es : List (N × ℕ)) → (name ≡ x → ⊥) → AllByRecursion (λ e. name ≡ e.0 → ⊥) es → AllByRecursion (λ e. f x < f e.0) es → AllByRecursion (λ e. g x < g e.0) es
   above x [] here others all = tt
   above x (e ∷ es) here others all = let first = more x here in let second = more e.0 others.0 in let low = all.0 in (omega arith, above x es here others.1 all.1)

@@ -71,7 +71,8 @@ module _ (uses names : List (List ℕ)) (held : List (List ℕ × ℕ)) (name : 
   again_found t inside =
       let n = get_or names t [] in
       let was : lookup (bytes_eq n) held ≡ Some t = agrees.found t inside in
-      rw all_kept (front_or_rest n name s t (remove_entry (bytes_eq name) held) (λ is. let same : lookup (bytes_eq n) held ≡ Some s = rw is look in cc) (λ other. found_left bytes_eq bytes_eq-Decides n name held other ∙ was))
+      rw all_kept (front_or_rest n name s t (remove_entry (bytes_eq name) held) (λ is. let same : lookup (bytes_eq n) held ≡ Some s = rw is look in
+      cc) (λ other. found_left bytes_eq bytes_eq-Decides n name held other ∙ was))
 
   pub held_again : Agrees (name ∷ uses) names ((name, s) ∷ take 255 (remove_entry (bytes_eq name) held))
   held_again =
@@ -99,18 +100,22 @@ module _ (uses names : List (List ℕ)) (held : List (List ℕ × ℕ)) (name : 
         let within : t < length names = ltb-true t (length names) told in
         let n = get_or names t [] in
         let was : lookup (bytes_eq n) held ≡ Some t = agrees.found t within in
-        subst (λ n. lookup (bytes_eq n) ((name, length held) ∷ held) ≡ Some t) (sym (get_or_append_left names (name ∷ []) [] t within)) (front_or_rest n name (length held) t held (λ is. let none : lookup (bytes_eq n) held ≡ None = rw is look in absurd cc) (λ other. was))
+        subst (λ n. lookup (bytes_eq n) ((name, length held) ∷ held) ≡ Some t) (sym (get_or_append_left names (name ∷ []) [] t within))
+        (front_or_rest n name (length held) t held (λ is. let none : lookup (bytes_eq n) held ≡ None = rw is look in absurd cc) (λ other. was))
     | false ↦ λ told.
         let past = ltb-false t (length names) told in
         let most = length_push names name in
         let count = agrees.count in
         let last : length names ≡ t = omega arith in
         let at : t ≡ length held = omega arith in
-        subst (λ n. lookup (bytes_eq n) ((name, length held) ∷ held) ≡ Some t) (sym (get_or_push names name [] t last)) (front_or_rest name name (length held) t held (λ is. at) (λ other. absurd (other refl)))
+        subst (λ n. lookup (bytes_eq n) ((name, length held) ∷ held) ≡ Some t) (sym (get_or_push names name [] t last))
+        (front_or_rest name name (length held) t held (λ is. at) (λ other. absurd (other refl)))
   ]) refl
 
   moved : (es : List (List ℕ × ℕ)) → AreAt names es → AreAt (names ++ name ∷ []) es
-  moved es all = all_weaker (λ e. IsAt names e.0 e.1) (λ e. IsAt (names ++ name ∷ []) e.0 e.1) (λ e at. let within = at.inside in let most = length_push names name in record { inside = omega arith; is = get_or_append_left names (name ∷ []) [] e.1 at.inside ∙ at.is }) es all
+  moved es all = all_weaker (λ e. IsAt names e.0 e.1) (λ e. IsAt (names ++ name ∷ []) e.0 e.1)
+      (λ e at. let within = at.inside in let most = length_push names name in
+      record { inside = omega arith; is = get_or_append_left names (name ∷ []) [] e.1 at.inside ∙ at.is }) es all
 
   pub held_new : Agrees (name ∷ uses) (names ++ name ∷ []) ((name, length held) ∷ take 255 (remove_entry (bytes_eq name) held))
   held_new =
@@ -126,7 +131,8 @@ module _ (uses names : List (List ℕ)) (held : List (List ℕ × ℕ)) (name : 
       }
 
 -- a name that is not held, where every slot was used: it takes that of the last
-module _ (uses names : List (List ℕ)) (front : List (List ℕ × ℕ)) (last : List ℕ × ℕ) (name : List ℕ) (agrees : Agrees uses names (front ++ last ∷ [])) (look : lookup (bytes_eq name) (front ++ last ∷ []) ≡ None) where
+module _ (uses names : List (List ℕ)) (front : List (List ℕ × ℕ)) (last : List ℕ × ℕ) (name : List ℕ)
+    (agrees : Agrees uses names (front ++ last ∷ [])) (look : lookup (bytes_eq name) (front ++ last ∷ []) ≡ None) where
   last_placed : IsAt names last.0 last.1
   last_placed = all_at_last (λ e. IsAt names e.0 e.1) last front agrees.placed
 
@@ -142,7 +148,8 @@ module _ (uses names : List (List ℕ)) (front : List (List ℕ × ℕ)) (last :
 
   pub oldest_goes : stalest uses names ≡ last.1
   oldest_goes = stalest_place uses names last.1 last_placed.inside (λ t inside other.
-      let below : age uses (get_or names t []) < age uses last.0 = all_found bytes_eq bytes_eq-Decides (λ n slot. age uses n < age uses last.0) (get_or names t []) t front (last_is_above (age uses) last front agrees.older) (others_found t inside other) in
+      let below : age uses (get_or names t []) < age uses last.0 = all_found bytes_eq bytes_eq-Decides (λ n slot. age uses n < age uses last.0)
+      (get_or names t []) t front (last_is_above (age uses) last front agrees.older) (others_found t inside other) in
       let at : age uses (get_or names last.1 []) ≡ age uses last.0 = ap (age uses) last_placed.is in
       omega arith)
 
@@ -158,7 +165,9 @@ module _ (uses names : List (List ℕ)) (front : List (List ℕ × ℕ)) (last :
         let size = length-set names last.1 name in
         let within : t < length names = omega arith in
         let was : lookup (bytes_eq n) (front ++ last ∷ []) ≡ Some t = agrees.found t within in
-        subst (λ n. lookup (bytes_eq n) ((name, last.1) ∷ front) ≡ Some t) (sym (get_or-set_other names last.1 t name [] other)) (front_or_rest n name last.1 t front (λ is. let none : lookup (bytes_eq n) (front ++ last ∷ []) ≡ None = rw is look in absurd cc) (λ _. others_found t within other))
+        subst (λ n. lookup (bytes_eq n) ((name, last.1) ∷ front) ≡ Some t) (sym (get_or-set_other names last.1 t name [] other))
+        (front_or_rest n name last.1 t front (λ is. let none : lookup (bytes_eq n) (front ++ last ∷ []) ≡ None = rw is look in absurd cc)
+        (λ _. others_found t within other))
   ]) refl
 
   still_placed : (es : List (List ℕ × ℕ)) → AreAt names es → AllByRecursion (λ e. age uses e.0 < age uses last.0) es → AreAt (set names last.1 name) es

@@ -109,7 +109,9 @@ module _ (reg : List Entity) (table : Table) (k : Kind) (held : Names) (named : 
       by_held false other absent = new_kind other
 
       by_simple : (t : Bool) → is_simple k ≡ t
-          → KindCarried reg table k (if t then class_code (class_of k) ∷ [] else (if holds (name_of k) held then class_code (class_of k) ∷ slot_bytes (slot_for (name_of k) held) else kind_written k (slot_for (name_of k) held)))
+          → KindCarried reg table k (if t then class_code (class_of k) ∷ [] else
+          (if holds (name_of k) held then class_code (class_of k) ∷ slot_bytes (slot_for (name_of k) held) else kind_written k
+          (slot_for (name_of k) held)))
           (if t then held else used (name_of k) held)
       by_simple true yes_ = (table, simple yes_ refl refl, c)
       by_simple false other = by_held (holds (name_of k) held) other refl

@@ -37,7 +37,8 @@ any_row s = refl
 -- strings in an any, whose type is written out at slot 0
 strings_row : (s : Tables) → value_at 3 [] kd.any s ((148 ∷ 0 ∷ 0 ∷ 8 ∷ codes "[]string") ++ (1 ∷ 1 ∷ codes "a"))
     ≡ Ok (plain.any (kd.sequence kd.str) (plain.list kd.str (more (plain.str (codes "a")) none)), with_types s (announced 0 (codes "[]string") s.types), [])
-unfolding value_at value_step any_at content_at kind_at byte_at class_among kind_behind written_kind_at written_kind number_at text_name_at name_at length_at formed_named kind_named simple_of noted list_at elements_at text_at raw_at
+unfolding value_at value_step any_at content_at kind_at byte_at class_among kind_behind written_kind_at written_kind number_at text_name_at name_at
+    length_at formed_named kind_named simple_of noted list_at elements_at text_at raw_at
 strings_row s = rw (is_utf8_ascii (codes "[]string") refl, is_utf8_ascii (codes "a") refl) refl
 
 -- nothing in an any

@@ -51,7 +51,8 @@ module _ (reg : List Entity) (named : list_all is_named reg ≡ true) where
   leaf d k j s v h at x = subst (λ i. Carries reg d i s v h) (sym at) x
 
   mutual
-    unfolding recast recast_each recast_all abroad abroad_each spelling spellings after afters Spells SpellsStep SpellsAll SpellsEach Fits FitEach FitAll IsSpellable AreSpellable IsSized AreSized depth depth_in
+    unfolding recast recast_each recast_all abroad abroad_each spelling spellings after afters Spells SpellsStep SpellsAll SpellsEach Fits FitEach
+        FitAll IsSpellable AreSpellable IsSized AreSized depth depth_in
 
     pub value_sent : (v : Plain) (d : ℕ) (k : Kind) (s : Tables) (h : HeldNames) → depth v ≤ d → Fits reg v k → IsSpellable v → IsSized v
         → AllCorrespond s h → Carries reg d k s v h
@@ -61,14 +62,22 @@ module _ (reg : List Entity) (named : list_all is_named reg ≡ true) where
     value_sent (boolean true) (suc d) k s h deep fits ranged sized c = leaf (suc d) k kd.boolean s (boolean true) h fits (s, (inr (refl, refl), refl), c)
     value_sent (boolean false) (suc d) k s h deep fits ranged sized c = leaf (suc d) k kd.boolean s (boolean false) h fits (s, (inl (refl, refl), refl), c)
     value_sent (byte n) (suc d) k s h deep fits ranged sized c = leaf (suc d) k kd.byte s (byte n) h fits (s, (cast_unsigned w8 n, ap byte (signed_back w8 n ranged), refl, refl), c)
-    value_sent (short n) (suc d) k s h deep fits ranged sized c = leaf (suc d) k kd.short s (short n) h fits (s, (cast_unsigned w16 n, ap short (signed_back w16 n ranged), number_2 (cast_unsigned w16 n) (signed_2 n ranged), refl), c)
-    value_sent (long n) (suc d) k s h deep fits ranged sized c = leaf (suc d) k kd.long s (long n) h fits (s, (cast_unsigned w32 n, ap long (signed_back w32 n ranged), number_4 (cast_unsigned w32 n) (signed_4 n ranged), refl), c)
-    value_sent (hyper n) (suc d) k s h deep fits ranged sized c = leaf (suc d) k kd.hyper s (hyper n) h fits (s, (cast_unsigned w64 n, ap hyper (signed_back w64 n ranged), number_8 (cast_unsigned w64 n) (signed_8 n ranged), refl), c)
+    value_sent (short n) (suc d) k s h deep fits ranged sized c =
+        leaf (suc d) k kd.short s (short n) h fits
+        (s, (cast_unsigned w16 n, ap short (signed_back w16 n ranged), number_2 (cast_unsigned w16 n) (signed_2 n ranged), refl), c)
+    value_sent (long n) (suc d) k s h deep fits ranged sized c =
+        leaf (suc d) k kd.long s (long n) h fits
+        (s, (cast_unsigned w32 n, ap long (signed_back w32 n ranged), number_4 (cast_unsigned w32 n) (signed_4 n ranged), refl), c)
+    value_sent (hyper n) (suc d) k s h deep fits ranged sized c =
+        leaf (suc d) k kd.hyper s (hyper n) h fits
+        (s, (cast_unsigned w64 n, ap hyper (signed_back w64 n ranged), number_8 (cast_unsigned w64 n) (signed_8 n ranged), refl), c)
     value_sent (unsigned_short n) (suc d) k s h deep fits ranged sized c = leaf (suc d) k kd.unsigned_short s (unsigned_short n) h fits (s, (n, refl, number_2 n ranged, refl), c)
     value_sent (unsigned_long n) (suc d) k s h deep fits ranged sized c = leaf (suc d) k kd.unsigned_long s (unsigned_long n) h fits (s, (n, refl, number_4 n ranged, refl), c)
     value_sent (unsigned_hyper n) (suc d) k s h deep fits ranged sized c = leaf (suc d) k kd.unsigned_hyper s (unsigned_hyper n) h fits (s, (n, refl, number_8 n ranged, refl), c)
     value_sent (str text) (suc d) k s h deep fits ranged sized c = leaf (suc d) k kd.str s (str text) h fits (s, (text, refl, (measured_is text sized, ranged), refl), c)
-    value_sent (enum name n) (suc d) k s h deep fits ranged sized c = leaf (suc d) k (kd.enum name) s (enum name n) h fits.0 (s, (cast_unsigned w32 n, ap (enum name) (signed_back w32 n ranged), number_4 (cast_unsigned w32 n) (signed_4 n ranged), refl), c)
+    value_sent (enum name n) (suc d) k s h deep fits ranged sized c =
+        leaf (suc d) k (kd.enum name) s (enum name n) h fits.0
+        (s, (cast_unsigned w32 n, ap (enum name) (signed_back w32 n ranged), number_4 (cast_unsigned w32 n) (signed_4 n ranged), refl), c)
     value_sent (kind t) (suc d) k s h deep fits ranged sized c = kind_case reg named d s h c k t fits.0 fits.1
     value_sent (any t v) (suc d) k s h deep fits ranged sized c =
         any_case reg named d s h c k t v fits.0 fits.1 fits.2 (λ u g. value_sent v d t u g (omega arith) fits.3 ranged sized)

@@ -12,13 +12,16 @@ means_nothing = record { slots = length-replicate {A = Option (List ℕ)} 256 No
 -- at one slot
 meant_next : (table : List (Option (List ℕ))) (announcements : List Announcement) (at slot : ℕ) (name : List ℕ) → Means table announcements → at < 256
     → get_or (set table slot (Some name)) at None ≡ (if nat_eq at slot then Some name else meant_at at announcements)
-meant_next table announcements at slot name means inside = (elim (nat_eq at slot) as (λ y. nat_eq at slot ≡ y → get_or (set table slot (Some name)) at None ≡ cond y (Some name) (meant_at at announcements)) [
-  | true ↦ λ told. let is : at ≡ slot = eqb-true at slot told in let long = means.slots in subst (λ s. get_or (set table s (Some name)) at None ≡ Some name) is (get_or-set_same table at (Some name) None (omega arith))
-  | false ↦ λ told. get_or-set_other table slot at (Some name) None (eqb-false at slot told) ∙ means.each at inside
-]) refl
+meant_next table announcements at slot name means inside =
+    (elim (nat_eq at slot) as (λ y. nat_eq at slot ≡ y → get_or (set table slot (Some name)) at None ≡ cond y (Some name) (meant_at at announcements)) [
+      | true ↦ λ told. let is : at ≡ slot = eqb-true at slot told in let long = means.slots in
+          subst (λ s. get_or (set table s (Some name)) at None ≡ Some name) is (get_or-set_same table at (Some name) None (omega arith))
+      | false ↦ λ told. get_or-set_other table slot at (Some name) None (eqb-false at slot told) ∙ means.each at inside
+    ]) refl
 
 -- after one more announcement
-pub means_next : (table : List (Option (List ℕ))) (announcements : List Announcement) (slot : ℕ) (name : List ℕ) → Means table announcements → Means (announced slot name table) (record { slot = slot; name = name } ∷ announcements)
+pub means_next : (table : List (Option (List ℕ))) (announcements : List Announcement) (slot : ℕ) (name : List ℕ) → Means table announcements
+    → Means (announced slot name table) (record { slot = slot; name = name } ∷ announcements)
 unfolding announced meant_at
 means_next table announcements slot name means = record {
   slots = length-set table slot (Some name) ∙ means.slots;

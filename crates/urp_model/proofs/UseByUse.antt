@@ -66,7 +66,9 @@ use_over uses names held front last name apart long is agrees look full =
     let none : lookup (bytes_eq name) (front ++ last ∷ []) ≡ None = subst (λ es. lookup (bytes_eq name) es ≡ None) (sym apart) look in
     let slot : slot_for name held ≡ last.1 = slot_over name held look full ∙ sym (ap (λ e. e.1) is) in
     let goes = oldest_goes uses names front last name before none in
-    rw (slot, with_over uses name names (is_not_there uses names held name agrees look) (omega arith), goes) (subst (λ es. Agrees (name ∷ uses) (set names last.1 name) ((name, last.1) ∷ take 255 (remove_entry (bytes_eq name) es))) apart (held_over uses names front last name before none long))
+    rw (slot, with_over uses name names (is_not_there uses names held name agrees look) (omega arith), goes)
+    (subst (λ es. Agrees (name ∷ uses) (set names last.1 name) ((name, last.1) ∷ take 255 (remove_entry (bytes_eq name) es))) apart
+    (held_over uses names front last name before none long))
 
 use_full : (uses names : List (List ℕ)) (held : List (List ℕ × ℕ)) (name : List ℕ) → Agrees uses names held → lookup (bytes_eq name) held ≡ None
     → 256 ≤ length held → Agrees (name ∷ uses) (with_use uses name names) (used name held)
@@ -101,8 +103,12 @@ taken_at uses names held name s agrees look =
     let placed = all_found bytes_eq bytes_eq-Decides (IsAt names) name s held agrees.placed look in
     let within = placed.inside in
     let few = agrees.few in
-    let count = agrees.count in
-    (only_place name names s placed.inside placed.is (λ t inside at. let here : lookup (bytes_eq name) held ≡ Some t = subst (λ n. lookup (bytes_eq n) held ≡ Some t) at (agrees.found t inside) in cc), omega arith)
+    let count = agrees.count in (
+      only_place name names s placed.inside placed.is
+          (λ t inside at. let here : lookup (bytes_eq name) held ≡ Some t = subst (λ n. lookup (bytes_eq n) held ≡ Some t) at (agrees.found t inside) in
+          cc),
+      omega arith,
+    )
 
 slot_told : (uses : List (List ℕ)) (name : List ℕ) → (slot_taken uses name ≡ slot_for name (held_after uses)) × (slot_for name (held_after uses) < 256)
 unfolding slot_taken held_after

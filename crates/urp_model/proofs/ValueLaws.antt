@@ -77,7 +77,9 @@ module _ (r : Reads) (S : Spelled) (h : (s : Tables) → ReadsAs (r s) (S s)) wh
       (λ x used t. let n = none_left S s x.0 used x.1 t.0 t.1 in ((λ i. (n.0 i, n.2 i)), n.1))
   elements_agree (suc n) s =
       weaken triple
-      (bind_agrees triple triple _ (h s) (λ (first : Plain × Tables). map_agrees triple triple _ (λ (others : List Plain × Tables). (first.0 ∷ others.0, others.1)) (elements_agree n first.1) (λ others rest. refl)))
+      (bind_agrees triple triple _ (h s)
+      (λ (first : Plain × Tables). map_agrees triple triple _ (λ (others : List Plain × Tables). (first.0 ∷ others.0, others.1))
+      (elements_agree n first.1) (λ others rest. refl)))
       (λ x used t.
       let behind = t.5 in
       subst (λ (z : List Plain × Tables). (length z.0 ≡ suc n) × SpellsAll S s z.0 used z.1) (sym behind.1)
@@ -95,10 +97,21 @@ module _ (r : Kind → Reads) (S : Kind → Spelled) (h : (k : Kind) (s : Tables
       (λ x used t. ((λ i. (t.0 i, t.2 i)), t.1))
   members_agree (k ∷ ks) s =
       weaken triple
-      (bind_agrees triple triple _ (h k s) (λ (first : Plain × Tables). map_agrees triple triple _ (λ (others : List Plain × Tables). (first.0 ∷ others.0, others.1)) (members_agree ks first.1) (λ others rest. refl)))
+      (bind_agrees triple triple _ (h k s)
+      (λ (first : Plain × Tables). map_agrees triple triple _ (λ (others : List Plain × Tables). (first.0 ∷ others.0, others.1))
+      (members_agree ks first.1) (λ others rest. refl)))
       (λ x used t.
-      let behind = t.5 in
-      (t.0.0, behind.0.0, t.1, t.2, t.0.1, ap (λ (z : List Plain × Tables). z.0) behind.1, t.3, t.4, subst (SpellsEach S ks t.0.1 behind.0.0 t.2) (sym (ap (λ (z : List Plain × Tables). z.1) behind.1)) behind.2))
+      let behind = t.5 in (
+        t.0.0,
+        behind.0.0,
+        t.1,
+        t.2,
+        t.0.1,
+        ap (λ (z : List Plain × Tables). z.0) behind.1,
+        t.3,
+        t.4,
+        subst (SpellsEach S ks t.0.1 behind.0.0 t.2) (sym (ap (λ (z : List Plain × Tables). z.1) behind.1)) behind.2,
+      ))
       (λ x used t. ((t.0, t.4), t.2, t.3, t.6, t.7, ((t.1, x.1), (λ i. (t.5 i, x.1)), t.8)))
 
 -- ---- sequences, structs and exceptions

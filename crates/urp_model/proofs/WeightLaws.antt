@@ -72,7 +72,9 @@ module _ (k : Kind) (held : Names) where
   kind_bounded = by_simple (is_simple k) refl
     where
       by_simple : (t : Bool) → is_simple k ≡ t
-          → length (if t then class_code (class_of k) ∷ [] else (if holds (name_of k) held then class_code (class_of k) ∷ slot_bytes (slot_for (name_of k) held) else kind_written k (slot_for (name_of k) held))) ≤ kind_weight k
+          → length (if t then class_code (class_of k) ∷ [] else
+          (if holds (name_of k) held then class_code (class_of k) ∷ slot_bytes (slot_for (name_of k) held) else kind_written k
+          (slot_for (name_of k) held))) ≤ kind_weight k
       by_simple true is = omega (arith, simple_weight k is)
       by_simple false is = let bound = by_held (holds (name_of k) held) in omega (arith, named_weight k is)
 
@@ -81,7 +83,9 @@ module _ (k : Kind) (held : Names) where
   kind_exact fresh = by_simple (is_simple k) refl
     where
       by_simple : (t : Bool) → is_simple k ≡ t
-          → length (if t then class_code (class_of k) ∷ [] else (if holds (name_of k) held then class_code (class_of k) ∷ slot_bytes (slot_for (name_of k) held) else kind_written k (slot_for (name_of k) held))) ≡ kind_weight k
+          → length (if t then class_code (class_of k) ∷ [] else
+          (if holds (name_of k) held then class_code (class_of k) ∷ slot_bytes (slot_for (name_of k) held) else kind_written k
+          (slot_for (name_of k) held))) ≡ kind_weight k
       by_simple true is = sym (simple_weight k is)
       by_simple false is = rw (fresh is) (written_long k (slot_for (name_of k) held) ∙ sym (named_weight k is))
 

@@ -1,6 +1,3 @@
 pub mod Fronts
-pub mod Lengths
 pub mod Loops
-pub mod Names
-pub mod Sendings
 pub mod Texts

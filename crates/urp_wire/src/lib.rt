@@ -3,13 +3,12 @@
 
 mod error;
 mod read;
-mod write;
 
 pub use error::WireError;
 pub use read::{
     read_byte, read_kind, read_oid, read_tid, read_two_bytes, read_value, read_value_within,
 };
 pub use urp_model::Reason;
-pub use write::{
+pub use wire_writing::{
     write_any, write_kind, write_oid, write_single, write_tid, write_value, write_values,
 };

@@ -1,5 +1,1 @@
-pub mod OrderLemmas
 pub mod PrintLemmas
-pub mod ReadLemmas
-pub mod ScanLemmas
-pub mod TypedLemmas

@@ -1,4 +1,1 @@
 pub mod Printing
-pub mod Reading
-pub mod Scanning
-pub mod Typing

@@ -7,12 +7,12 @@ ghost use Rattle.uno_model.specs.Kinds.{name_of};
 ghost use Rattle.uno_model.specs.Literals.{print, print_each, joined, quoted, escaped, first_item, item_text, byte_text, ref_text};
 ghost use Rattle.uno_model.specs.Registry.{find_entity};
 ghost use Rattle.uno_model.specs.Values as plain;
-ghost use Rattle.uno_types.specs.TypeNames.{kind_of};
+ghost use Rattle.uno_entities.specs.TypeNames.{kind_of};
 ghost use Rattle.uno_values.specs.References.{ref_of};
 ghost use Rattle.uno_values.specs.Values.{plain_of, plains_of, any_of};
 ghost use Rattle.value_text.specs.Printing.{comma_before};
 
-use crate::items::{first_item, items_of};
+use literal_reading::{first_item, items_of};
 use std::alloc::Global;
 use uno_base::NoMemory;
 use uno_types::{Registry, TypeName};

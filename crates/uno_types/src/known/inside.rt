@@ -2,7 +2,7 @@
 ghost use Rattle.std.specs.Prelude.{◌≡◌, map};
 ghost use Rattle.std.specs.List.{list_all};
 ghost use Rattle.uno_model.specs.Sound.{is_there, is_exception, kind_known, member_known, constructor_known, part_known};
-ghost use Rattle.uno_types.specs.Entities.{field_of, param_of, member_of, constructor_of, part_of};
+ghost use Rattle.uno_entities.specs.Entities.{field_of, param_of, member_of, constructor_of, part_of};
 
 use super::there::{Wanted, is_there, kind_known};
 use crate::{Constructor, Field, Member, Name, Param, Part, Registry};

@@ -1,9 +1,9 @@
 //! A name is there where its entity is of the kind that the place asks.
 ghost use Rattle.std.specs.Prelude.{◌≡◌};
 ghost use Rattle.uno_model.specs.Sound.{is_there, kind_known};
-ghost use Rattle.uno_types.specs.Entities.{body_of};
+ghost use Rattle.uno_entities.specs.Entities.{body_of};
 ghost use Rattle.uno_types.specs.Known.{test_of};
-ghost use Rattle.uno_types.specs.TypeNames.{kind_of};
+ghost use Rattle.uno_entities.specs.TypeNames.{kind_of};
 
 use crate::{Body, Registry, TypeName};
 

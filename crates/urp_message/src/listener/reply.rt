@@ -5,7 +5,7 @@ ghost use Rattle.message_model.specs.Messages as plain;
 ghost use Rattle.message_model.specs.ReadingMessages.{new_or_last_at, returned_at, raised_at, answer_at, awaited, hearing_tid, reply_at};
 ghost use Rattle.type_registry.specs.Functions.{function_of};
 ghost use Rattle.uno_model.specs.Sound.{IsSound};
-ghost use Rattle.uno_types.specs.TypeNames.{kind_of};
+ghost use Rattle.uno_entities.specs.TypeNames.{kind_of};
 ghost use Rattle.urp_message.specs.Messages.{message_of, answer_of, heard_of, last_of};
 ghost use Rattle.urp_message.specs.Waiting.{awaited_of, answered_at, misplaced};
 ghost use Rattle.urp_model.specs.ReadingNames.{tid_at};

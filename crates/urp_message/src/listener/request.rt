@@ -4,7 +4,7 @@ ghost use Rattle.message_model.specs.Headers as header;
 ghost use Rattle.message_model.specs.Messages.{request};
 ghost use Rattle.message_model.specs.ReadingMessages.{face_of, release_at, call_at, asked_at, request_at};
 ghost use Rattle.uno_model.specs.Sound.{IsSound};
-ghost use Rattle.uno_types.specs.TypeNames.{kind_of};
+ghost use Rattle.uno_entities.specs.TypeNames.{kind_of};
 ghost use Rattle.uno_values.specs.Values.{plain_of};
 ghost use Rattle.urp_message.specs.Headers.{opening_of, target_of, called_of};
 ghost use Rattle.urp_message.specs.Messages.{message_of, heard_of};

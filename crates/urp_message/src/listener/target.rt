@@ -3,7 +3,7 @@ ghost use Rattle.std.specs.Prelude.{◌≡◌, option_map, IfOk, Some};
 ghost use Rattle.message_model.specs.Headers.{hearing};
 ghost use Rattle.message_model.specs.ReadingMessages.{new_or_last_at, oid_text_at, target_at};
 ghost use Rattle.uno_model.specs.Sound.{IsSound};
-ghost use Rattle.uno_types.specs.TypeNames.{kind_of};
+ghost use Rattle.uno_entities.specs.TypeNames.{kind_of};
 ghost use Rattle.urp_message.specs.Headers.{opening_of, target_of};
 ghost use Rattle.urp_message.specs.Messages.{heard_of};
 ghost use Rattle.urp_model.specs.Parts.{judged};

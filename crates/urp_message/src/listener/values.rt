@@ -2,7 +2,7 @@
 ghost use Rattle.std.specs.Prelude.{◌≡◌, map};
 ghost use Rattle.message_model.specs.Calls.{kinds_on};
 ghost use Rattle.uno_model.specs.Sound.{IsSound};
-ghost use Rattle.uno_types.specs.Entities.{param_of};
+ghost use Rattle.uno_entities.specs.Entities.{param_of};
 ghost use Rattle.uno_values.specs.Values.{plain_of};
 ghost use Rattle.urp_message.specs.Params.{carries, kinds_at};
 ghost use Rattle.urp_model.specs.Reading.{members_at, value_at};

@@ -3,7 +3,7 @@ ghost use Rattle.std.specs.Prelude.{◌≡◌, ◌≤◌, ◌*◌, nat_lt, ◌++
 ghost use Rattle.std.specs.Int.{from_bool};
 ghost use Rattle.std.specs.Str.{IsUtf8};
 ghost use Rattle.message_model.specs.WritingMessages.{is_new, is_new_face, is_long, long_flags, if_new, function_bytes, short_bytes, opening_spelling};
-ghost use Rattle.uno_types.specs.TypeNames.{kind_of};
+ghost use Rattle.uno_entities.specs.TypeNames.{kind_of};
 ghost use Rattle.urp_message.specs.Messages.{last_of};
 ghost use Rattle.urp_message.specs.Speaking.{heading_of};
 

@@ -6,7 +6,7 @@ ghost use Rattle.uno_values.specs.Values.{plain_of, plains_of};
 ghost use Rattle.urp_message.specs.Messages.{spoken_of};
 ghost use Rattle.urp_message.specs.Speaking.{heading_of, HeadingWritable};
 ghost use Rattle.urp_model.specs.Carried.{AreSpellable};
-ghost use Rattle.urp_wire.specs.Written.{AreWritable};
+ghost use Rattle.wire_writing.specs.Written.{AreWritable};
 
 use super::heading::{Heading, put_opening};
 use super::target::put_target;

@@ -3,7 +3,7 @@ ghost use Rattle.std.specs.Prelude.{◌≡◌, ◌<◌, ◌^◌, ◌++◌, lengt
 ghost use Rattle.std.specs.Str.{IsUtf8};
 ghost use Rattle.message_model.specs.WritingMessages.{is_new, is_new_face, if_new, held_if_new, target_spelling, after_target};
 ghost use Rattle.uno_model.specs.Kinds as kd;
-ghost use Rattle.uno_types.specs.TypeNames.{kind_of};
+ghost use Rattle.uno_entities.specs.TypeNames.{kind_of};
 ghost use Rattle.urp_message.specs.Messages.{last_of, spoken_of};
 ghost use Rattle.urp_message.specs.Speaking.{heading_of, HeadingWritable};
 ghost use Rattle.urp_model.specs.Held.{used};

@@ -3,7 +3,7 @@ ghost use Rattle.std.specs.Prelude.{◌≡◌, List, IfOk, IsTrue};
 ghost use Rattle.uno_model.specs.Entities.{Entity};
 ghost use Rattle.uno_model.specs.Kinds as kd;
 ghost use Rattle.uno_model.specs.Sound.{IsSound};
-ghost use Rattle.uno_types.specs.TypeNames.{kind_of};
+ghost use Rattle.uno_entities.specs.TypeNames.{kind_of};
 ghost use Rattle.uno_values.specs.References.{ref_of};
 ghost use Rattle.uno_values.specs.Values.{plain_of};
 ghost use Rattle.urp_model.specs.Reading.{ref_of as peer_of};

@@ -2,7 +2,7 @@
 ghost use Rattle.std.specs.Prelude.{◌≡◌, ◌≤◌, ◌++◌, ℕ, List, length, take, drop, IfOk, IfErr, MatchResult, Err};
 ghost use Rattle.uno_model.specs.Sound.{IsSound};
 ghost use Rattle.uno_model.specs.Values.{Plain};
-ghost use Rattle.uno_types.specs.TypeNames.{kind_of};
+ghost use Rattle.uno_entities.specs.TypeNames.{kind_of};
 ghost use Rattle.uno_values.specs.Values.{plain_of};
 ghost use Rattle.urp_model.specs.Reading.{value_at};
 ghost use Rattle.urp_model.specs.Spelling.{Spells};

@@ -1,7 +1,7 @@
 //! Reading types (URP specification, marshalling of types): a class, and for what is no simple type a slot or a slot and a name.
 ghost use Rattle.std.specs.Prelude.{◌≡◌, option_map, OnOk, IfOk, nat_lt, Option};
 ghost use Rattle.uno_model.specs.Sound.{IsSound};
-ghost use Rattle.uno_types.specs.TypeNames.{kind_of};
+ghost use Rattle.uno_entities.specs.TypeNames.{kind_of};
 ghost use Rattle.urp_model.specs.NamedKinds.{class_numbered, simple_kind, kind_named};
 ghost use Rattle.urp_model.specs.ReadingNames.{held_kind_at, written_kind, written_kind_at, unmarked, kind_behind, kind_at};
 ghost use Rattle.urp_wire.specs.Gives.{Gives};

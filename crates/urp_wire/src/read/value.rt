@@ -4,7 +4,7 @@ ghost use Rattle.uno_model.specs.Fits.{member_kinds};
 ghost use Rattle.uno_model.specs.Kinds as kd;
 ghost use Rattle.uno_model.specs.Sound.{IsSound};
 ghost use Rattle.uno_types.specs.Members.{fields_at};
-ghost use Rattle.uno_types.specs.TypeNames.{kind_of};
+ghost use Rattle.uno_entities.specs.TypeNames.{kind_of};
 ghost use Rattle.uno_values.specs.Values.{plain_of};
 ghost use Rattle.urp_model.specs.NamedKinds.{is_any, is_byte};
 ghost use Rattle.urp_model.specs.Reading.{elements_at, members_at, list_at, tuple_at, any_at, value_step, value_at};

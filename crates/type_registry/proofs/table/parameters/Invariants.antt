@@ -1,5 +1,5 @@
 use Rattle.std.specs.Prelude.{◌≡◌, map, take}
-use Rattle.uno_types.specs.Entities.{param_of}
+use Rattle.uno_entities.specs.Entities.{param_of}
 use Rattle.type_registry.proofs.table.parameters.Given as goal
 
 abbrev pub invariant-loop-param : goal.invariant-loop-param

@@ -1,5 +1,5 @@
 use Rattle.uno_model.specs.Functions.{accessors_of}
-use Rattle.uno_types.specs.Entities.{member_of}
+use Rattle.uno_entities.specs.Entities.{member_of}
 use Rattle.type_registry.proofs.TableLemmas.{more_given}
 use Rattle.type_registry.proofs.table.push_attributes.Goals as goal
 

@@ -1,7 +1,7 @@
 use Rattle.std.specs.Prelude.{◌≡◌, ◌++◌, map, drop}
 use Rattle.std.specs.List.{flat_map}
 use Rattle.uno_model.specs.Functions.{accessors_of}
-use Rattle.uno_types.specs.Entities.{member_of}
+use Rattle.uno_entities.specs.Entities.{member_of}
 use Rattle.type_registry.specs.Functions.{functions_at}
 use Rattle.type_registry.proofs.table.push_attributes.Given as goal
 

@@ -1,6 +1,6 @@
 use Rattle.std.specs.Prelude.{◌≡◌, ◌≤◌, ◌++◌, length, map, drop}
 use Rattle.uno_model.specs.Registry.{required}
-use Rattle.uno_types.specs.Entities.{base_of}
+use Rattle.uno_entities.specs.Entities.{base_of}
 use Rattle.type_registry.specs.Tasks.{tasks_of, visits}
 use Rattle.type_registry.proofs.walk.push_required.Given as goal
 

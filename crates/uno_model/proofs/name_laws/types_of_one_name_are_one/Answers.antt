@@ -4,4 +4,5 @@ use Rattle.uno_model.specs.Sound.{kind_known, elements_plain}
 use Rattle.uno_model.proofs.name_laws.types_of_one_name_are_one.Goals as goal
 
 pub returns : goal.returns
-returns c = λ reg sound k j formed formed_j same. one_type reg k j sound.named (and_parts (kind_known reg k) (elements_plain k) formed).0 (and_parts (kind_known reg j) (elements_plain j) formed_j).0 same
+returns c = λ reg sound k j formed formed_j same. one_type reg k j sound.named (and_parts (kind_known reg k) (elements_plain k) formed).0
+    (and_parts (kind_known reg j) (elements_plain j) formed_j).0 same

@@ -2,8 +2,8 @@ use Rattle.std.proofs.Common.{◌≡◌, ◌+◌, ◌<◌, ◌∙◌, ℕ, List,
 use Rattle.std.specs.Borrow.{Bor}
 use Rattle.std.proofs.lemmas.List.{append_assoc, map-append, map_more}
 use Rattle.uno_model.specs.Entities as plain
-use Rattle.uno_types.specs.declared.entity.Field.{Field}
-use Rattle.uno_types.specs.Entities.{field_of}
+use Rattle.uno_entities.specs.declared.entity.Field.{Field}
+use Rattle.uno_entities.specs.Entities.{field_of}
 use Rattle.uno_types.specs.Members.{fields_at}
 use Rattle.uno_types.proofs.all_members.push_all.Goals as goal
 

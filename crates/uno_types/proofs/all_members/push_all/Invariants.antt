@@ -1,5 +1,5 @@
 use Rattle.std.specs.Prelude.{◌≡◌, ◌++◌, map, take}
-use Rattle.uno_types.specs.Entities.{field_of}
+use Rattle.uno_entities.specs.Entities.{field_of}
 use Rattle.uno_types.specs.Members.{fields_at}
 use Rattle.uno_types.proofs.all_members.push_all.Given as goal
 

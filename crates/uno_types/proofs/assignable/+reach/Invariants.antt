@@ -2,7 +2,7 @@ use Rattle.std.proofs.Common.{◌≡◌, ◌+◌, ◌*◌, map, drop}
 use Rattle.std.specs.List.{list_any}
 use Rattle.uno_model.specs.Reaches.{reaches_within}
 use Rattle.uno_model.specs.Registry.{required}
-use Rattle.uno_types.specs.Entities.{base_of}
+use Rattle.uno_entities.specs.Entities.{base_of}
 use Rattle.uno_types.proofs.assignable.+reach.Given as goal
 
 abbrev pub decreases-reaches : goal.decreases-reaches

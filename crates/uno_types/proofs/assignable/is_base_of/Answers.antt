@@ -2,7 +2,7 @@ use Rattle.std.proofs.Common.{◌≡◌, None, sym, subst, ap, ◌∙◌, length
 use Rattle.std.proofs.lemmas.List.{length-map}
 use Rattle.uno_model.specs.Registry.{find_entity}
 use Rattle.uno_model.proofs.ReachesLaws.{reaches_bases}
-use Rattle.uno_types.specs.Entities.{entity_of}
+use Rattle.uno_entities.specs.Entities.{entity_of}
 use Rattle.uno_types.proofs.AssignableLemmas.{absent_source, absent_target, by_places}
 use Rattle.uno_types.proofs.assignable.is_base_of.Goals as goal
 

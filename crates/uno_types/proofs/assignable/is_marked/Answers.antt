@@ -1,6 +1,6 @@
 use Rattle.std.proofs.Common.{arith}
 use Rattle.std.proofs.lemmas.List.{length-map}
-use Rattle.uno_types.specs.Entities.{entity_of, entities_of}
+use Rattle.uno_entities.specs.Entities.{entity_of, entities_of}
 use Rattle.uno_types.proofs.AssignableLemmas.{mark_there, by_mark}
 use Rattle.uno_types.proofs.assignable.is_marked.Goals as goal
 

@@ -1,8 +1,8 @@
 use Rattle.std.proofs.Common.{sym, ap, ◌∙◌}
 use Rattle.std.specs.List.{list_all}
 use Rattle.uno_model.specs.Sound.{body_known}
-use Rattle.uno_types.specs.Entities.{entity_of}
-use Rattle.uno_types.proofs.AllLemmas.{all_more, all_fails, all_passed}
+use Rattle.uno_entities.specs.Entities.{entity_of}
+use Rattle.uno_entities.proofs.AllLemmas.{all_more, all_fails, all_passed}
 use Rattle.uno_types.proofs.known.all_known.Goals as goal
 
 pub loop-entity-preserved : goal.loop-entity-preserved

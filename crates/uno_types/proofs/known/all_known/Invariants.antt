@@ -1,7 +1,7 @@
 use Rattle.std.proofs.Common.{◌≡◌, map, drop}
 use Rattle.std.specs.List.{list_all}
 use Rattle.uno_model.specs.Sound.{body_known}
-use Rattle.uno_types.specs.Entities.{entity_of}
+use Rattle.uno_entities.specs.Entities.{entity_of}
 use Rattle.uno_types.proofs.known.all_known.Given as goal
 
 abbrev pub invariant-loop-entity : goal.invariant-loop-entity

@@ -1,8 +1,8 @@
 use Rattle.std.proofs.Common.{map, sym, ap, refl, ◌∙◌}
 use Rattle.std.specs.List.{list_all}
 use Rattle.uno_model.specs.Sound.{is_there, is_interface}
-use Rattle.uno_types.specs.Entities.{base_of}
-use Rattle.uno_types.proofs.AllLemmas.{each_more, each_fails, each_passed}
+use Rattle.uno_entities.specs.Entities.{base_of}
+use Rattle.uno_entities.proofs.AllLemmas.{each_more, each_fails, each_passed}
 use Rattle.uno_types.proofs.known.bases_known.Goals as goal
 
 pub loop-base-preserved : goal.loop-base-preserved

@@ -1,7 +1,7 @@
 use Rattle.std.proofs.Common.{sym, ◌∙◌}
 use Rattle.uno_model.specs.Sound.{kind_known}
-use Rattle.uno_types.specs.Entities.{constant_of}
-use Rattle.uno_types.proofs.AllLemmas.{all_more, all_fails, all_passed}
+use Rattle.uno_entities.specs.Entities.{constant_of}
+use Rattle.uno_entities.proofs.AllLemmas.{all_more, all_fails, all_passed}
 use Rattle.uno_types.proofs.known.constants_known.Goals as goal
 
 pub loop-constant-preserved : goal.loop-constant-preserved

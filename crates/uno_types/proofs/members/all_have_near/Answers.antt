@@ -1,7 +1,7 @@
 use Rattle.std.proofs.Common.{sym, ◌∙◌}
 use Rattle.uno_types.specs.Members.{member_near}
-use Rattle.uno_types.specs.Entities.{entity_of}
-use Rattle.uno_types.proofs.AllLemmas.{all_more, all_fails, all_passed}
+use Rattle.uno_entities.specs.Entities.{entity_of}
+use Rattle.uno_entities.proofs.AllLemmas.{all_more, all_fails, all_passed}
 use Rattle.uno_types.proofs.members.all_have_near.Goals as goal
 
 pub loop-entity-preserved : goal.loop-entity-preserved

@@ -1,6 +1,6 @@
 use Rattle.std.proofs.Common.{◌≡◌, drop}
 use Rattle.std.specs.List.{list_all}
-use Rattle.uno_types.specs.Entities.{entities_of}
+use Rattle.uno_entities.specs.Entities.{entities_of}
 use Rattle.uno_types.specs.Members.{member_near}
 use Rattle.uno_types.proofs.members.all_have_near.Given as goal
 

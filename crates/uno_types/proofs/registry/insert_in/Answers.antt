@@ -1,4 +1,4 @@
-use Rattle.uno_types.proofs.FindingLemmas.{rising_insert, adds_insert}
+use Rattle.uno_entities.proofs.FindingLemmas.{rising_insert, adds_insert}
 use Rattle.uno_types.proofs.registry.insert_in.Goals as goal
 
 pub returns-clause-rising : goal.returns-clause-rising

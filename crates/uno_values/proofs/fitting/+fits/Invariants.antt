@@ -3,7 +3,7 @@ use denote.Text.{Utf8}
 use denote.Shadow.{shadow}
 use Rattle.uno_model.specs.Fits.{FitAll, FitEach, member_kinds}
 use Rattle.uno_model.specs.Registry.{members_within}
-use Rattle.uno_types.specs.TypeNames.{kind_of}
+use Rattle.uno_entities.specs.TypeNames.{kind_of}
 use Rattle.uno_values.specs.Fitting.{kinds_of}
 use Rattle.uno_values.specs.Values.{plains_of}
 use Rattle.uno_values.proofs.fitting.+fits.Given as goal

@@ -1,6 +1,6 @@
 use Rattle.std.specs.Prelude.{◌≡◌, ◌++◌, map, drop}
 use Rattle.message_model.specs.Calls.{kinds_on}
-use Rattle.uno_types.specs.Entities.{param_of}
+use Rattle.uno_entities.specs.Entities.{param_of}
 use Rattle.urp_message.specs.Params.{carries, kinds_at}
 use Rattle.urp_message.proofs.params.kinds.Given as goal
 

@@ -1,7 +1,7 @@
 use Rattle.std.proofs.Common.{sym, ◌∙◌}
 use Rattle.uno_model.specs.Sound.{constructor_known}
-use Rattle.uno_types.specs.Entities.{constructor_of}
-use Rattle.uno_types.proofs.AllLemmas.{all_more, all_fails, all_passed}
+use Rattle.uno_entities.specs.Entities.{constructor_of}
+use Rattle.uno_entities.proofs.AllLemmas.{all_more, all_fails, all_passed}
 use Rattle.uno_types.proofs.known.inside.constructors_known.Goals as goal
 
 pub loop-constructor-preserved : goal.loop-constructor-preserved

@@ -1,7 +1,7 @@
 use Rattle.std.proofs.Common.{sym, ◌∙◌}
 use Rattle.uno_model.specs.Sound.{kind_known}
-use Rattle.uno_types.specs.Entities.{field_of}
-use Rattle.uno_types.proofs.AllLemmas.{all_more, all_fails, all_passed}
+use Rattle.uno_entities.specs.Entities.{field_of}
+use Rattle.uno_entities.proofs.AllLemmas.{all_more, all_fails, all_passed}
 use Rattle.uno_types.proofs.known.inside.fields_known.Goals as goal
 
 pub loop-field-preserved : goal.loop-field-preserved

@@ -1,7 +1,7 @@
 use Rattle.std.proofs.Common.{◌≡◌, map, drop}
 use Rattle.std.specs.List.{list_all}
 use Rattle.uno_model.specs.Sound.{kind_known}
-use Rattle.uno_types.specs.Entities.{field_of}
+use Rattle.uno_entities.specs.Entities.{field_of}
 use Rattle.uno_types.proofs.known.inside.fields_known.Given as goal
 
 abbrev pub invariant-loop-field : goal.invariant-loop-field

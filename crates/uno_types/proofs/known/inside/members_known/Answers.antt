@@ -1,7 +1,7 @@
 use Rattle.std.proofs.Common.{sym, ◌∙◌}
 use Rattle.uno_model.specs.Sound.{member_known}
-use Rattle.uno_types.specs.Entities.{member_of}
-use Rattle.uno_types.proofs.AllLemmas.{all_more, all_fails, all_passed}
+use Rattle.uno_entities.specs.Entities.{member_of}
+use Rattle.uno_entities.proofs.AllLemmas.{all_more, all_fails, all_passed}
 use Rattle.uno_types.proofs.known.inside.members_known.Goals as goal
 
 pub loop-member-preserved : goal.loop-member-preserved

@@ -1,7 +1,7 @@
 use Rattle.std.proofs.Common.{◌≡◌, map, drop}
 use Rattle.std.specs.List.{list_all}
 use Rattle.uno_model.specs.Sound.{member_known}
-use Rattle.uno_types.specs.Entities.{member_of}
+use Rattle.uno_entities.specs.Entities.{member_of}
 use Rattle.uno_types.proofs.known.inside.members_known.Given as goal
 
 abbrev pub invariant-loop-member : goal.invariant-loop-member

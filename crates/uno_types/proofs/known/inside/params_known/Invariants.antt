@@ -1,7 +1,7 @@
 use Rattle.std.proofs.Common.{◌≡◌, map, drop}
 use Rattle.std.specs.List.{list_all}
 use Rattle.uno_model.specs.Sound.{kind_known}
-use Rattle.uno_types.specs.Entities.{param_of}
+use Rattle.uno_entities.specs.Entities.{param_of}
 use Rattle.uno_types.proofs.known.inside.params_known.Given as goal
 
 abbrev pub invariant-loop-param : goal.invariant-loop-param

@@ -1,7 +1,7 @@
 use Rattle.std.proofs.Common.{sym, ◌∙◌}
 use Rattle.uno_model.specs.Sound.{part_known}
-use Rattle.uno_types.specs.Entities.{part_of}
-use Rattle.uno_types.proofs.AllLemmas.{all_more, all_fails, all_passed}
+use Rattle.uno_entities.specs.Entities.{part_of}
+use Rattle.uno_entities.proofs.AllLemmas.{all_more, all_fails, all_passed}
 use Rattle.uno_types.proofs.known.inside.parts_known.Goals as goal
 
 pub loop-part-preserved : goal.loop-part-preserved

@@ -1,7 +1,7 @@
 use Rattle.std.proofs.Common.{◌≡◌, map, drop}
 use Rattle.std.specs.List.{list_all}
 use Rattle.uno_model.specs.Sound.{part_known}
-use Rattle.uno_types.specs.Entities.{part_of}
+use Rattle.uno_entities.specs.Entities.{part_of}
 use Rattle.uno_types.proofs.known.inside.parts_known.Given as goal
 
 abbrev pub invariant-loop-part : goal.invariant-loop-part

@@ -1,7 +1,7 @@
 use Rattle.std.proofs.Common.{sym, ap, refl, ◌∙◌}
 use Rattle.std.specs.List.{list_all}
 use Rattle.uno_model.specs.Sound.{is_there, is_exception}
-use Rattle.uno_types.proofs.AllLemmas.{each_more, each_fails, each_passed}
+use Rattle.uno_entities.proofs.AllLemmas.{each_more, each_fails, each_passed}
 use Rattle.uno_types.proofs.known.inside.raises_known.Goals as goal
 
 pub loop-name-preserved : goal.loop-name-preserved

@@ -1,7 +1,7 @@
 use Rattle.std.proofs.Common.{◌∙◌, sym}
 use Rattle.std.proofs.lemmas.Result.{IfOk-weaker}
 use Rattle.uno_types.proofs.SoundLemmas.{last_fact}
-use Rattle.uno_types.specs.Entities.{entities_of}
+use Rattle.uno_entities.specs.Entities.{entities_of}
 use Rattle.uno_types.proofs.registry.Registry.is_sound.Goals as goal
 
 pub returns : goal.returns

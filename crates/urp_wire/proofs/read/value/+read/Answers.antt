@@ -1,6 +1,6 @@
 use Rattle.std.proofs.Common.{rules}
 use Rattle.std.proofs.lemmas.List.{map-append}
-use Rattle.uno_types.specs.TypeNames.{kind_of}
+use Rattle.uno_entities.specs.TypeNames.{kind_of}
 use Rattle.urp_model.specs.Reading.{elements_at, value_at}
 use Rattle.urp_wire.specs.Gives.{Fails, tables_of}
 use Rattle.urp_wire.proofs.Loops.{goes_on, fails}

@@ -1,6 +1,6 @@
 use Rattle.std.specs.Prelude.{◌≡◌, ◌+◌, ◌*◌, ◌-◌, map, drop}
 use Rattle.uno_types.specs.Members.{fields_at}
-use Rattle.uno_types.specs.TypeNames.{kind_of}
+use Rattle.uno_entities.specs.TypeNames.{kind_of}
 use Rattle.uno_values.specs.Values.{plain_of}
 use Rattle.urp_model.specs.Reading.{elements_at, members_at, value_at}
 use Rattle.urp_wire.specs.Gives.{tables_of}

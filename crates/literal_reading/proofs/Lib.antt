@@ -1,0 +1,4 @@
+pub mod OrderLemmas
+pub mod ReadLemmas
+pub mod ScanLemmas
+pub mod TypedLemmas

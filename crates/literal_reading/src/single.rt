@@ -1,0 +1,164 @@
+//! Values of one token.
+ghost use Rattle.std.specs.Prelude.{◌≡◌, IfOk, codes, option_map};
+ghost use Rattle.uno_model.specs.Defaults.{items_of};
+ghost use Rattle.uno_model.specs.Readings.{single, number_in, word_in, string_in, named_in, cast_in, and_then, some_as, truth_of, word_as, number_named, item_of_word, item_of_number, item_in, byte_in};
+ghost use Rattle.uno_model.specs.Registry.{find_entity};
+ghost use Rattle.uno_model.specs.Values as plain;
+ghost use Rattle.uno_entities.specs.Entities.{item_of};
+ghost use Rattle.uno_entities.specs.TypeNames.{kind_of};
+ghost use Rattle.uno_values.specs.Values.{plain_of};
+ghost use Rattle.literal_reading.specs.Scanning.{token_of};
+ghost use Rattle.literal_reading.specs.Typing.{numeric};
+
+mod item;
+mod range;
+
+use crate::token::Token;
+use item::item_in;
+use range::{to_i8, to_i16, to_i32, to_i64, to_u16, to_u32, to_u64};
+use std::alloc::Global;
+use uno_base::NoMemory;
+use uno_types::{Name, Registry, TypeName};
+use uno_values::{Reference, Value};
+
+/// The value of a token at a type; sequences, structs, exceptions and any have more than one.
+pub(crate) fn single(
+    alloc: Global,
+    registry: &Registry,
+    kind: &TypeName,
+    token: &Token,
+) -> Result<Option<Value>, NoMemory>
+    ensures { IfOk result (λ found. option_map plain_of found ≡ single registry.now (kind_of kind.now) (token_of token.now)) }
+{
+    match kind {
+        TypeName::Void => Ok(void_in(token)),
+        TypeName::Boolean => Ok(boolean_in(token)),
+        TypeName::Char
+        | TypeName::Byte
+        | TypeName::Short
+        | TypeName::UnsignedShort
+        | TypeName::Long
+        | TypeName::UnsignedLong
+        | TypeName::Hyper
+        | TypeName::UnsignedHyper => Ok(number_as(kind, token)),
+        TypeName::Str => string_in(alloc, token),
+        TypeName::Kind => kind_in(alloc, token),
+        TypeName::Enum(name) => enum_in(alloc, registry, name, token),
+        TypeName::Interface(_) => Ok(null_in(token)),
+        TypeName::Any | TypeName::Struct(_) | TypeName::Exception(_) | TypeName::Sequence(_) => Ok(
+            None,
+        ),
+    }
+}
+
+pub(crate) fn number_in(token: &Token) -> Option<i128>
+    ensures { result ≡ number_in (token_of token.now) }
+{
+    match token {
+        Token::Number(number) => Some(*number),
+        _ => None,
+    }
+}
+
+pub(crate) fn word_in(token: &Token) -> Option<&str>
+    ensures { option_map (λ word. word.now) result ≡ word_in (token_of token.now) }
+{
+    match token {
+        Token::Word(word) => Some(word.as_str()),
+        _ => None,
+    }
+}
+
+fn void_in(token: &Token) -> Option<Value>
+    ensures { option_map plain_of result ≡ and_then (word_in (token_of token.now)) (word_as (codes "void") plain.void) }
+{
+    if word_in(token)? == "void" {
+        return Some(Value::Void);
+    }
+    None
+}
+
+fn null_in(token: &Token) -> Option<Value>
+    ensures { option_map plain_of result ≡ and_then (word_in (token_of token.now)) (word_as (codes "null") (plain.ref plain.null)) }
+{
+    if word_in(token)? == "null" {
+        return Some(Value::Ref(Reference::Null));
+    }
+    None
+}
+
+fn boolean_in(token: &Token) -> Option<Value>
+    ensures { option_map plain_of result ≡ some_as plain.boolean (and_then (word_in (token_of token.now)) truth_of) }
+{
+    match word_in(token)? {
+        "true" => Some(Value::Boolean(true)),
+        "false" => Some(Value::Boolean(false)),
+        _ => None,
+    }
+}
+
+/// The number of a token as a value of a type of numbers, where it is within the type's range.
+fn number_as(kind: &TypeName, token: &Token) -> Option<Value>
+    ensures { option_map plain_of result ≡ numeric (kind_of kind.now) (token_of token.now) }
+{
+    let number = number_in(token)?;
+    match kind {
+        TypeName::Char => Some(Value::Char(to_u16(number)?)),
+        TypeName::Byte => Some(Value::Byte(to_i8(number)?)),
+        TypeName::Short => Some(Value::Short(to_i16(number)?)),
+        TypeName::UnsignedShort => Some(Value::UnsignedShort(to_u16(number)?)),
+        TypeName::Long => Some(Value::Long(to_i32(number)?)),
+        TypeName::UnsignedLong => Some(Value::UnsignedLong(to_u32(number)?)),
+        TypeName::Hyper => Some(Value::Hyper(to_i64(number)?)),
+        TypeName::UnsignedHyper => Some(Value::UnsignedHyper(to_u64(number)?)),
+        TypeName::Void
+        | TypeName::Boolean
+        | TypeName::Str
+        | TypeName::Kind
+        | TypeName::Any
+        | TypeName::Enum(_)
+        | TypeName::Struct(_)
+        | TypeName::Exception(_)
+        | TypeName::Interface(_)
+        | TypeName::Sequence(_) => None,
+    }
+}
+
+fn string_in(alloc: Global, token: &Token) -> Result<Option<Value>, NoMemory>
+    ensures { IfOk result (λ found. option_map plain_of found ≡ some_as plain.str (string_in (token_of token.now))) }
+{
+    match token {
+        Token::String(text) => Ok(Some(Value::Str(text.copy(alloc)?))),
+        _ => Ok(None),
+    }
+}
+
+fn kind_in(alloc: Global, token: &Token) -> Result<Option<Value>, NoMemory>
+    ensures { IfOk result (λ found. option_map plain_of found ≡ some_as plain.kind (named_in (token_of token.now))) }
+{
+    match token {
+        Token::Named(kind) => Ok(Some(Value::Kind(kind.copy(alloc)?))),
+        _ => Ok(None),
+    }
+}
+
+fn enum_in(
+    alloc: Global,
+    registry: &Registry,
+    name: &Name,
+    token: &Token,
+) -> Result<Option<Value>, NoMemory>
+    ensures { IfOk result (λ found. option_map plain_of found ≡ some_as (plain.enum name.now) (item_in (items_of (find_entity name.now registry.now)) (token_of token.now))) }
+{
+    match item_in(registry, name.as_str(), token) {
+        Some(number) => Ok(Some(Value::Enum(name.copy(alloc)?, number))),
+        None => Ok(None),
+    }
+}
+
+/// The bits of a byte that is written as a signed number.
+pub(crate) fn bits_in(token: &Token) -> Option<u8>
+    ensures { result ≡ byte_in (token_of token.now) }
+{
+    Some(to_i8(number_in(token)?)?.cast_unsigned())
+}

@@ -1,0 +1,36 @@
+//! Why a text is not read further.
+ghost use Rattle.std.specs.Prelude.{◌≡◌};
+ghost use Rattle.literal_reading.specs.declared.stop.Stop.TheVariants.{NoMemory};
+
+use std::alloc::{AllocError, AllocFailed};
+
+/// Want of memory, or the bytes that are left from the first bad one on.
+#[derive(Clone, Copy)]
+pub(crate) enum Stop {
+    NoMemory,
+    Bad(usize),
+}
+
+impl From<AllocError> for Stop {
+    ghost from_gives = { λ _ e. e ≡ NoMemory };
+
+    fn from(_: AllocError) -> Stop {
+        Stop::NoMemory
+    }
+}
+
+impl<T: Drop> From<AllocFailed<T>> for Stop {
+    ghost from_gives = { λ _ e. e ≡ NoMemory };
+
+    fn from(_: AllocFailed<T>) -> Stop {
+        Stop::NoMemory
+    }
+}
+
+impl From<uno_base::NoMemory> for Stop {
+    ghost from_gives = { λ _ e. e ≡ NoMemory };
+
+    fn from(_: uno_base::NoMemory) -> Stop {
+        Stop::NoMemory
+    }
+}

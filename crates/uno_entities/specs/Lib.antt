@@ -1,0 +1,6 @@
+pub mod Building
+pub mod Counts
+pub mod Entities
+pub mod Finding
+pub mod Spreading
+pub mod TypeNames

@@ -1,0 +1,253 @@
+//! The types, as the entities of a registry and the values name them.
+ghost use Rattle.std.specs.Prelude.{◌≡◌, ◌↔◌, IfOk, IsTrue};
+ghost use Rattle.uno_model.specs.Kinds as kd;
+ghost use Rattle.uno_model.specs.TypeClasses.{class_of};
+ghost use Rattle.uno_entities.specs.TypeNames.{kind_of, front_of};
+
+use crate::Name;
+use std::alloc::Global;
+use uno_base::NoMemory;
+use uno_model::TypeClass;
+
+/// A type, by its own word or by the name of its entity.
+#[derive(Debug, Drop)]
+pub enum TypeName {
+    Void,
+    Char,
+    Boolean,
+    Byte,
+    Short,
+    UnsignedShort,
+    Long,
+    UnsignedLong,
+    Hyper,
+    UnsignedHyper,
+    Str,
+    Kind,
+    Any,
+    Enum(Name),
+    Struct(Name),
+    Exception(Name),
+    Interface(Name),
+    Sequence(Box<TypeName>),
+}
+
+impl TypeName {
+    /// The class of the type.
+    pub fn class(&self) -> TypeClass
+        ensures { result ≡ class_of (kind_of self.now) }
+    {
+        match self {
+            TypeName::Void => TypeClass::Void,
+            TypeName::Char => TypeClass::Char,
+            TypeName::Boolean => TypeClass::Boolean,
+            TypeName::Byte => TypeClass::Byte,
+            TypeName::Short => TypeClass::Short,
+            TypeName::UnsignedShort => TypeClass::UnsignedShort,
+            TypeName::Long => TypeClass::Long,
+            TypeName::UnsignedLong => TypeClass::UnsignedLong,
+            TypeName::Hyper => TypeClass::Hyper,
+            TypeName::UnsignedHyper => TypeClass::UnsignedHyper,
+            TypeName::Str => TypeClass::Str,
+            TypeName::Kind => TypeClass::Kind,
+            TypeName::Any => TypeClass::Any,
+            TypeName::Enum(_) => TypeClass::Enum,
+            TypeName::Struct(_) => TypeClass::Struct,
+            TypeName::Exception(_) => TypeClass::Exception,
+            TypeName::Interface(_) => TypeClass::Interface,
+            TypeName::Sequence(_) => TypeClass::Sequence,
+        }
+    }
+
+    /// The front of its name: the brackets of a sequence, and else the whole name.
+    pub fn front(&self) -> &str
+        ensures { result.now ≡ front_of (kind_of self.now) }
+    {
+        match self {
+            TypeName::Void => "void",
+            TypeName::Char => "char",
+            TypeName::Boolean => "boolean",
+            TypeName::Byte => "byte",
+            TypeName::Short => "short",
+            TypeName::UnsignedShort => "unsigned short",
+            TypeName::Long => "long",
+            TypeName::UnsignedLong => "unsigned long",
+            TypeName::Hyper => "hyper",
+            TypeName::UnsignedHyper => "unsigned hyper",
+            TypeName::Str => "string",
+            TypeName::Kind => "type",
+            TypeName::Any => "any",
+            TypeName::Enum(name) => name.as_str(),
+            TypeName::Struct(name) => name.as_str(),
+            TypeName::Exception(name) => name.as_str(),
+            TypeName::Interface(name) => name.as_str(),
+            TypeName::Sequence(_) => "[]",
+        }
+    }
+
+    /// The sequence of these elements.
+    pub fn sequence(alloc: Global, element: TypeName) -> Result<TypeName, NoMemory>
+        ensures { IfOk result (λ k. kind_of k ≡ kd.sequence (kind_of element)) }
+    {
+        Ok(TypeName::Sequence(Box::new(alloc, element)?))
+    }
+
+    /// An equal type.
+    pub fn copy(&self, alloc: Global) -> Result<TypeName, NoMemory>
+        ensures { IfOk result (λ copy. kind_of copy ≡ kind_of self.now) }
+    {
+        match self {
+            TypeName::Void => Ok(TypeName::Void),
+            TypeName::Char => Ok(TypeName::Char),
+            TypeName::Boolean => Ok(TypeName::Boolean),
+            TypeName::Byte => Ok(TypeName::Byte),
+            TypeName::Short => Ok(TypeName::Short),
+            TypeName::UnsignedShort => Ok(TypeName::UnsignedShort),
+            TypeName::Long => Ok(TypeName::Long),
+            TypeName::UnsignedLong => Ok(TypeName::UnsignedLong),
+            TypeName::Hyper => Ok(TypeName::Hyper),
+            TypeName::UnsignedHyper => Ok(TypeName::UnsignedHyper),
+            TypeName::Str => Ok(TypeName::Str),
+            TypeName::Kind => Ok(TypeName::Kind),
+            TypeName::Any => Ok(TypeName::Any),
+            TypeName::Enum(name) => Ok(TypeName::Enum(name.copy(alloc)?)),
+            TypeName::Struct(name) => Ok(TypeName::Struct(name.copy(alloc)?)),
+            TypeName::Exception(name) => Ok(TypeName::Exception(name.copy(alloc)?)),
+            TypeName::Interface(name) => Ok(TypeName::Interface(name.copy(alloc)?)),
+            TypeName::Sequence(inner) => TypeName::sequence(alloc, inner.copy(alloc)?),
+        }
+    }
+
+    /// Whether the other is the same type.
+    pub fn is(&self, other: &TypeName) -> bool
+        ensures { IsTrue result ↔ (kind_of self.now ≡ kind_of other.now) }
+    {
+        match self {
+            TypeName::Void => matches!(other, TypeName::Void),
+            TypeName::Char => matches!(other, TypeName::Char),
+            TypeName::Boolean => matches!(other, TypeName::Boolean),
+            TypeName::Byte => matches!(other, TypeName::Byte),
+            TypeName::Short => matches!(other, TypeName::Short),
+            TypeName::UnsignedShort => matches!(other, TypeName::UnsignedShort),
+            TypeName::Long => matches!(other, TypeName::Long),
+            TypeName::UnsignedLong => matches!(other, TypeName::UnsignedLong),
+            TypeName::Hyper => matches!(other, TypeName::Hyper),
+            TypeName::UnsignedHyper => matches!(other, TypeName::UnsignedHyper),
+            TypeName::Str => matches!(other, TypeName::Str),
+            TypeName::Kind => matches!(other, TypeName::Kind),
+            TypeName::Any => matches!(other, TypeName::Any),
+            TypeName::Enum(name) => other.is_enum(name),
+            TypeName::Struct(name) => other.is_struct(name),
+            TypeName::Exception(name) => other.is_exception(name),
+            TypeName::Interface(name) => other.is_interface(name),
+            TypeName::Sequence(inner) => match other {
+                TypeName::Sequence(its) => inner.is(its),
+                _ => false,
+            },
+        }
+    }
+
+    /// Whether it is the enum of that name.
+    pub fn is_enum(&self, of: &Name) -> bool
+        ensures { IsTrue result ↔ (kind_of self.now ≡ kd.enum of.now) }
+    {
+        match self {
+            TypeName::Enum(name) => name.is(of),
+            TypeName::Void
+            | TypeName::Char
+            | TypeName::Boolean
+            | TypeName::Byte
+            | TypeName::Short
+            | TypeName::UnsignedShort
+            | TypeName::Long
+            | TypeName::UnsignedLong
+            | TypeName::Hyper
+            | TypeName::UnsignedHyper
+            | TypeName::Str
+            | TypeName::Kind
+            | TypeName::Any
+            | TypeName::Struct(_)
+            | TypeName::Exception(_)
+            | TypeName::Interface(_)
+            | TypeName::Sequence(_) => false,
+        }
+    }
+
+    /// Whether it is the struct of that name.
+    pub fn is_struct(&self, of: &Name) -> bool
+        ensures { IsTrue result ↔ (kind_of self.now ≡ kd.struct of.now) }
+    {
+        match self {
+            TypeName::Struct(name) => name.is(of),
+            TypeName::Void
+            | TypeName::Char
+            | TypeName::Boolean
+            | TypeName::Byte
+            | TypeName::Short
+            | TypeName::UnsignedShort
+            | TypeName::Long
+            | TypeName::UnsignedLong
+            | TypeName::Hyper
+            | TypeName::UnsignedHyper
+            | TypeName::Str
+            | TypeName::Kind
+            | TypeName::Any
+            | TypeName::Enum(_)
+            | TypeName::Exception(_)
+            | TypeName::Interface(_)
+            | TypeName::Sequence(_) => false,
+        }
+    }
+
+    /// Whether it is the exception of that name.
+    pub fn is_exception(&self, of: &Name) -> bool
+        ensures { IsTrue result ↔ (kind_of self.now ≡ kd.exception of.now) }
+    {
+        match self {
+            TypeName::Exception(name) => name.is(of),
+            TypeName::Void
+            | TypeName::Char
+            | TypeName::Boolean
+            | TypeName::Byte
+            | TypeName::Short
+            | TypeName::UnsignedShort
+            | TypeName::Long
+            | TypeName::UnsignedLong
+            | TypeName::Hyper
+            | TypeName::UnsignedHyper
+            | TypeName::Str
+            | TypeName::Kind
+            | TypeName::Any
+            | TypeName::Enum(_)
+            | TypeName::Struct(_)
+            | TypeName::Interface(_)
+            | TypeName::Sequence(_) => false,
+        }
+    }
+
+    /// Whether it is the interface of that name.
+    pub fn is_interface(&self, of: &Name) -> bool
+        ensures { IsTrue result ↔ (kind_of self.now ≡ kd.interface of.now) }
+    {
+        match self {
+            TypeName::Interface(name) => name.is(of),
+            TypeName::Void
+            | TypeName::Char
+            | TypeName::Boolean
+            | TypeName::Byte
+            | TypeName::Short
+            | TypeName::UnsignedShort
+            | TypeName::Long
+            | TypeName::UnsignedLong
+            | TypeName::Hyper
+            | TypeName::UnsignedHyper
+            | TypeName::Str
+            | TypeName::Kind
+            | TypeName::Any
+            | TypeName::Enum(_)
+            | TypeName::Struct(_)
+            | TypeName::Exception(_)
+            | TypeName::Sequence(_) => false,
+        }
+    }
+}

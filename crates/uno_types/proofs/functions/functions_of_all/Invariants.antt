@@ -1,8 +1,0 @@
-use Rattle.std.proofs.Common.{◌≡◌, ◌+◌, ◌-◌, ◌^◌, ◌≤◌, min, drop}
-use Rattle.uno_model.specs.Sound.{total_functions}
-use Rattle.uno_types.specs.Entities.{entities_of}
-use Rattle.uno_types.proofs.functions.functions_of_all.Given as goal
-
-abbrev pub invariant-loop-entity : goal.invariant-loop-entity
-invariant-loop-entity l =
-    (min (l.total + total_functions (entities_of (drop l.entity-index l.entities))) (2 ^ 64 - 1) ≡ min (total_functions (entities_of l.entities)) (2 ^ 64 - 1)) × (l.total ≤ 2 ^ 64 - 1)

@@ -1,0 +1,5 @@
+use Rattle.std.proofs.Common.{rules}
+use Rattle.urp_message.proofs.speaker.heading.is_above_short.Goals as goal
+
+pub returns : goal.returns
+returns c = search rules
