@@ -13,7 +13,7 @@ use Rattle.uno_model.specs.Sound.{elements_plain, is_namable, is_plain, is_resul
 use Rattle.uno_model.specs.Sound.{few_params, few_modules, has_root, short_name}
 use Rattle.uno_model.specs.Types.{is_type, is_formed}
 use Rattle.uno_model.specs.declared.way.Way.{Way}
-use Rattle.uno_model.proofs.MemberKindLaws.{is_member, found_entity}
+use Rattle.uno_model.proofs.UsedKindLaws.{is_member, found_entity}
 use Rattle.uno_model.proofs.Options.{same_some, none_some}
 use Rattle.message_model.specs.Calls.{numbered, kinds_on}
 

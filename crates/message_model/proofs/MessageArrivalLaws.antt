@@ -10,7 +10,7 @@ use Rattle.uno_model.specs.Kinds as kd
 use Rattle.uno_model.specs.Sound.{IsSound, is_plain}
 use Rattle.uno_model.specs.Types.{is_type}
 use Rattle.uno_model.specs.Values.{Plain, plains, depth, depth_in}
-use Rattle.uno_model.proofs.MemberKindLaws.{is_member}
+use Rattle.uno_model.proofs.UsedKindLaws.{is_member}
 use Rattle.uno_model.proofs.Options.{same_some, none_some}
 use Rattle.urp_model.specs.Carried.{MeansIdentities}
 use Rattle.urp_model.specs.Spelling.{SpellsKind, SpellsOid, SpellsEach, Spells}

@@ -1,3 +1,4 @@
+pub mod AllLaws
 pub mod BuiltInLaws
 pub mod CircleLaws
 pub mod CompleteLaws
@@ -15,4 +16,5 @@ pub mod ShapeLaws
 pub mod SpellLaws
 pub mod TypeTextLaws
 pub mod TypedLaws
+pub mod UsedKindLaws
 pub mod VerdictLaws

@@ -28,7 +28,8 @@ use Rattle.uno_model.specs.Registry.{find_entity, all_members}
 use Rattle.uno_model.specs.Shapes.{Bracket, square, curly, Token, opens, closes, comma, number, word, string, named, cast, spell, spells, is_some_name}
 use Rattle.uno_model.specs.Shapes.{is_first_name, is_own_word, is_known_word, is_word, on_ok, is_name_byte, type_at, cast_of, string_at, value_at, Awaited, value}
 use Rattle.uno_model.specs.Shapes.{element, separator, behind_cast, behind, opened, separator_at, element_at, token_at, Placed, is_whole, tokens_at, judge}
-use Rattle.uno_model.specs.Sound.{IsSound, is_named, inner_names, is_there, is_enum, is_struct, is_exception}
+use Rattle.uno_model.specs.Sound.{IsSound, is_named, is_there, is_enum, is_struct, is_exception}
+use Rattle.uno_model.specs.Uses.{inner_names}
 use Rattle.uno_model.specs.Sound.{is_interface, kind_known, elements_plain, is_namable, is_some_list, has_member}
 use Rattle.uno_model.specs.Tokens.{InRange, IsSized, AllSized, tokens_of, tokens_in, byte_tokens, comma_tokens, item_token}
 use Rattle.uno_model.specs.Types.{is_formed, is_type}

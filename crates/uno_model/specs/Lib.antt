@@ -20,6 +20,7 @@ pub mod Sound
 pub mod Tokens
 pub mod TypeClasses
 pub mod Types
+pub mod Uses
 pub mod Values
 pub mod Verdicts
 pub mod Weights

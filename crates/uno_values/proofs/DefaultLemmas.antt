@@ -10,7 +10,8 @@ use Rattle.uno_model.specs.Kinds.{Kind}
 use Rattle.uno_model.specs.Defaults.{IsDefault, EachDefault, items_of}
 use Rattle.uno_model.specs.Registry.{find_entity, all_members}
 use Rattle.uno_model.specs.Sound.{IsSound, is_there, is_enum, is_allowed, is_some_list, few_modules, short_name, body_allowed}
-use Rattle.uno_model.proofs.MemberKindLaws.{found_entity, members_formed}
+use Rattle.uno_model.proofs.MemberKindLaws.{members_formed}
+use Rattle.uno_model.proofs.UsedKindLaws.{found_entity}
 use Rattle.uno_model.specs.Types.{is_formed}
 use Rattle.uno_entities.specs.declared.entity.Field.{Field}
 use Rattle.uno_entities.specs.Entities.{field_of}

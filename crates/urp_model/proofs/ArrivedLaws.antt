@@ -16,7 +16,8 @@ use Rattle.urp_model.specs.Reading.{ref_of}
 use Rattle.urp_model.specs.Spelling.{Spelled, SpellsOid, SpellsAll, SpellsEach, SpellsSequence, SpellsTuple, SpellsStep, Spells}
 use Rattle.urp_model.specs.Tables.{Table, Tables, with_oids}
 use Rattle.urp_model.proofs.FittingLaws.{spelled_type, element_type, oid_fits}
-use Rattle.uno_model.proofs.MemberKindLaws.{is_member, members_ruled}
+use Rattle.uno_model.proofs.MemberKindLaws.{members_ruled}
+use Rattle.uno_model.proofs.UsedKindLaws.{is_member}
 
 module _ (reg : List Entity) (sound : IsSound reg) where
   -- a value of a type, so deep at most, and that the slots mean identities after it

@@ -11,7 +11,8 @@ use Rattle.uno_model.specs.Types.{is_type, is_formed}
 use Rattle.uno_model.specs.Values.{Ref, null, own, peer, Plain, Plains, void, str, kind, any, tuple, list, bytes, ref, none, more}
 use Rattle.uno_model.specs.Weights.{kind_weight, ref_weight, count, weight, weights}
 use Rattle.urp_model.specs.NamedKinds.{is_simple}
-use Rattle.uno_model.proofs.MemberKindLaws.{is_member, members_ruled, members_some}
+use Rattle.uno_model.proofs.MemberKindLaws.{members_ruled, members_some}
+use Rattle.uno_model.proofs.UsedKindLaws.{is_member}
 use Rattle.urp_model.proofs.SentLaws.{IsSized, AreSized}
 use Rattle.urp_model.proofs.WeightLaws.{compressed_some, simple_weight, named_weight}
 
