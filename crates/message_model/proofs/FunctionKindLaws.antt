@@ -1,19 +1,19 @@
 -- In a sound registry the result of each function is of a type of the registry, and so is each parameter, which is neither void nor an exception.
-use Rattle.std.proofs.Common.{◌≡◌, ℕ, zero, suc, Bool, true, false, ◌&&◌, List, [], ◌∷◌, ◌++◌, length, Option, None, Some, refl, ◌∙◌, if◌then◌else◌}
+use Rattle.std.proofs.Common.{◌≡◌, ℕ, zero, suc, Bool, true, false, ◌&&◌, List, [], ◌∷◌, ◌++◌, length, Option, None, Some, refl, sym, ◌∙◌, if◌then◌else◌}
 use Rattle.std.specs.List.{list_all, flat_map, slice_get}
 use Rattle.std.proofs.lemmas.Bool.{and_parts, and_from}
-use Rattle.std.proofs.lemmas.List.Folds.{list_all-append}
+use Rattle.std.proofs.lemmas.List.Folds.{list_all-map}
 use Rattle.uno_model.specs.Entities.{Entity, Param, Attribute, Member, attribute, method}
 use Rattle.uno_model.specs.Entities.{Body, interface, struct, exception, enum, constants, typedef, new_service, old_service, new_singleton, old_singleton}
 use Rattle.uno_model.specs.Functions.{Function, getter, setter, call, accessors_of, calls_of, declared_in, declared_by, interfaces_of, functions_of}
 use Rattle.uno_model.specs.Kinds.{Kind}
 use Rattle.uno_model.specs.Registry.{find_entity}
-use Rattle.uno_model.specs.Sound.{IsSound, is_there, is_interface, is_exception, kind_known, member_known, body_known}
-use Rattle.uno_model.specs.Sound.{elements_plain, is_namable, is_plain, is_result, is_value, is_allowed, body_allowed, member_allowed}
-use Rattle.uno_model.specs.Sound.{few_params, few_modules, has_root, short_name}
-use Rattle.uno_model.specs.Types.{is_type, is_formed}
+use Rattle.uno_model.specs.Sound.{IsSound, is_plain}
+use Rattle.uno_model.specs.Types.{is_type}
+use Rattle.uno_model.specs.Uses.{value_kinds_of, result_kinds_of, value_kinds, result_kinds}
 use Rattle.uno_model.specs.declared.way.Way.{Way}
-use Rattle.uno_model.proofs.UsedKindLaws.{is_member, found_entity}
+use Rattle.uno_model.proofs.AllLaws.{all_append, all_flat, all_pass, of_flat}
+use Rattle.uno_model.proofs.UsedKindLaws.{is_member, value_kinds_are, result_kinds_are}
 use Rattle.uno_model.proofs.Options.{same_some, none_some}
 use Rattle.message_model.specs.Calls.{numbered, kinds_on}
 
@@ -28,14 +28,6 @@ got_one P (y ∷ ys) zero x all is =
     cc
 got_one P (y ∷ ys) (suc at) x all is = got_one P ys at x (and_parts (P y) (list_all P ys) all).1 is
 
-all_append : {X : Type 0} (P : X → Bool) (xs ys : List X) → list_all P xs ≡ true → list_all P ys ≡ true → list_all P (xs ++ ys) ≡ true
-all_append P xs ys first second = list_all-append P xs ys ∙ and_from (list_all P xs) (list_all P ys) first second
-
--- what holds of all that each gives
-all_given : {X Y : Type 0} (P : Y → Bool) (f : X → List Y) (xs : List X) → ((x : X) → list_all P (f x) ≡ true) → list_all P (flat_map f xs) ≡ true
-all_given P f [] each = refl
-all_given P f (x ∷ xs) each = all_append P (f x) (flat_map f xs) (each x) (all_given P f xs each)
-
 module _ {X Y : Type 0} (Q R : X → Bool) (P : Y → Bool) (f : X → List Y) (each : (x : X) → Q x ≡ true → R x ≡ true → list_all P (f x) ≡ true) where
   all_from : (xs : List X) → list_all Q xs ≡ true → list_all R xs ≡ true → list_all P (flat_map f xs) ≡ true
   all_from [] all also = refl
@@ -47,25 +39,6 @@ module _ {X Y : Type 0} (Q R : X → Bool) (P : Y → Bool) (f : X → List Y) (
 -- ---- types
 
 module _ (reg : List Entity) where
-  -- a result that is allowed and whose type is known
-  result_type : (k : Kind) → is_result k ≡ true → kind_known reg k ≡ true → is_type reg k ≡ true
-  result_type k allowed known =
-      let r = and_parts (elements_plain k) (is_namable k) allowed in
-      and_from (is_formed reg k) (is_namable k) (and_from (kind_known reg k) (elements_plain k) known r.0) r.1
-
-  value_type : (k : Kind) → is_value k ≡ true → kind_known reg k ≡ true → is_member reg k ≡ true
-  value_type k allowed known =
-      let v = and_parts (is_plain k) (is_result k) allowed in
-      and_from (is_plain k) (is_type reg k) v.0 (result_type k v.1 known)
-
-  param_types : (ps : List Param) → list_all (λ p. is_value p.kind) ps ≡ true → list_all (λ p. kind_known reg p.kind) ps ≡ true
-      → list_all (λ p. is_member reg p.kind) ps ≡ true
-  param_types [] allowed known = refl
-  param_types (p ∷ ps) allowed known =
-      let a = and_parts (is_value p.kind) (list_all (λ (q : Param). is_value q.kind) ps) allowed in
-      let k = and_parts (kind_known reg p.kind) (list_all (λ (q : Param). kind_known reg q.kind) ps) known in
-      and_from (is_member reg p.kind) (list_all (λ (q : Param). is_member reg q.kind) ps) (value_type p.kind a.0 k.0) (param_types ps a.1 k.1)
-
   -- a function whose result and parameters are of types of the registry
   abbrev pub is_typed : Function → Bool
   is_typed f = is_type reg f.result_kind && list_all (λ p. is_member reg p.kind) f.params
@@ -76,16 +49,17 @@ module _ (reg : List Entity) where
 
   -- ---- functions
 
-  attribute_known : (a : Attribute) → member_known reg (attribute a) ≡ true → kind_known reg a.kind ≡ true
-  attribute_known a known =
-      let gets = list_all (is_there reg is_exception) a.get_raises in
-      let sets = list_all (is_there reg is_exception) a.set_raises in
-      (and_parts (kind_known reg a.kind) gets (and_parts (kind_known reg a.kind && gets) sets known).0).0
+  values_typed : Member → Bool
+  values_typed m = list_all (is_member reg) (value_kinds_of m)
 
-  accessors_typed : (owner : List ℕ) (m : Member) → member_allowed m ≡ true → member_known reg m ≡ true → list_all is_typed (accessors_of owner m) ≡ true
-  accessors_typed owner (method m) allowed known = refl
-  accessors_typed owner (attribute a) allowed known =
-      let member = value_type a.kind allowed (attribute_known a known) in
+  results_typed : Member → Bool
+  results_typed m = list_all (is_type reg) (result_kinds_of m)
+
+  accessors_typed : (owner : List ℕ) (m : Member) → values_typed m ≡ true → results_typed m ≡ true → list_all is_typed (accessors_of owner m) ≡ true
+  unfolding values_typed
+  accessors_typed owner (method m) values results = refl
+  accessors_typed owner (attribute a) values results =
+      let member = (and_parts (is_member reg a.kind) true values).0 in
       let type = (and_parts (is_plain a.kind) (is_type reg a.kind) member).1 in
       let get = typed (getter owner a) type refl in
       let set = typed (setter owner a) refl (and_from (is_member reg a.kind) true member refl) in
@@ -94,46 +68,42 @@ module _ (reg : List Entity) where
         | false ↦ all_append is_typed (getter owner a ∷ []) (setter owner a ∷ []) get set
       ]
 
-  calls_typed : (owner : List ℕ) (m : Member) → member_allowed m ≡ true → member_known reg m ≡ true → list_all is_typed (calls_of owner m) ≡ true
-  calls_typed owner (attribute a) allowed known = refl
-  calls_typed owner (method m) allowed known =
-      let values = list_all (λ (p : Param). is_value p.kind) m.params in
-      let a = and_parts (is_result m.result_kind) values (and_parts (is_result m.result_kind && values) (few_params (length m.params)) allowed).0 in
-      let kinds = list_all (λ (p : Param). kind_known reg p.kind) m.params in
-      let raises = and_parts (kind_known reg m.result_kind && kinds) (list_all (is_there reg is_exception) m.raises) known in
-      let k = and_parts (kind_known reg m.result_kind) kinds raises.0 in
-      typed (call owner m) (result_type m.result_kind a.0 k.0) (param_types m.params a.1 k.1)
+  calls_typed : (owner : List ℕ) (m : Member) → values_typed m ≡ true → results_typed m ≡ true → list_all is_typed (calls_of owner m) ≡ true
+  unfolding values_typed results_typed
+  calls_typed owner (attribute a) values results = refl
+  calls_typed owner (method m) values results =
+      let params = sym (list_all-map (is_member reg) (λ p. p.kind) m.params) ∙ values in
+      typed (call owner m) (and_parts (is_type reg m.result_kind) true results).0 params
 
-  declared_typed : (owner name : List ℕ) (body : Body) → body_allowed name body ≡ true → body_known reg body ≡ true
+  declared_typed : (owner : List ℕ) (body : Body) → list_all (is_member reg) (value_kinds body) ≡ true → list_all (is_type reg) (result_kinds body) ≡ true
       → list_all is_typed (declared_in owner body) ≡ true
-  declared_typed owner name (interface bases members) allowed known =
-      let a = (and_parts (has_root name bases && short_name name) (list_all member_allowed members) allowed).1 in
-      let k = (and_parts (list_all (λ b. is_there reg is_interface b.name) bases) (list_all (member_known reg) members) known).1 in
+  unfolding values_typed results_typed
+  declared_typed owner (interface bases members) values results =
+      let v = of_flat (is_member reg) value_kinds_of members values in
+      let r = of_flat (is_type reg) result_kinds_of members results in
       all_append is_typed (flat_map (accessors_of owner) members) (flat_map (calls_of owner) members)
-      (all_from member_allowed (member_known reg) is_typed (accessors_of owner) (accessors_typed owner) members a k)
-      (all_from member_allowed (member_known reg) is_typed (calls_of owner) (calls_typed owner) members a k)
-  declared_typed owner name (struct base members) allowed known = refl
-  declared_typed owner name (exception base members) allowed known = refl
-  declared_typed owner name (enum items) allowed known = refl
-  declared_typed owner name (constants cs) allowed known = refl
-  declared_typed owner name (typedef k) allowed known = refl
-  declared_typed owner name (new_service b cs) allowed known = refl
-  declared_typed owner name (old_service ps) allowed known = refl
-  declared_typed owner name (new_singleton b) allowed known = refl
-  declared_typed owner name (old_singleton s) allowed known = refl
+      (all_from values_typed results_typed is_typed (accessors_of owner) (accessors_typed owner) members v r)
+      (all_from values_typed results_typed is_typed (calls_of owner) (calls_typed owner) members v r)
+  declared_typed owner (struct base members) values results = refl
+  declared_typed owner (exception base members) values results = refl
+  declared_typed owner (enum items) values results = refl
+  declared_typed owner (constants cs) values results = refl
+  declared_typed owner (typedef k) values results = refl
+  declared_typed owner (new_service b cs) values results = refl
+  declared_typed owner (old_service ps) values results = refl
+  declared_typed owner (new_singleton b) values results = refl
+  declared_typed owner (old_singleton s) values results = refl
 
   module _ (sound : IsSound reg) where
     owned_typed : (owner : List ℕ) (o : Option Entity) → find_entity owner reg ≡ o → list_all is_typed (declared_by owner o) ≡ true
     owned_typed owner None found = refl
-    owned_typed owner (Some e) found =
-        let allowed = (found_entity is_allowed owner reg e sound.allowed found).0 in
-        let known = (found_entity (λ d. body_known reg d.body) owner reg e sound.known found).0 in
-        declared_typed owner e.name e.body (and_parts (few_modules e.name) (body_allowed e.name e.body) allowed).1 known
+    owned_typed owner (Some e) found = declared_typed owner e.body (value_kinds_are reg sound owner e found) (result_kinds_are reg sound owner e found)
 
     all_typed : (face : List ℕ) → list_all is_typed (functions_of reg face) ≡ true
     all_typed face =
-        all_given is_typed (λ owner. declared_by owner (find_entity owner reg)) (interfaces_of reg face)
-        (λ owner. owned_typed owner (find_entity owner reg) refl)
+        let of_owner : List ℕ → List Function = λ owner. declared_by owner (find_entity owner reg) in
+        all_flat is_typed of_owner (interfaces_of reg face)
+        (all_pass (λ owner. list_all is_typed (of_owner owner)) (λ owner. owned_typed owner (find_entity owner reg) refl) (interfaces_of reg face))
 
     pub numbered_typed : (face : List ℕ) (function : ℕ) (f : Function) → numbered reg face function ≡ Some f
         → (is_type reg f.result_kind ≡ true) × (list_all (λ p. is_member reg p.kind) f.params ≡ true)
