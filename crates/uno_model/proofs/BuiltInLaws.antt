@@ -1,9 +1,46 @@
--- The names of the built-in entities rise.
-use Rattle.std.proofs.Common.{refl}
+-- The built-in entities rise by their names, and nothing leads back to itself among them.
+use Rattle.std.proofs.Common.{◌≡◌, ℕ, zero, suc, Bool, true, false, List, [], ◌∷◌, Option, None, Some, refl, if◌then◌else◌}
 use Rattle.std.specs.List.Sorted.{IsStrictlySortedBy}
-use Rattle.uno_model.specs.BuiltIn.{built_in}
-use Rattle.uno_model.specs.Registry.{IsRising}
+use Rattle.std.specs.List.{list_all}
+use Rattle.std.specs.Str.{bytes_eq}
+use Rattle.uno_model.specs.BuiltIn.{built_in, disposed_exception, factory, base_exception, runtime_exception, x_interface}
+use Rattle.uno_model.specs.Circles.{HasNoCircle, ends_within}
+use Rattle.uno_model.specs.Entities.{Entity}
+use Rattle.uno_model.specs.Registry.{IsRising, find_entity, leads_to, leads_to_body}
+use Rattle.uno_model.proofs.CircleLaws.{ends_no_circle}
 
 pub built_in_rising : IsRising built_in
 unfolding IsStrictlySortedBy
 built_in_rising = ((refl, (refl, (refl, (refl, tt)))), ((refl, (refl, (refl, tt))), ((refl, (refl, tt)), ((refl, tt), (tt, tt)))))
+
+-- each way from a name ends within four steps: from DisposedException over RuntimeException to Exception
+abbrev EndsFrom : Option Entity → Type 0
+EndsFrom o = list_all (ends_within (leads_to built_in) 4) (leads_to_body o) ≡ true
+
+ends_from_each : (name : List ℕ) → EndsFrom (find_entity name built_in)
+unfolding find_entity ends_within
+ends_from_each name = first (bytes_eq name disposed_exception.name)
+  where
+    fifth : (t : Bool) → EndsFrom (if t then Some x_interface else None)
+    fifth true = refl
+    fifth false = refl
+
+    fourth : (t : Bool) → EndsFrom (if t then Some runtime_exception else find_entity name (x_interface ∷ []))
+    fourth true = refl
+    fourth false = fifth (bytes_eq name x_interface.name)
+
+    third : (t : Bool) → EndsFrom (if t then Some base_exception else find_entity name (runtime_exception ∷ (x_interface ∷ [])))
+    third true = refl
+    third false = fourth (bytes_eq name runtime_exception.name)
+
+    second : (t : Bool) → EndsFrom (if t then Some factory else find_entity name (base_exception ∷ (runtime_exception ∷ (x_interface ∷ []))))
+    second true = refl
+    second false = third (bytes_eq name base_exception.name)
+
+    first : (t : Bool) → EndsFrom (if t then Some disposed_exception else find_entity name (factory ∷ (base_exception ∷ (runtime_exception ∷ (x_interface ∷ [])))))
+    first true = refl
+    first false = second (bytes_eq name factory.name)
+
+pub built_in_no_circle : HasNoCircle (leads_to built_in)
+unfolding ends_within
+built_in_no_circle name way = ends_no_circle (leads_to built_in) 5 name (ends_from_each name) way

@@ -1,8 +1,12 @@
 pub mod AllLaws
+pub mod AssignableLaws
 pub mod BuiltInLaws
 pub mod CircleLaws
+pub mod CodeLaws
 pub mod CompleteLaws
+pub mod DefaultLaws
 pub mod FindLaws
+pub mod FitLaws
 pub mod MemberKindLaws
 pub mod MemberLaws
 pub mod NameLaws

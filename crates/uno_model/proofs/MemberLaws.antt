@@ -2,7 +2,8 @@
 use Rattle.std.proofs.Common.{◌≡◌, ℕ, zero, suc, ◌-◌, ◌<◌, Bool, true, List, [], ◌∷◌, ◌++◌, length, map, Option, None, Some, refl, sym, ap, ◌∙◌, arith}
 use Rattle.std.specs.Prelude.{Contains}
 use Rattle.std.specs.List.{flat_map}
-use Rattle.std.proofs.lemmas.List.{get_or_append_left, length-append, length-map, get_or-map}
+use Rattle.std.proofs.lemmas.List.{length-map, get_or-map}
+use Rattle.std.proofs.lemmas.List.Elements.{Contains-append_left}
 use Rattle.std.proofs.lemmas.List.Concat.{flat_map-cons}
 use Rattle.uno_model.specs.Circles.{HasNoCircle, ends_within}
 use Rattle.uno_model.specs.Entities.{Entity, Body, interface, struct, exception, enum, constants, typedef, new_service, old_service, new_singleton, old_singleton}
@@ -12,12 +13,8 @@ use Rattle.uno_model.proofs.PlaceLaws.{at_slice, contains_head, contains_behind}
 use Rattle.uno_model.proofs.ReachLaws.{found_place}
 
 -- nothing is in an empty list
-nothing_in : {X : Type 0} (x : X) → Contains [] x → ⊥
+pub nothing_in : {X : Type 0} (x : X) → Contains [] x → ⊥
 nothing_in x has = omega (arith, has.1)
-
--- what the front of a list contains, the list contains
-contains_front : {X : Type 0} (xs ys : List X) (x : X) → Contains xs x → Contains (xs ++ ys) x
-contains_front xs ys x (k, within, is) = (k, omega (arith, length-append xs ys), get_or_append_left xs ys x k within ∙ is)
 
 -- an entity of this body
 abbrev with_body : List ℕ → Bool → Body → Option Entity
@@ -26,7 +23,7 @@ with_body name published body = Some (record { name = name; published = publishe
 -- an entity leads to the base that it has members from
 body_leads : (name : List ℕ) (published : Bool) (body : Body) (base : List ℕ) → Contains (member_bases (with_body name published body)) base
     → Contains (leads_to_body (with_body name published body)) base
-body_leads name published (struct b members) base has = contains_front _ _ base has
+body_leads name published (struct b members) base has = Contains-append_left _ _ base has
 body_leads name published (exception b members) base has = has
 body_leads name published (interface bs members) base has = absurd (nothing_in base has)
 body_leads name published (enum items) base has = absurd (nothing_in base has)

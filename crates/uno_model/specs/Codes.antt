@@ -1,5 +1,5 @@
--- A number tree for each type, from which the type can be read back: by it a proof tells types apart.
-use Rattle.std.specs.Prelude.{◌≡◌, refl, ℕ, zero, suc, List, [], ◌∷◌, get_or}
+-- A number tree for each type, from which the type can be read back: by it types are told apart.
+use Rattle.std.specs.Prelude.{◌≡◌, refl, ℕ, zero, suc, Bool, true, false, ◌==◌, ◌&&◌, List, [], ◌∷◌, get_or}
 use Rattle.uno_model.specs.Kinds.{Kind}
 use Rattle.uno_model.specs.Kinds as kd
 use base.Stored.{Gv, gnil, gnum, gcons, num, Coded}
@@ -83,3 +83,13 @@ kind_back (kd.sequence inner) = ap kd.sequence (kind_back inner)
 -- the code of types, for a `Model` that keeps them
 abbrev pub kind_code : Coded Kind
 kind_code = record { code = store_kind; inj = λ x y p. sym (kind_back x) ∙ ap kind_in p ∙ kind_back y }
+
+-- two types are one
+abbrev pub same_tree : Gv → Gv → Bool
+same_tree gnil gnil = true
+same_tree (gnum n) (gnum m) = n == m
+same_tree (gcons a b) (gcons c d) = same_tree a c && same_tree b d
+same_tree _ _ = false
+
+unfoldable pub same_kind : Kind → Kind → Bool
+same_kind k j = same_tree (store_kind k) (store_kind j)

@@ -1,13 +1,14 @@
 -- The default of a type.
-use Rattle.std.specs.Prelude.{◌≡◌, ◌≢◌, ℕ, ℤ, pos, Bool, false, List, [], ◌∷◌, Option, None, Some}
+use Rattle.std.specs.Prelude.{ℕ, zero, suc, ℤ, pos, false, List, [], ◌∷◌, length, map, Option, None, Some, if◌then◌else◌}
+use Rattle.uno_model.specs.Codes.{same_kind}
 use Rattle.uno_model.specs.Kinds.{Kind}
 use Rattle.uno_model.specs.Kinds as kd
 use Rattle.uno_model.specs.Entities.{Entity, Body, Item}
 use Rattle.uno_model.specs.Entities as plain
 use Rattle.uno_model.specs.Registry.{find_entity}
-use Rattle.uno_model.specs.Fits.{IsTupleKind, member_kinds}
-use Rattle.uno_model.specs.Values.{Ref, null, Plain, Plains, void, char, boolean, byte, short, unsigned_short, long, unsigned_long}
-use Rattle.uno_model.specs.Values.{hyper, unsigned_hyper, str, kind, any, enum, tuple, list, bytes, ref, none, more}
+use Rattle.uno_model.specs.Fits.{member_kinds}
+use Rattle.uno_model.specs.Values.{null, Plain, Plains, void, char, boolean, byte, short, unsigned_short, long, unsigned_long, plains}
+use Rattle.uno_model.specs.Values.{hyper, unsigned_hyper, str, kind, any, enum, tuple, list, bytes, ref, none}
 
 -- the items of an enum
 abbrev pub items_in : Body → List Item
@@ -19,41 +20,37 @@ items_of None = []
 items_of (Some e) = items_in e.body
 
 -- the number of the first item
-abbrev pub IsFirst : List Item → ℤ → Type 0
-IsFirst [] n = ⊥
-IsFirst (i ∷ items) n = n ≡ i.number
+abbrev pub first_number : List Item → ℤ
+first_number [] = pos 0
+first_number (i ∷ items) = i.number
 
--- null, at an interface
-abbrev pub NullDefault : Ref → Kind → Type 0
-NullDefault null (kd.interface name) = Unit
-NullDefault r k = ⊥
+-- 0, false, the empty text, the type void, an any of void, no elements, null, the first item of an enum; and what is given for a struct or an exception
+abbrev pub default_with : List Entity → (List ℕ → Plain) → Kind → Plain
+default_with reg tuple_named kd.void = void
+default_with reg tuple_named kd.char = char 0
+default_with reg tuple_named kd.boolean = boolean false
+default_with reg tuple_named kd.byte = byte (pos 0)
+default_with reg tuple_named kd.short = short (pos 0)
+default_with reg tuple_named kd.unsigned_short = unsigned_short 0
+default_with reg tuple_named kd.long = long (pos 0)
+default_with reg tuple_named kd.unsigned_long = unsigned_long 0
+default_with reg tuple_named kd.hyper = hyper (pos 0)
+default_with reg tuple_named kd.unsigned_hyper = unsigned_hyper 0
+default_with reg tuple_named kd.str = str []
+default_with reg tuple_named kd.kind = kind kd.void
+default_with reg tuple_named kd.any = any kd.void void
+default_with reg tuple_named (kd.enum name) = enum name (first_number (items_of (find_entity name reg)))
+default_with reg tuple_named (kd.struct name) = tuple_named name
+default_with reg tuple_named (kd.exception name) = tuple_named name
+default_with reg tuple_named (kd.interface name) = ref null
+default_with reg tuple_named (kd.sequence k) = if same_kind k kd.byte then bytes [] else list k none
 
--- the default of a type: 0, false, the empty text, the type void, an any of void, no elements, null, the first item of an enum, and of a struct or
--- an exception the defaults of all members
-unfoldable mutual
-  pub IsDefault : List Entity → Plain → Kind → Type 0
-  IsDefault reg void k = k ≡ kd.void
-  IsDefault reg (char n) k = (k ≡ kd.char) × (n ≡ 0)
-  IsDefault reg (boolean b) k = (k ≡ kd.boolean) × (b ≡ false)
-  IsDefault reg (byte n) k = (k ≡ kd.byte) × (n ≡ pos 0)
-  IsDefault reg (short n) k = (k ≡ kd.short) × (n ≡ pos 0)
-  IsDefault reg (unsigned_short n) k = (k ≡ kd.unsigned_short) × (n ≡ 0)
-  IsDefault reg (long n) k = (k ≡ kd.long) × (n ≡ pos 0)
-  IsDefault reg (unsigned_long n) k = (k ≡ kd.unsigned_long) × (n ≡ 0)
-  IsDefault reg (hyper n) k = (k ≡ kd.hyper) × (n ≡ pos 0)
-  IsDefault reg (unsigned_hyper n) k = (k ≡ kd.unsigned_hyper) × (n ≡ 0)
-  IsDefault reg (str s) k = (k ≡ kd.str) × (s ≡ [])
-  IsDefault reg (kind t) k = (k ≡ kd.kind) × (t ≡ kd.void)
-  IsDefault reg (any t v) k = (k ≡ kd.any) × (t ≡ kd.void) × (v ≡ void)
-  IsDefault reg (enum name n) k = (k ≡ kd.enum name) × IsFirst (items_of (find_entity name reg)) n
-  IsDefault reg (tuple name vs) k = IsTupleKind name k × EachDefault reg vs (member_kinds reg name)
-  IsDefault reg (list t vs) k = (k ≡ kd.sequence t) × (t ≢ kd.byte) × (vs ≡ none)
-  IsDefault reg (bytes b) k = (k ≡ kd.sequence kd.byte) × (b ≡ [])
-  IsDefault reg (ref r) k = NullDefault r k
+-- the same, over so many levels of structs in structs; past them a struct has no members
+unfoldable pub default_within : ℕ → List Entity → Kind → Plain
+default_within zero reg k = default_with reg (λ name. tuple name none) k
+default_within (suc levels) reg k = default_with reg (λ name. tuple name (plains (map (default_within levels reg) (member_kinds reg name)))) k
 
-  -- each value is the default of the type at its place
-  pub EachDefault : List Entity → Plains → List Kind → Type 0
-  EachDefault reg none [] = Unit
-  EachDefault reg none (k ∷ ks) = ⊥
-  EachDefault reg (more v vs) [] = ⊥
-  EachDefault reg (more v vs) (k ∷ ks) = IsDefault reg v k × EachDefault reg vs ks
+-- the default of a type, of a struct or an exception that of all members: an exception, and then a way over structs that comes to no name twice, have no more
+-- levels than there are entities and two
+unfoldable pub default_of_kind : List Entity → Kind → Plain
+default_of_kind reg k = default_within (suc (suc (length reg))) reg k
