@@ -6,7 +6,9 @@ use Rattle.std.specs.Str.{bytes_eq}
 use Rattle.uno_model.specs.BuiltIn.{built_in, disposed_exception, factory, base_exception, runtime_exception, x_interface}
 use Rattle.uno_model.specs.Circles.{HasNoCircle, ends_within}
 use Rattle.uno_model.specs.Entities.{Entity}
-use Rattle.uno_model.specs.Registry.{IsRising, find_entity, leads_to, leads_to_body}
+use Rattle.uno_model.specs.Names.{parts_of}
+use Rattle.uno_model.specs.Registry.{IsRising, find_entity, leads_to, leads_to_body, members_within}
+use Rattle.uno_model.specs.Sound.{IsSound, HasFewFunctions, all_differ}
 use Rattle.uno_model.proofs.CircleLaws.{ends_no_circle}
 
 pub built_in_rising : IsRising built_in
@@ -44,3 +46,22 @@ ends_from_each name = first (bytes_eq name disposed_exception.name)
 pub built_in_no_circle : HasNoCircle (leads_to built_in)
 unfolding ends_within
 built_in_no_circle name way = ends_no_circle (leads_to built_in) 5 name (ends_from_each name) way
+
+module _ (few : HasFewFunctions built_in) where
+  built_in_sound : IsSound built_in
+  unfolding all_differ find_entity members_within parts_of
+  built_in_sound =
+      record {
+        named = refl;
+        differ = refl;
+        bases = refl;
+        raises = refl;
+        services = refl;
+        types = refl;
+        allowed = refl;
+        complete = refl;
+        members = refl;
+        limits = refl;
+        functions = few;
+        no_circle = built_in_no_circle;
+      }

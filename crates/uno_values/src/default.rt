@@ -1,49 +1,43 @@
 //! The default of a type.
-ghost use Rattle.std.specs.Prelude.{◌≡◌, [], IfOk, IsTrue, MatchOption};
-ghost use Rattle.std.specs.List.{list_all};
-ghost use Rattle.uno_model.specs.Defaults.{IsDefault, EachDefault, IsFirst, items_of, items_in};
+ghost use Rattle.std.specs.Prelude.{◌≡◌, IfOk, map};
+ghost use Rattle.uno_model.specs.Defaults.{default_of_kind, first_number, items_of};
 ghost use Rattle.uno_model.specs.Kinds as kd;
 ghost use Rattle.uno_model.specs.Registry.{find_entity};
-ghost use Rattle.uno_model.specs.Sound.{IsSound, is_there, is_enum};
-ghost use Rattle.uno_model.specs.Types.{is_formed};
+ghost use Rattle.uno_model.specs.Sound.{IsSound};
 ghost use Rattle.uno_model.specs.Values.{any, void};
-ghost use Rattle.uno_entities.specs.Entities.{body_of};
 ghost use Rattle.uno_entities.specs.TypeNames.{kind_of};
 ghost use Rattle.uno_values.specs.Fitting.{kinds_at};
-ghost use Rattle.uno_values.specs.Values.{plain_of, plains_of};
+ghost use Rattle.uno_values.specs.Values.{plain_of};
 
 use crate::value::{any_holding, item_of, list_of, tuple_of};
 use crate::{AnyValue, Reference, Value};
 use std::alloc::Global;
 use uno_base::NoMemory;
-use uno_types::{Body, Field, Item, Name, Registry, Text, TypeName};
+use uno_types::{Body, Field, Name, Registry, Text, TypeName};
 
 /// How deep a default may be nested: the stack that it takes, also to let it go, is memory too.
 const DEEPEST: u32 = 1024;
 
-/// The default of a type of the registry, the limits of its name apart: 0, false, the empty text, the type void, an any of void,
-/// no elements, null, the first member of an enum, and of a struct or an exception the defaults of all members. A default
-/// that is nested more than 1,024 deep is `NoMemory`.
+/// The default of a type: 0, false, the empty text, the type void, an any of void, no elements, null, the first item of an enum,
+/// and of a struct or an exception the defaults of all members. A default that is nested more than 1,024 deep is `NoMemory`.
 pub fn default_of(alloc: Global, registry: &Registry, kind: &TypeName) -> Result<Value, NoMemory>
-    requires sound { IsSound registry.now }
-    requires formed { IsTrue (is_formed registry.now (kind_of kind.now)) }
-    ensures { IfOk result (λ v. IsDefault registry.now (plain_of v) (kind_of kind.now)) }
+    requires { IsSound registry.now }
+    ensures { IfOk result (λ v. plain_of v ≡ default_of_kind registry.now (kind_of kind.now)) }
 {
     default_within(alloc, registry, kind, DEEPEST)
 }
 
 /// The same, at most so deep.
 #[cycle(default)]
-#[tactic(auto, unfolding(uno_model::specs::Defaults::IsDefault))]
+#[tactic(auto, unfolding(uno_model::specs::Defaults::default_of_kind, uno_model::specs::Defaults::default_within))]
 fn default_within(
     alloc: Global,
     registry: &Registry,
     kind: &TypeName,
     depth: u32,
 ) -> Result<Value, NoMemory>
-    requires sound { IsSound registry.now }
-    requires formed { IsTrue (is_formed registry.now (kind_of kind.now)) }
-    ensures { IfOk result (λ v. IsDefault registry.now (plain_of v) (kind_of kind.now)) }
+    requires { IsSound registry.now }
+    ensures { IfOk result (λ v. plain_of v ≡ default_of_kind registry.now (kind_of kind.now)) }
 {
     match kind {
         TypeName::Void => Ok(Value::Void),
@@ -59,7 +53,7 @@ fn default_within(
         TypeName::Str => Ok(Value::Str(Text::of(alloc, "")?)),
         TypeName::Kind => Ok(Value::Kind(TypeName::Void)),
         TypeName::Any => default_any(alloc),
-        TypeName::Enum(name) => default_item(alloc, registry, name),
+        TypeName::Enum(name) => item_of(alloc, name, first_number(registry, name.as_str())),
         TypeName::Struct(name) => default_tuple(alloc, registry, name, depth),
         TypeName::Exception(name) => default_tuple(alloc, registry, name, depth),
         TypeName::Interface(_) => Ok(Value::Ref(Reference::Null)),
@@ -79,9 +73,9 @@ fn default_any(alloc: Global) -> Result<Value, NoMemory>
 }
 
 /// A sequence of no elements.
-#[tactic(auto, unfolding(uno_model::specs::Defaults::IsDefault))]
+#[tactic(auto, unfolding(uno_model::specs::Defaults::default_of_kind, uno_model::specs::Defaults::default_within))]
 fn default_sequence(alloc: Global, registry: &Registry, inner: &TypeName) -> Result<Value, NoMemory>
-    ensures { IfOk result (λ v. IsDefault registry.now (plain_of v) (kd.sequence (kind_of inner.now))) }
+    ensures { IfOk result (λ v. plain_of v ≡ default_of_kind registry.now (kd.sequence (kind_of inner.now))) }
 {
     if matches!(inner, TypeName::Byte) {
         return Ok(Value::Bytes(Vec::new(alloc)));
@@ -89,57 +83,31 @@ fn default_sequence(alloc: Global, registry: &Registry, inner: &TypeName) -> Res
     list_of(alloc, inner, Vec::new(alloc))
 }
 
-/// The first item of an enum.
-#[tactic(auto, unfolding(uno_model::specs::Defaults::IsDefault))]
-fn default_item(alloc: Global, registry: &Registry, name: &Name) -> Result<Value, NoMemory>
-    requires sound { IsSound registry.now }
-    requires there { IsTrue (is_there registry.now is_enum name.now) }
-    ensures { IfOk result (λ v. IsDefault registry.now (plain_of v) (kd.enum name.now)) }
+/// The number of the first item that the enum of this name has.
+fn first_number(registry: &Registry, name: &str) -> i32
+    ensures { result ≡ first_number (items_of (find_entity name.now registry.now)) }
 {
-    let Some(item) = first_item(registry, name.as_str()) else {
-        unreachable!()
+    let Some(entity) = registry.find(name) else { return 0 };
+    let Body::Enum { items } = &entity.body else {
+        return 0
     };
-    let number = item.number;
-    item_of(alloc, name, number)
-}
-
-/// The first item that the enum of this name has.
-fn first_item<'a>(registry: &'a Registry, name: &str) -> Option<&'a Item>
-    ensures { MatchOption result (items_of (find_entity name.now registry.now) ≡ []) (λ item. IsFirst (items_of (find_entity name.now registry.now)) item.now.number) }
-{
-    match registry.find(name) {
-        Some(entity) => first_of(&entity.body),
-        None => None,
-    }
-}
-
-fn first_of(body: &Body) -> Option<&Item>
-    ensures { MatchOption result (items_in (body_of body.now) ≡ []) (λ item. IsFirst (items_in (body_of body.now)) item.now.number) }
-{
-    match body {
-        Body::Enum { items } => items.first(),
-        Body::Interface { .. }
-        | Body::Struct { .. }
-        | Body::Exception { .. }
-        | Body::Constants { .. }
-        | Body::Typedef { .. }
-        | Body::Service(_)
-        | Body::Singleton(_) => None,
+    match items.first() {
+        Some(item) => item.number,
+        None => 0,
     }
 }
 
 /// A struct or an exception of the defaults of its members.
 #[cycle(default)]
-#[tactic(auto, unfolding(uno_model::specs::Defaults::IsDefault))]
 fn default_tuple(
     alloc: Global,
     registry: &Registry,
     name: &Name,
     depth: u32,
 ) -> Result<Value, NoMemory>
-    requires sound { IsSound registry.now }
-    ensures structs { IfOk result (λ v. IsDefault registry.now (plain_of v) (kd.struct name.now)) }
-    ensures exceptions { IfOk result (λ v. IsDefault registry.now (plain_of v) (kd.exception name.now)) }
+    requires { IsSound registry.now }
+    ensures structs { IfOk result (λ v. plain_of v ≡ default_of_kind registry.now (kd.struct name.now)) }
+    ensures exceptions { IfOk result (λ v. plain_of v ≡ default_of_kind registry.now (kd.exception name.now)) }
 {
     let Some(inner) = depth.checked_sub(1) else {
         return Err(NoMemory)
@@ -151,16 +119,14 @@ fn default_tuple(
 
 /// The default of each member.
 #[cycle(default)]
-#[tactic(auto, unfolding(uno_model::specs::Defaults::EachDefault))]
 fn defaults_of(
     alloc: Global,
     registry: &Registry,
     fields: &[&Field],
     depth: u32,
 ) -> Result<Vec<Value>, NoMemory>
-    requires sound { IsSound registry.now }
-    requires formed { IsTrue (list_all (is_formed registry.now) (kinds_at fields.now)) }
-    ensures { IfOk result (λ vs. EachDefault registry.now (plains_of vs.items) (kinds_at fields.now)) }
+    requires { IsSound registry.now }
+    ensures { IfOk result (λ vs. map plain_of vs.items ≡ map (default_of_kind registry.now) (kinds_at fields.now)) }
 {
     let mut values = Vec::new(alloc);
     for field in fields {
