@@ -1,13 +1,13 @@
 -- What a reading by the verdict gives of literals.
 use Rattle.std.proofs.Common.{◌≡◌, ℕ, List, Result, Ok, Err, IfOk, MatchResult, ◌⊎◌, inl, inr, refl, sym, ◌∙◌}
-use Rattle.uno_model.proofs.VerdictLaws.{found_is_literal, literal_is_found}
+use Rattle.literal_model.proofs.VerdictLaws.{found_is_literal, literal_is_found}
 use Rattle.uno_model.specs.Entities.{Entity}
 use Rattle.uno_model.specs.Kinds.{Kind}
-use Rattle.uno_model.specs.Literals.{IsLiteral}
+use Rattle.literal_model.specs.Literals.{IsLiteral}
 use Rattle.uno_model.specs.Sound.{IsSound}
-use Rattle.uno_model.specs.Tokens.{IsSized}
+use Rattle.literal_model.specs.Tokens.{IsSized}
 use Rattle.uno_model.specs.Values.{Plain}
-use Rattle.uno_model.specs.Verdicts.{Wrong, too_deep, bad, wrong_type, verdict}
+use Rattle.literal_model.specs.Verdicts.{Wrong, too_deep, bad, wrong_type, verdict}
 use Rattle.uno_values.specs.Values.{plain_of}
 use Rattle.uno_values.specs.declared.value.Value.{Value}
 use Rattle.literal_reading.specs.Reading.{Reads}

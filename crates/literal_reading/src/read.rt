@@ -1,12 +1,12 @@
 //! The value of a text.
 ghost use Rattle.std.specs.Prelude.{◌≡◌, ◌<◌, ◌-◌, ◌^◌, IfOk, MatchResult};
-ghost use Rattle.uno_model.specs.Literals.{IsLiteral};
+ghost use Rattle.literal_model.specs.Literals.{IsLiteral};
 ghost use Rattle.uno_model.specs.Sound.{IsSound};
-ghost use Rattle.uno_model.specs.Tokens.{IsSized};
+ghost use Rattle.literal_model.specs.Tokens.{IsSized};
 ghost use Rattle.uno_model.specs.Values.{Plain};
 ghost use Rattle.uno_entities.specs.TypeNames.{kind_of};
 ghost use Rattle.uno_values.specs.Values.{plain_of};
-ghost use Rattle.uno_model.specs.Verdicts.{verdict, typed_verdict, whole_verdict};
+ghost use Rattle.literal_model.specs.Verdicts.{verdict, typed_verdict, whole_verdict};
 ghost use Rattle.literal_reading.specs.Reading.{Reads};
 ghost use Rattle.literal_reading.specs.Scanning.{all_placed};
 

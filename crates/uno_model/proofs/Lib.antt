@@ -1,6 +1,5 @@
 pub mod BuiltInLaws
 pub mod CircleLaws
-pub mod CompleteLaws
 pub mod FindLaws
 pub mod MemberKindLaws
 pub mod MemberLaws
@@ -9,10 +8,3 @@ pub mod Options
 pub mod PlaceLaws
 pub mod ReachLaws
 pub mod ReachesLaws
-pub mod ScanBackLaws
-pub mod ScanLaws
-pub mod ShapeLaws
-pub mod SpellLaws
-pub mod TypeTextLaws
-pub mod TypedLaws
-pub mod VerdictLaws

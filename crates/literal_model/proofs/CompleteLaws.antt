@@ -10,22 +10,22 @@ use Rattle.std.specs.Int.{w8, cast_signed}
 use Rattle.std.specs.Ordering.{int_eq}
 use Rattle.std.specs.List.{list_all, list_any}
 use Rattle.std.specs.Str.{bytes_eq}
-use Rattle.uno_model.proofs.SpellLaws.{append_none}
-use Rattle.uno_model.proofs.TypedLaws.{bare, listed, listed_plains, listed_bytes, Each, byte_token, any_tokens}
+use Rattle.literal_model.proofs.SpellLaws.{append_none}
+use Rattle.literal_model.proofs.TypedLaws.{bare, listed, listed_plains, listed_bytes, Each, byte_token, any_tokens}
 use Rattle.uno_model.specs.Defaults.{items_of}
 use Rattle.uno_model.specs.Entities.{Entity, Item, Body}
 use Rattle.uno_model.specs.Entities as plain
 use Rattle.uno_model.specs.Fits.{Fits, FitEach, FitAll, RefFits, IsTupleKind, member_kinds}
 use Rattle.uno_model.specs.Kinds.{Kind}
 use Rattle.uno_model.specs.Kinds as kd
-use Rattle.uno_model.specs.Literals.{first_item}
-use Rattle.uno_model.specs.Readings.{Fault, deep, Reads, left_at, unsigned_of, signed_of, number_named, item_in, some_as, single, of_token, only_token}
-use Rattle.uno_model.specs.Readings.{cast_in, is_comma, opens_square, opens_curly, closes_square, closes_curly, expect, elements_on, elements_in}
-use Rattle.uno_model.specs.Readings.{sequence_of, comma_at, members_on, tuple_of, is_void, any_of, byte_in, value_step, value_within}
+use Rattle.literal_model.specs.Literals.{first_item}
+use Rattle.literal_model.specs.Readings.{Fault, deep, Reads, left_at, unsigned_of, signed_of, number_named, item_in, some_as, single, of_token, only_token}
+use Rattle.literal_model.specs.Readings.{cast_in, is_comma, opens_square, opens_curly, closes_square, closes_curly, expect, elements_on, elements_in}
+use Rattle.literal_model.specs.Readings.{sequence_of, comma_at, members_on, tuple_of, is_void, any_of, byte_in, value_step, value_within}
 use Rattle.uno_model.specs.Registry.{find_entity}
-use Rattle.uno_model.specs.Shapes.{Token, opens, closes, comma, number, word, string, named, cast, square, curly, Placed, on_ok}
+use Rattle.literal_model.specs.Shapes.{Token, opens, closes, comma, number, word, string, named, cast, square, curly, Placed, on_ok}
 use Rattle.uno_model.specs.Sound.{all_differ, items_differ}
-use Rattle.uno_model.specs.Tokens.{InRange, IsSized, AllSized, tokens_of, tokens_in, byte_tokens, comma_tokens, item_token}
+use Rattle.literal_model.specs.Tokens.{InRange, IsSized, AllSized, tokens_of, tokens_in, byte_tokens, comma_tokens, item_token}
 use Rattle.uno_model.specs.Types.{is_type}
 use Rattle.uno_model.specs.Values.{Ref, null, own, peer, Plain, Plains, plains, none, more, refs, refs_in, held}
 use Rattle.uno_model.specs.Values as v

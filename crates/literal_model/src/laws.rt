@@ -3,11 +3,11 @@ ghost use Rattle.std.specs.Prelude.{◌≡◌, ◌⊎◌, List, [], Ok, Err};
 ghost use Rattle.uno_model.specs.Entities.{Entity};
 ghost use Rattle.uno_model.specs.Fits.{Fits};
 ghost use Rattle.uno_model.specs.Kinds.{Kind};
-ghost use Rattle.uno_model.specs.Literals.{print};
+ghost use Rattle.literal_model.specs.Literals.{print};
 ghost use Rattle.uno_model.specs.Sound.{IsSound};
-ghost use Rattle.uno_model.specs.Tokens.{IsSized};
+ghost use Rattle.literal_model.specs.Tokens.{IsSized};
 ghost use Rattle.uno_model.specs.Values.{Plain, refs};
-ghost use Rattle.uno_model.specs.Verdicts.{verdict, too_deep};
+ghost use Rattle.literal_model.specs.Verdicts.{verdict, too_deep};
 
 /// What is printed of a value that fits a type, and has no reference but null, is read back at that type as that value, unless it
 /// is nested deeper than is read.

@@ -10,27 +10,27 @@ use Rattle.std.specs.Int.{w8, cast_signed}
 use Rattle.std.specs.List.{list_all, list_any, flat_map}
 use Rattle.std.specs.Ordering.{int_eq}
 use Rattle.std.specs.Str.{bytes_eq}
-use Rattle.uno_model.proofs.CompleteLaws.{Begins, value_begins, void_fits, IsByte, signed_range}
+use Rattle.literal_model.proofs.CompleteLaws.{Begins, value_begins, void_fits, IsByte, signed_range}
 use Rattle.uno_model.proofs.NameLaws.{there_named}
-use Rattle.uno_model.proofs.ScanBackLaws.{NumberFits, ends_run, number_back, word_back, string_back, type_back}
-use Rattle.uno_model.proofs.SpellLaws.{spells_print}
-use Rattle.uno_model.proofs.TypedLaws.{bare, any_tokens}
+use Rattle.literal_model.proofs.ScanBackLaws.{NumberFits, ends_run, number_back, word_back, string_back, type_back}
+use Rattle.literal_model.proofs.SpellLaws.{spells_print}
+use Rattle.literal_model.proofs.TypedLaws.{bare, any_tokens}
 use Rattle.uno_model.specs.Defaults.{items_of}
 use Rattle.uno_model.specs.Entities.{Entity, Item, Body}
 use Rattle.uno_model.specs.Entities as plain
 use Rattle.uno_model.specs.Fits.{Fits, FitEach, FitAll, IsTupleKind, member_kinds}
 use Rattle.uno_model.specs.Kinds.{Kind, name_of}
 use Rattle.uno_model.specs.Kinds as kd
-use Rattle.uno_model.specs.Literals.{first_item, escaped, print}
+use Rattle.literal_model.specs.Literals.{first_item, escaped, print}
 use Rattle.uno_model.specs.Names.{is_identifier, is_entity_name, parts_of, begins_identifier, goes_on_identifier}
-use Rattle.uno_model.specs.Readings.{is_void}
+use Rattle.literal_model.specs.Readings.{is_void}
 use Rattle.uno_model.specs.Registry.{find_entity, all_members}
-use Rattle.uno_model.specs.Shapes.{Bracket, square, curly, Token, opens, closes, comma, number, word, string, named, cast, spell, spells, is_some_name}
-use Rattle.uno_model.specs.Shapes.{is_first_name, is_own_word, is_known_word, is_word, on_ok, is_name_byte, type_at, cast_of, string_at, value_at, Awaited, value}
-use Rattle.uno_model.specs.Shapes.{element, separator, behind_cast, behind, opened, separator_at, element_at, token_at, Placed, is_whole, tokens_at, judge}
+use Rattle.literal_model.specs.Shapes.{Bracket, square, curly, Token, opens, closes, comma, number, word, string, named, cast, spell, spells, is_some_name}
+use Rattle.literal_model.specs.Shapes.{is_first_name, is_own_word, is_known_word, is_word, on_ok, is_name_byte, type_at, cast_of, string_at, value_at, Awaited, value}
+use Rattle.literal_model.specs.Shapes.{element, separator, behind_cast, behind, opened, separator_at, element_at, token_at, Placed, is_whole, tokens_at, judge}
 use Rattle.uno_model.specs.Sound.{IsSound, is_named, inner_names, is_there, is_enum, is_struct, is_exception}
 use Rattle.uno_model.specs.Sound.{is_interface, kind_known, elements_plain, is_namable, is_some_list, has_member}
-use Rattle.uno_model.specs.Tokens.{InRange, IsSized, AllSized, tokens_of, tokens_in, byte_tokens, comma_tokens, item_token}
+use Rattle.literal_model.specs.Tokens.{InRange, IsSized, AllSized, tokens_of, tokens_in, byte_tokens, comma_tokens, item_token}
 use Rattle.uno_model.specs.Types.{is_formed, is_type}
 use Rattle.uno_model.specs.Values.{Ref, null, own, peer, Plain, Plains, none, more, refs, refs_in, held}
 use Rattle.uno_model.specs.Values as v

@@ -3,9 +3,9 @@ use Rattle.std.specs.Prelude.{ℕ, ◌<◌, ◌^◌, ℤ, pos, negsuc, Bool, tru
 use Rattle.std.specs.Int.{w8, cast_signed}
 use Rattle.uno_model.specs.Defaults.{items_of}
 use Rattle.uno_model.specs.Entities.{Entity}
-use Rattle.uno_model.specs.Literals.{first_item}
+use Rattle.literal_model.specs.Literals.{first_item}
 use Rattle.uno_model.specs.Registry.{find_entity}
-use Rattle.uno_model.specs.Shapes.{Token, opens, closes, comma, number, word, string, named, cast, square, curly}
+use Rattle.literal_model.specs.Shapes.{Token, opens, closes, comma, number, word, string, named, cast, square, curly}
 use Rattle.uno_model.specs.Values.{Plain, Plains, void, char, boolean, byte, short, unsigned_short, long, unsigned_long, hyper}
 use Rattle.uno_model.specs.Values.{unsigned_hyper, str, kind, any, enum, tuple, list, bytes, ref, none, more}
 

@@ -2,20 +2,20 @@
 use Rattle.std.proofs.Common.{◌≡◌, ℕ, suc, List, [], ◌∷◌, length, ◌-◌, true, Result, Ok, Err, ◌⊎◌, inl, inr, refl, sym, ap, subst, ◌∙◌}
 use Rattle.std.proofs.lemmas.List.{append-nil}
 use Rattle.std.specs.List.{list_all}
-use Rattle.uno_model.proofs.ScanLaws.{AreTokens, tokens_sound}
-use Rattle.uno_model.proofs.CompleteLaws.{Comes, within_comes}
-use Rattle.uno_model.proofs.ShapeLaws.{literal_tokens}
-use Rattle.uno_model.proofs.SpellLaws.{spells_print}
-use Rattle.uno_model.proofs.TypedLaws.{bare, within_sound}
+use Rattle.literal_model.proofs.ScanLaws.{AreTokens, tokens_sound}
+use Rattle.literal_model.proofs.CompleteLaws.{Comes, within_comes}
+use Rattle.literal_model.proofs.ShapeLaws.{literal_tokens}
+use Rattle.literal_model.proofs.SpellLaws.{spells_print}
+use Rattle.literal_model.proofs.TypedLaws.{bare, within_sound}
 use Rattle.uno_model.specs.Entities.{Entity}
 use Rattle.uno_model.specs.Kinds.{Kind}
-use Rattle.uno_model.specs.Literals.{IsLiteral, print}
-use Rattle.uno_model.specs.Readings.{Fault, deep, misfit, value_within}
-use Rattle.uno_model.specs.Shapes.{Placed, value, judge, spells}
+use Rattle.literal_model.specs.Literals.{IsLiteral, print}
+use Rattle.literal_model.specs.Readings.{Fault, deep, misfit, value_within}
+use Rattle.literal_model.specs.Shapes.{Placed, value, judge, spells}
 use Rattle.uno_model.specs.Sound.{IsSound, is_named}
-use Rattle.uno_model.specs.Tokens.{IsSized, tokens_of}
+use Rattle.literal_model.specs.Tokens.{IsSized, tokens_of}
 use Rattle.uno_model.specs.Values.{Plain}
-use Rattle.uno_model.specs.Verdicts.{Wrong, too_deep, bad, wrong_type, deepest, whole_verdict, of_reading, verdict}
+use Rattle.literal_model.specs.Verdicts.{Wrong, too_deep, bad, wrong_type, deepest, whole_verdict, of_reading, verdict}
 
 wrong_or_right : {Y : Type 0} (w : Wrong) (y : Y) → Err w ≡ Ok y → ⊥
 wrong_or_right w y e = cc
