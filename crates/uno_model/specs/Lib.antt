@@ -14,6 +14,7 @@ pub mod Reaches
 pub mod Recast
 pub mod Registry
 pub mod Sound
+pub mod Spellable
 pub mod TypeClasses
 pub mod Types
 pub mod Values
