@@ -1,13 +1,13 @@
 -- What a reading by the verdict gives of literals.
 use Rattle.std.proofs.Common.{◌≡◌, ℕ, List, Result, Ok, Err, IfOk, MatchResult, ◌⊎◌, inl, inr, refl, sym, ◌∙◌}
-use Rattle.uno_model.proofs.VerdictLaws.{found_is_literal, literal_is_found}
+use Rattle.literal_model.proofs.VerdictLaws.{found_is_literal, literal_is_found}
 use Rattle.uno_model.specs.Entities.{Entity}
 use Rattle.uno_model.specs.Kinds.{Kind}
-use Rattle.uno_model.specs.Literals.{IsLiteral}
+use Rattle.literal_model.specs.Literals.{IsLiteral}
 use Rattle.uno_model.specs.Sound.{IsSound}
-use Rattle.uno_model.specs.Tokens.{IsSized}
+use Rattle.uno_model.specs.Spellable.{IsSpellable}
 use Rattle.uno_model.specs.Values.{Plain}
-use Rattle.uno_model.specs.Verdicts.{Wrong, too_deep, bad, wrong_type, verdict}
+use Rattle.literal_model.specs.Verdicts.{Wrong, too_deep, bad, wrong_type, verdict}
 use Rattle.uno_values.specs.Values.{plain_of}
 use Rattle.uno_values.specs.declared.value.Value.{Value}
 use Rattle.literal_reading.specs.Reading.{Reads}
@@ -29,7 +29,7 @@ one_found m v w is (inl found) = let both : Ok v ≡ Ok w = sym is ∙ found in 
 one_found m v w is (inr deeper) = let both : Ok v ≡ Err too_deep = sym is ∙ deeper in let worse : ⊥ = cc in absurd worse
 
 pub read_only : (reg : List Entity) (k : Kind) (text : List ℕ) (result : Result Value TextError) → IsSound reg
-    → Reads plain_of result (verdict reg k text) → (w : Plain) → IsLiteral reg k text w → IsSized w
+    → Reads plain_of result (verdict reg k text) → (w : Plain) → IsLiteral reg k text w → IsSpellable w
     → MatchResult result (λ v. plain_of v ≡ w) (λ e. e ≡ error.NoMemory)
 read_only reg k text (Ok v) sound reads w is sized = one_found (verdict reg k text) (plain_of v) w reads (literal_is_found reg k text w sound is sized)
 read_only reg k text (Err error.NoMemory) sound reads w is sized = refl

@@ -7,11 +7,11 @@ use Rattle.std.proofs.lemmas.Str.{IsUtf8-from_ascii}
 use Rattle.std.specs.List.{list_all}
 use Rattle.std.specs.Str.{IsUtf8}
 use Rattle.uno_base.specs.declared.no_memory.NoMemory.{NoMemory}
-use Rattle.uno_model.proofs.TypeTextLaws.{same_found}
+use Rattle.literal_model.proofs.TypeTextLaws.{same_found}
 use Rattle.uno_model.specs.Entities.{Entity}
 use Rattle.uno_model.specs.Kinds.{Kind}
 use Rattle.uno_model.specs.NamedTypes.{IsNamed, type_of_text}
-use Rattle.uno_model.specs.Shapes.{with_byte, front, rest}
+use Rattle.literal_model.specs.Shapes.{with_byte, front, rest}
 use Rattle.uno_model.specs.Sound.{is_named}
 use Rattle.uno_entities.specs.TypeNames.{kind_of}
 use Rattle.uno_entities.specs.declared.type_name.TypeName.{TypeName}

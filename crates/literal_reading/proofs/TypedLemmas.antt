@@ -6,9 +6,9 @@ use Rattle.uno_model.specs.Entities.{Entity}
 use Rattle.uno_model.specs.Fits.{member_kinds}
 use Rattle.uno_model.specs.Kinds.{Kind}
 use Rattle.uno_model.specs.Kinds as kd
-use Rattle.uno_model.specs.Readings.{Fault, misfit, Reads, value_within, value_step, left_at, elements_on, behind_element, members_on}
-use Rattle.uno_model.specs.Readings.{with_first, comma_at, expect, is_comma, closes_square, closes_curly, opens_curly}
-use Rattle.uno_model.specs.Shapes.{Placed, on_ok}
+use Rattle.literal_model.specs.Readings.{Fault, misfit, Reads, value_within, value_step, left_at, elements_on, behind_element, members_on}
+use Rattle.literal_model.specs.Readings.{with_first, comma_at, expect, is_comma, closes_square, closes_curly, opens_curly}
+use Rattle.literal_model.specs.Shapes.{Placed, on_ok}
 use Rattle.uno_model.specs.Types.{is_type}
 use Rattle.uno_model.specs.Values.{Plain}
 use Rattle.std.specs.Result.{IsErrAnd}

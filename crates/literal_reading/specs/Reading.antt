@@ -1,6 +1,6 @@
 -- What the reading of a text gives: what the verdict gives, unless memory ran out.
 use Rattle.std.specs.Prelude.{◌≡◌, Result, Ok, Err}
-use Rattle.uno_model.specs.Verdicts.{Wrong, bad, wrong_type}
+use Rattle.literal_model.specs.Verdicts.{Wrong, bad, wrong_type}
 use Rattle.literal_reading.specs.declared.read.TextError.{TextError}
 use Rattle.literal_reading.specs.declared.read.TextError.TheVariants as error
 

@@ -1,7 +1,7 @@
 -- Tokens as plain data, and what a scan gives: what the verdict gives, unless memory ran out.
 use Rattle.std.specs.Prelude.{◌≡◌, ℕ, ◌++◌, Bool, List, map, reverse, Result, Ok, Err}
 use Rattle.uno_model.specs.Names.{goes_on_identifier}
-use Rattle.uno_model.specs.Shapes as plain
+use Rattle.literal_model.specs.Shapes as plain
 use Rattle.uno_entities.specs.TypeNames.{kind_of}
 use Rattle.literal_reading.specs.declared.stop.Stop.{Stop}
 use Rattle.literal_reading.specs.declared.stop.Stop.TheVariants as stop

@@ -1,9 +1,9 @@
 //! The items of an enum, and the first of them that has a number.
 ghost use Rattle.std.specs.Prelude.{◌≡◌, map, option_map};
 ghost use Rattle.uno_model.specs.Defaults.{items_of};
-ghost use Rattle.uno_model.specs.Literals.{first_item};
+ghost use Rattle.literal_model.specs.Literals.{first_item};
 ghost use Rattle.uno_model.specs.Registry.{find_entity};
-ghost use Rattle.uno_model.specs.Shapes.{is_some_name};
+ghost use Rattle.literal_model.specs.Shapes.{is_some_name};
 ghost use Rattle.uno_entities.specs.Entities.{item_of, body_of, entity_of};
 
 use uno_types::{Body, Entity, Item, Name, Registry};
@@ -28,7 +28,7 @@ pub(crate) fn items_in(entity: &Entity) -> &[Item]
 }
 
 /// The name of the first item that has this number.
-#[tactic(auto, unfolding(uno_model::specs::Literals::first_item))]
+#[tactic(auto, unfolding(literal_model::specs::Literals::first_item))]
 pub fn first_item(items: &[Item], number: i32) -> Option<&str>
     ensures { option_map (λ name. name.now) result ≡ first_item (map item_of items.now) number }
 {

@@ -1,6 +1,6 @@
 //! The order of tokens: a text is cut into them, and each is one that may stand at its place.
 ghost use Rattle.std.specs.Prelude.{◌≡◌, ◌++◌, ◌∷◌, [], suc, length, OnOk, IfErr};
-ghost use Rattle.uno_model.specs.Shapes.{value, judge, tokens_at, token_at, element_at, separator_at, closing, behind, behind_cast, opened, is_whole};
+ghost use Rattle.literal_model.specs.Shapes.{value, judge, tokens_at, token_at, element_at, separator_at, closing, behind, behind_cast, opened, is_whole};
 ghost use Rattle.uno_model.specs.Sound.{IsSound};
 ghost use Rattle.uno_entities.specs.TypeNames.{kind_of};
 ghost use Rattle.literal_reading.specs.Scanning.{Scans, with_tokens, token_of, all_placed, bracket_of, awaited_of, outer_of};

@@ -1,12 +1,12 @@
 //! The value of a text.
 ghost use Rattle.std.specs.Prelude.{◌≡◌, ◌<◌, ◌-◌, ◌^◌, IfOk, MatchResult};
-ghost use Rattle.uno_model.specs.Literals.{IsLiteral};
+ghost use Rattle.literal_model.specs.Literals.{IsLiteral};
 ghost use Rattle.uno_model.specs.Sound.{IsSound};
-ghost use Rattle.uno_model.specs.Tokens.{IsSized};
+ghost use Rattle.uno_model.specs.Spellable.{IsSpellable};
 ghost use Rattle.uno_model.specs.Values.{Plain};
 ghost use Rattle.uno_entities.specs.TypeNames.{kind_of};
 ghost use Rattle.uno_values.specs.Values.{plain_of};
-ghost use Rattle.uno_model.specs.Verdicts.{verdict, typed_verdict, whole_verdict};
+ghost use Rattle.literal_model.specs.Verdicts.{verdict, typed_verdict, whole_verdict};
 ghost use Rattle.literal_reading.specs.Reading.{Reads};
 ghost use Rattle.literal_reading.specs.Scanning.{all_placed};
 
@@ -43,7 +43,7 @@ pub fn read_value(
 ) -> Result<Value, TextError>
     requires { IsSound registry.now }
     ensures found { IfOk result (λ v. IsLiteral registry.now (kind_of kind.now) text.now (plain_of v)) }
-    ensures only { (w : Plain) → IsLiteral registry.now (kind_of kind.now) text.now w → IsSized w → MatchResult result (λ v. plain_of v ≡ w) (λ e. e ≡ TextError.NoMemory) }
+    ensures only { (w : Plain) → IsLiteral registry.now (kind_of kind.now) text.now w → IsSpellable w → MatchResult result (λ v. plain_of v ≡ w) (λ e. e ≡ TextError.NoMemory) }
     ensures refused { Reads plain_of result (verdict registry.now (kind_of kind.now) text.now) }
 {
     read_text(alloc, registry, text, kind)

@@ -1,7 +1,7 @@
 //! The front of a value in a text: a token, and the text behind it.
 ghost use Rattle.std.specs.Prelude.{◌≡◌, ◌≤◌, ◌^◌, length};
 ghost use Rattle.uno_model.specs.Names.{begins_identifier};
-ghost use Rattle.uno_model.specs.Shapes.{value_at, number_at, word_at, type_at, string_at, cast_of, is_known_word, on_ok, string, named, cast};
+ghost use Rattle.literal_model.specs.Shapes.{value_at, number_at, word_at, type_at, string_at, cast_of, is_known_word, on_ok, string, named, cast};
 ghost use Rattle.uno_model.specs.Sound.{IsSound};
 ghost use Rattle.uno_entities.specs.TypeNames.{kind_of};
 ghost use Rattle.literal_reading.specs.Scanning.{Scans, token_of, test_of};
@@ -23,7 +23,7 @@ use uno_types::{Registry, TypeName};
 use words::word_at;
 
 /// The first token of a value, chosen by its first byte.
-#[tactic(auto, unfolding(uno_model::specs::Shapes::value_at))]
+#[tactic(auto, unfolding(literal_model::specs::Shapes::value_at))]
 pub(crate) fn value_at<'a>(
     alloc: Global,
     registry: &Registry,

@@ -1,7 +1,7 @@
 //! Values of one token.
 ghost use Rattle.std.specs.Prelude.{◌≡◌, IfOk, codes, option_map};
 ghost use Rattle.uno_model.specs.Defaults.{items_of};
-ghost use Rattle.uno_model.specs.Readings.{single, number_in, word_in, string_in, named_in, cast_in, and_then, some_as, truth_of, word_as, number_named, item_of_word, item_of_number, item_in, byte_in};
+ghost use Rattle.literal_model.specs.Readings.{single, number_in, word_in, string_in, named_in, cast_in, and_then, some_as, truth_of, word_as, number_named, item_of_word, item_of_number, item_in, byte_in};
 ghost use Rattle.uno_model.specs.Registry.{find_entity};
 ghost use Rattle.uno_model.specs.Values as plain;
 ghost use Rattle.uno_entities.specs.Entities.{item_of};

@@ -2,8 +2,8 @@
 ghost use Rattle.std.specs.Prelude.{◌≡◌, map, length, true};
 ghost use Rattle.uno_model.specs.Fits.{member_kinds};
 ghost use Rattle.uno_model.specs.Kinds as kd;
-ghost use Rattle.uno_model.specs.Readings.{value_within, value_step, any_of, held_by, is_void, sequence_of, elements_on, tuple_of, members_on, only_token, single};
-ghost use Rattle.uno_model.specs.Shapes.{on_ok};
+ghost use Rattle.literal_model.specs.Readings.{value_within, value_step, any_of, held_by, is_void, sequence_of, elements_on, tuple_of, members_on, only_token, single};
+ghost use Rattle.literal_model.specs.Shapes.{on_ok};
 ghost use Rattle.uno_model.specs.Values as plain;
 ghost use Rattle.uno_model.specs.Values.{plains};
 ghost use Rattle.uno_entities.specs.TypeNames.{kind_of};
@@ -46,7 +46,7 @@ pub(crate) fn value_within<'a>(
 
 /// The value of a type, with the values inside one level further in.
 #[cycle(typed)]
-#[tactic(auto, unfolding(uno_model::specs::Readings::value_step))]
+#[tactic(auto, unfolding(literal_model::specs::Readings::value_step))]
 fn value_step<'a>(
     alloc: Global,
     registry: &Registry,
@@ -145,7 +145,7 @@ fn any_before<'a>(
 
 /// Elements in square brackets; those of a sequence of bytes are kept as bytes.
 #[cycle(typed)]
-#[tactic(auto, unfolding(uno_model::specs::Readings::value_step))]
+#[tactic(auto, unfolding(literal_model::specs::Readings::value_step))]
 fn sequence_of<'a>(
     alloc: Global,
     registry: &Registry,
@@ -241,7 +241,7 @@ fn elements_on<'a>(
 
 /// A struct or an exception: its members in curly brackets, those of its bases first.
 #[cycle(typed)]
-#[tactic(auto, unfolding(uno_model::specs::Readings::value_step))]
+#[tactic(auto, unfolding(literal_model::specs::Readings::value_step))]
 fn tuple_of<'a>(
     alloc: Global,
     registry: &Registry,

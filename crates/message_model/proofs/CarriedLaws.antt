@@ -7,7 +7,8 @@ use Rattle.uno_model.specs.Recast.{recast_each}
 use Rattle.uno_model.specs.Sound.{IsSound}
 use Rattle.uno_model.specs.Values.{Plain, Plains, none, more, plains, depth}
 use Rattle.uno_model.specs.Weights.{weight, weights}
-use Rattle.urp_model.specs.Carried.{abroad_each, carried, IsSpellable, AreSpellable, AllCorrespond}
+use Rattle.uno_model.specs.Spellable.{IsSpellable, AreSpellable}
+use Rattle.urp_model.specs.Carried.{abroad_each, carried, AllCorrespond}
 use Rattle.urp_model.specs.Spelling.{SpellsEach, Spells}
 use Rattle.urp_model.specs.Tables.{Tables}
 use Rattle.urp_model.specs.Writing.{HeldNames, after, afters, spelling, spellings}

@@ -9,7 +9,8 @@ use Rattle.uno_model.specs.Sound.{IsSound}
 use Rattle.uno_model.specs.Types.{is_type}
 use Rattle.uno_model.specs.Values.{Plain, any, plains, depth}
 use Rattle.uno_model.specs.Weights.{weight, weights}
-use Rattle.urp_model.specs.Carried.{carried, IsSpellable, AreSpellable, AllCorrespond}
+use Rattle.uno_model.specs.Spellable.{IsSpellable, AreSpellable}
+use Rattle.urp_model.specs.Carried.{carried, AllCorrespond}
 use Rattle.urp_model.specs.Spelling.{SpellsTid}
 use Rattle.urp_model.specs.Tables.{Table, Tables, with_types, with_tids}
 use Rattle.urp_model.specs.Writing.{HeldNames, holding_types, kind_spelling, kind_after, name_spelling, after, afters, spelling, spellings}

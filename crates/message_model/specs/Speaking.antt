@@ -8,7 +8,8 @@ use Rattle.uno_model.specs.Kinds.{Kind}
 use Rattle.uno_model.specs.Kinds as kd
 use Rattle.uno_model.specs.Values.{Plain, any, plains, depth, depth_in}
 use Rattle.uno_model.specs.Weights.{text_weight, kind_weight, weight, weights}
-use Rattle.urp_model.specs.Carried.{carried, IsSpellable, AreSpellable, AllCorrespond}
+use Rattle.uno_model.specs.Spellable.{IsSpellable, AreSpellable}
+use Rattle.urp_model.specs.Carried.{carried, AllCorrespond}
 use Rattle.message_model.specs.Calls.{acquire_number, release_number, numbered, argument_kinds, out_kinds, may_raise, Waits, waiting}
 use Rattle.message_model.specs.Headers.{Heard}
 use Rattle.message_model.specs.Messages.{Answer, returned, raised, Message, request, release, reply}

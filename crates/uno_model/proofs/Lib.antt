@@ -3,7 +3,6 @@ pub mod AssignableLaws
 pub mod BuiltInLaws
 pub mod CircleLaws
 pub mod CodeLaws
-pub mod CompleteLaws
 pub mod DefaultLaws
 pub mod FindLaws
 pub mod FitLaws
@@ -14,11 +13,4 @@ pub mod Options
 pub mod PlaceLaws
 pub mod ReachLaws
 pub mod ReachesLaws
-pub mod ScanBackLaws
-pub mod ScanLaws
-pub mod ShapeLaws
-pub mod SpellLaws
-pub mod TypeTextLaws
-pub mod TypedLaws
 pub mod UsedKindLaws
-pub mod VerdictLaws

@@ -12,7 +12,8 @@ use Rattle.uno_model.specs.Types.{is_type}
 use Rattle.uno_model.specs.Values.{Ref, null, own, peer, Plain, Plains, none, more, plains}
 use Rattle.uno_model.specs.Values as plain
 use Rattle.uno_model.specs.Weights.{count}
-use Rattle.urp_model.specs.Carried.{abroad, abroad_each, carried, IsSpellableRef, Corresponds, AllCorrespond}
+use Rattle.uno_model.specs.Spellable.{IsSpellableRef}
+use Rattle.urp_model.specs.Carried.{abroad, abroad_each, carried, Corresponds, AllCorrespond}
 use Rattle.urp_model.specs.NamedKinds.{is_byte}
 use Rattle.urp_model.specs.Spelling.{SpellsAll, SpellsEach, SpellsSequence, SpellsStep, Spells}
 use Rattle.urp_model.specs.Tables.{Tables, with_types, with_oids}

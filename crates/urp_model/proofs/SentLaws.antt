@@ -12,7 +12,8 @@ use Rattle.uno_model.specs.Sound.{is_named}
 use Rattle.uno_model.specs.Values.{Plain, Plains, depth, depth_in, void, char, boolean, byte, short, unsigned_short, long}
 use Rattle.uno_model.specs.Values.{unsigned_long, hyper, unsigned_hyper, str, kind, any, enum, tuple, list, bytes, ref, none, more}
 use Rattle.uno_model.specs.Weights.{count}
-use Rattle.urp_model.specs.Carried.{abroad, abroad_each, carried, IsSpellable, AreSpellable, AllCorrespond}
+use Rattle.uno_model.specs.Spellable.{IsSpellable, AreSpellable}
+use Rattle.urp_model.specs.Carried.{abroad, abroad_each, carried, AllCorrespond}
 use Rattle.urp_model.specs.Spelling.{SpellsAll, SpellsEach, SpellsStep, Spells}
 use Rattle.urp_model.specs.Tables.{Tables}
 use Rattle.urp_model.specs.Writing.{HeldNames, after, afters, spelling, spellings}
@@ -21,17 +22,17 @@ use Rattle.urp_model.proofs.PieceLaws.{number_2, number_4, number_8, signed_2, s
 
 -- texts, counts and raw bytes are below 2 ^ 32
 unfoldable mutual
-  pub IsSized : Plain → Type 0
-  IsSized (str s) = length s < 2 ^ 32
-  IsSized (bytes b) = length b < 2 ^ 32
-  IsSized (any k v) = IsSized v
-  IsSized (tuple name vs) = AreSized vs
-  IsSized (list k vs) = (count vs < 2 ^ 32) × AreSized vs
-  IsSized _ = Unit
+  pub IsMeasurable : Plain → Type 0
+  IsMeasurable (str s) = length s < 2 ^ 32
+  IsMeasurable (bytes b) = length b < 2 ^ 32
+  IsMeasurable (any k v) = IsMeasurable v
+  IsMeasurable (tuple name vs) = AreMeasurable vs
+  IsMeasurable (list k vs) = (count vs < 2 ^ 32) × AreMeasurable vs
+  IsMeasurable _ = Unit
 
-  pub AreSized : Plains → Type 0
-  AreSized none = Unit
-  AreSized (more v vs) = IsSized v × AreSized vs
+  pub AreMeasurable : Plains → Type 0
+  AreMeasurable none = Unit
+  AreMeasurable (more v vs) = IsMeasurable v × AreMeasurable vs
 
 -- each value has a depth
 some_depth : (v : Plain) → 1 ≤ depth v
@@ -52,9 +53,9 @@ module _ (reg : List Entity) (named : list_all is_named reg ≡ true) where
 
   mutual
     unfolding recast recast_each recast_all abroad abroad_each spelling spellings after afters Spells SpellsStep SpellsAll SpellsEach Fits FitEach
-        FitAll IsSpellable AreSpellable IsSized AreSized depth depth_in
+        FitAll IsSpellable AreSpellable IsMeasurable AreMeasurable depth depth_in
 
-    pub value_sent : (v : Plain) (d : ℕ) (k : Kind) (s : Tables) (h : HeldNames) → depth v ≤ d → Fits reg v k → IsSpellable v → IsSized v
+    pub value_sent : (v : Plain) (d : ℕ) (k : Kind) (s : Tables) (h : HeldNames) → depth v ≤ d → Fits reg v k → IsSpellable v → IsMeasurable v
         → AllCorrespond s h → Carries reg d k s v h
     value_sent v zero k s h deep fits ranged sized c = let some = some_depth v in absurd (omega arith)
     value_sent void (suc d) k s h deep fits ranged sized c = leaf (suc d) k kd.void s void h fits (s, (refl, refl, refl), c)
@@ -88,7 +89,7 @@ module _ (reg : List Entity) (named : list_all is_named reg ≡ true) where
     value_sent (bytes raw) (suc d) k s h deep fits ranged sized c = bytes_case reg named d s h c k raw fits sized
     value_sent (ref r) (suc d) k s h deep fits ranged sized c = ref_case reg named d s h c r k fits ranged
 
-    pub all_sent : (vs : Plains) (d : ℕ) (k : Kind) (s : Tables) (h : HeldNames) → depth_in vs ≤ d → FitAll reg vs k → AreSpellable vs → AreSized vs → AllCorrespond s h
+    pub all_sent : (vs : Plains) (d : ℕ) (k : Kind) (s : Tables) (h : HeldNames) → depth_in vs ≤ d → FitAll reg vs k → AreSpellable vs → AreMeasurable vs → AllCorrespond s h
         → CarriesAll reg d k s vs h
     all_sent none d k s h deep fits ranged sized c = ([], s, refl, refl, (refl, refl), c)
     all_sent (more v vs) d k s h deep fits ranged sized c =
@@ -102,7 +103,7 @@ module _ (reg : List Entity) (named : list_all is_named reg ≡ true) where
           others.5,
         )
 
-    pub each_sent : (vs : Plains) (d : ℕ) (ks : List Kind) (s : Tables) (h : HeldNames) → depth_in vs ≤ d → FitEach reg vs ks → AreSpellable vs → AreSized vs → AllCorrespond s h
+    pub each_sent : (vs : Plains) (d : ℕ) (ks : List Kind) (s : Tables) (h : HeldNames) → depth_in vs ≤ d → FitEach reg vs ks → AreSpellable vs → AreMeasurable vs → AllCorrespond s h
         → CarriesEach reg d ks s vs h
     each_sent none d [] s h deep fits ranged sized c = ([], s, refl, (refl, refl, refl), c)
     each_sent none d (k ∷ ks) s h deep fits ranged sized c = absurd fits

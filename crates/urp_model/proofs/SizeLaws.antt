@@ -13,7 +13,7 @@ use Rattle.uno_model.specs.Weights.{kind_weight, ref_weight, count, weight, weig
 use Rattle.urp_model.specs.NamedKinds.{is_simple}
 use Rattle.uno_model.proofs.MemberKindLaws.{members_ruled, members_some}
 use Rattle.uno_model.proofs.UsedKindLaws.{is_member}
-use Rattle.urp_model.proofs.SentLaws.{IsSized, AreSized}
+use Rattle.urp_model.proofs.SentLaws.{IsMeasurable, AreMeasurable}
 use Rattle.urp_model.proofs.WeightLaws.{compressed_some, simple_weight, named_weight}
 
 -- a type weighs something, and a reference
@@ -66,9 +66,9 @@ module _ (reg : List Entity) (sound : IsSound reg) where
   all_counted (more v vs) t fits is = omega (arith, value_some v t fits.0 is, all_counted vs t fits.1 is)
 
   mutual
-    unfolding weight weights Fits FitEach FitAll IsSized AreSized
+    unfolding weight weights Fits FitEach FitAll IsMeasurable AreMeasurable
 
-    pub light_sized : (v : Plain) (k : Kind) → Fits reg v k → weight v ≤ 16777216 → IsSized v
+    pub light_sized : (v : Plain) (k : Kind) → Fits reg v k → weight v ≤ 16777216 → IsMeasurable v
     light_sized (str s) k fits light = omega arith
     light_sized (any t v) k fits light = light_sized v t fits.3 (omega arith)
     light_sized (tuple name vs) k fits light = each_sized vs (member_kinds reg name) fits.2 light
@@ -78,11 +78,11 @@ module _ (reg : List Entity) (sound : IsSound reg) where
     light_sized (bytes b) k fits light = omega arith
     light_sized _ k fits light = tt
 
-    pub each_sized : (vs : Plains) (ks : List Kind) → FitEach reg vs ks → weights vs ≤ 16777216 → AreSized vs
+    pub each_sized : (vs : Plains) (ks : List Kind) → FitEach reg vs ks → weights vs ≤ 16777216 → AreMeasurable vs
     each_sized none ks fits light = tt
     each_sized (more v vs) [] fits light = absurd fits
     each_sized (more v vs) (k ∷ ks) fits light = (light_sized v k fits.0 (omega arith), each_sized vs ks fits.1 (omega arith))
 
-    all_sized : (vs : Plains) (t : Kind) → FitAll reg vs t → weights vs ≤ 16777216 → AreSized vs
+    all_sized : (vs : Plains) (t : Kind) → FitAll reg vs t → weights vs ≤ 16777216 → AreMeasurable vs
     all_sized none t fits light = tt
     all_sized (more v vs) t fits light = (light_sized v t fits.0 (omega arith), all_sized vs t fits.1 (omega arith))

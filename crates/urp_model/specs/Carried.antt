@@ -1,14 +1,11 @@
--- What a value is where it arrives, what a sender asks of it, and when the tables of the reader answer to the names that the sender holds.
-use Rattle.std.specs.Prelude.{◌≡◌, ℕ, ◌^◌, ◌<◌, false, List, length, get_or, None, Some, FitsSigned}
+-- What a value is where it arrives, and when the tables of the reader answer to the names that the sender holds.
+use Rattle.std.specs.Prelude.{◌≡◌, ℕ, false, List, length, get_or, None, Some}
 use Rattle.std.specs.List.{AllByRecursion}
-use Rattle.std.specs.Int.{w8, w16, w32, w64}
-use Rattle.std.specs.Str.{IsUtf8}
 use Rattle.uno_model.specs.Entities.{Entity}
 use Rattle.uno_model.specs.Fits.{IsIdentity}
 use Rattle.uno_model.specs.Kinds.{Kind, name_of}
 use Rattle.uno_model.specs.Recast.{recast}
-use Rattle.uno_model.specs.Values.{Ref, null, own, peer, Plain, Plains, char, byte, short, unsigned_short, long, unsigned_long}
-use Rattle.uno_model.specs.Values.{hyper, unsigned_hyper, str, kind, any, enum, tuple, list, ref, none, more}
+use Rattle.uno_model.specs.Values.{Ref, null, own, peer, Plain, Plains, kind, any, tuple, list, ref, none, more}
 use Rattle.urp_model.specs.Held.{holds, StandsFor}
 use Rattle.urp_model.specs.NamedKinds.{is_simple}
 use Rattle.urp_model.specs.Tables.{Table, Tables, meaning}
@@ -36,35 +33,6 @@ unfoldable mutual
 -- a value as it arrives at a type: each object is one of the peer, under the interface at its place
 abbrev pub carried : List Entity → Plain → Kind → Plain
 carried reg v k = abroad (recast reg v k)
-
--- an identity is UTF-8
-abbrev pub IsSpellableRef : Ref → Type 0
-IsSpellableRef null = Unit
-IsSpellableRef (own oid face) = IsUtf8 oid
-IsSpellableRef (peer oid face) = IsUtf8 oid
-
--- each number is in the range of its type, and each text and identity is UTF-8
-unfoldable mutual
-  pub IsSpellable : Plain → Type 0
-  IsSpellable (char n) = n < 2 ^ 16
-  IsSpellable (byte n) = FitsSigned w8 n
-  IsSpellable (short n) = FitsSigned w16 n
-  IsSpellable (unsigned_short n) = n < 2 ^ 16
-  IsSpellable (long n) = FitsSigned w32 n
-  IsSpellable (unsigned_long n) = n < 2 ^ 32
-  IsSpellable (hyper n) = FitsSigned w64 n
-  IsSpellable (unsigned_hyper n) = n < 2 ^ 64
-  IsSpellable (str s) = IsUtf8 s
-  IsSpellable (any k v) = IsSpellable v
-  IsSpellable (enum name n) = FitsSigned w32 n
-  IsSpellable (tuple name vs) = AreSpellable vs
-  IsSpellable (list k vs) = AreSpellable vs
-  IsSpellable (ref r) = IsSpellableRef r
-  IsSpellable _ = Unit
-
-  pub AreSpellable : Plains → Type 0
-  AreSpellable none = Unit
-  AreSpellable (more v vs) = IsSpellable v × AreSpellable vs
 
 -- each identity that a slot means has 1 to 4,096 bytes
 abbrev pub MeansIdentities : Table → Type 0

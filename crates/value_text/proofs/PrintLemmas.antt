@@ -1,7 +1,7 @@
 -- Texts joined by commas, one after the other.
 use Rattle.std.proofs.Common.{◌≡◌, ◌<◌, ◌≤◌, ◌+◌, length, drop, get_or, Bool, true, false, List, [], ◌∷◌, ◌++◌, ℕ, refl, sym, ap, ◌∙◌, codes}
 use Rattle.std.proofs.lemmas.List.{append-nil, append_assoc, drop_more, drop_all}
-use Rattle.uno_model.specs.Literals.{joined}
+use Rattle.literal_model.specs.Literals.{joined}
 use Rattle.value_text.specs.Printing.{comma_before}
 
 -- what is left of texts that are joined, where the next is the first or another

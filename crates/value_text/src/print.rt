@@ -4,7 +4,7 @@ ghost use Rattle.std.specs.List.{flat_map};
 ghost use Rattle.std.specs.Fmt.{decimal, signed_decimal};
 ghost use Rattle.uno_model.specs.Defaults.{items_of};
 ghost use Rattle.uno_model.specs.Kinds.{name_of};
-ghost use Rattle.uno_model.specs.Literals.{print, print_each, joined, quoted, escaped, first_item, item_text, byte_text, ref_text};
+ghost use Rattle.literal_model.specs.Literals.{print, print_each, joined, quoted, escaped, first_item, item_text, byte_text, ref_text};
 ghost use Rattle.uno_model.specs.Registry.{find_entity};
 ghost use Rattle.uno_model.specs.Values as plain;
 ghost use Rattle.uno_entities.specs.TypeNames.{kind_of};
@@ -29,7 +29,7 @@ pub fn print_value(alloc: Global, registry: &Registry, value: &Value) -> Result<
 
 /// As deep as the value is nested.
 #[cycle(print)]
-#[tactic(auto, unfolding(uno_model::specs::Literals::print))]
+#[tactic(auto, unfolding(literal_model::specs::Literals::print))]
 fn push_value(
     alloc: Global,
     text: &mut Vec<u8>,
@@ -63,7 +63,7 @@ fn push_value(
 
 /// The type in brackets, and behind it the value; void has none.
 #[cycle(print)]
-#[tactic(auto, unfolding(uno_model::specs::Literals::print))]
+#[tactic(auto, unfolding(literal_model::specs::Literals::print))]
 fn push_any(
     alloc: Global,
     text: &mut Vec<u8>,

@@ -7,7 +7,7 @@ use Rattle.uno_model.specs.Kinds as kd
 use Rattle.uno_model.specs.Sound.{IsSound}
 use Rattle.uno_model.specs.Values.{Ref, null, own, peer, Plain, Plains, str, kind, any, tuple, list, bytes, ref, none, more}
 use Rattle.uno_model.specs.Weights.{kind_weight, ref_weight, weight, weights}
-use Rattle.urp_model.proofs.SentLaws.{IsSized, AreSized}
+use Rattle.urp_model.proofs.SentLaws.{IsMeasurable, AreMeasurable}
 use Rattle.urp_model.proofs.SizeLaws.{light_sized}
 use Rattle.wire_writing.specs.Written.{IsWritableRef, IsWritable, AreWritable}
 
@@ -26,9 +26,9 @@ light_ref (own oid face) light = omega arith
 light_ref (peer oid face) light = omega arith
 
 mutual
-  unfolding weight weights IsSized AreSized IsWritable AreWritable
+  unfolding weight weights IsMeasurable AreMeasurable IsWritable AreWritable
 
-  sized_writable : (v : Plain) → weight v ≤ 16777216 → IsSized v → IsWritable v
+  sized_writable : (v : Plain) → weight v ≤ 16777216 → IsMeasurable v → IsWritable v
   sized_writable (str s) light sized = sized
   sized_writable (kind k) light sized = light_name k light
   sized_writable (any k v) light sized = (light_name k (omega arith), sized_writable v (omega arith) sized)
@@ -38,7 +38,7 @@ mutual
   sized_writable (ref r) light sized = light_ref r light
   sized_writable _ light sized = tt
 
-  pub all_writable : (vs : Plains) → weights vs ≤ 16777216 → AreSized vs → AreWritable vs
+  pub all_writable : (vs : Plains) → weights vs ≤ 16777216 → AreMeasurable vs → AreWritable vs
   all_writable none light sized = tt
   all_writable (more v vs) light sized = (sized_writable v (omega arith) sized.0, all_writable vs (omega arith) sized.1)
 

@@ -7,7 +7,8 @@ use Rattle.uno_model.specs.Kinds.{Kind}
 use Rattle.uno_model.specs.Sound.{IsSound}
 use Rattle.uno_model.specs.Values.{Plain, depth}
 use Rattle.uno_model.specs.Weights.{weight}
-use Rattle.urp_model.specs.Carried.{carried, IsSpellable, AllCorrespond}
+use Rattle.uno_model.specs.Spellable.{IsSpellable}
+use Rattle.urp_model.specs.Carried.{carried, AllCorrespond}
 use Rattle.urp_model.specs.Reading.{value_at}
 use Rattle.urp_model.specs.Tables.{Tables}
 use Rattle.urp_model.specs.Writing.{HeldNames, after, spelling}

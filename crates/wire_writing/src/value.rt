@@ -3,10 +3,10 @@ ghost use Rattle.std.specs.Prelude.{◌≡◌, ◌<◌, ◌^◌, ◌++◌, lengt
 ghost use Rattle.std.specs.Str.{IsUtf8};
 ghost use Rattle.uno_model.specs.Kinds.{name_of};
 ghost use Rattle.uno_model.specs.Weights.{count};
+ghost use Rattle.uno_model.specs.Spellable.{AreBytes, IsSpellable, IsSpellableRef, AreSpellable};
 ghost use Rattle.uno_entities.specs.TypeNames.{kind_of};
 ghost use Rattle.uno_values.specs.References.{ref_of};
 ghost use Rattle.uno_values.specs.Values.{plain_of, plains_of};
-ghost use Rattle.urp_model.specs.Carried.{IsSpellable, IsSpellableRef, AreSpellable};
 ghost use Rattle.urp_model.specs.Writing.{compressed, measured, spelling, spellings, after, afters, kind_spelling, kind_after, holding_types, ref_spelling, ref_after};
 ghost use Rattle.wire_writing.specs.Written.{names_of, IsWritable, AreWritable, IsWritableRef};
 
@@ -22,7 +22,7 @@ use urp_cache::{SendCache, SendCaches};
 
 /// A value, whose parts have lengths of four bytes.
 #[cycle(write)]
-#[tactic(auto, unfolding(urp_model::specs::Writing::spelling, urp_model::specs::Writing::spellings, urp_model::specs::Writing::after, urp_model::specs::Writing::afters, urp_model::specs::Carried::IsSpellable, urp_model::specs::Carried::AreSpellable, crate::specs::Written::IsWritable, crate::specs::Written::AreWritable))]
+#[tactic(auto, unfolding(urp_model::specs::Writing::spelling, urp_model::specs::Writing::spellings, urp_model::specs::Writing::after, urp_model::specs::Writing::afters, uno_model::specs::Spellable::IsSpellable, uno_model::specs::Spellable::AreSpellable, crate::specs::Written::IsWritable, crate::specs::Written::AreWritable))]
 pub fn put_value(
     alloc: Global,
     caches: &mut SendCaches,
@@ -51,7 +51,7 @@ pub fn put_value(
         Value::Enum(_, number) => put_four_bytes(number.cast_unsigned(), to),
         Value::Tuple(_, members) => put_all(alloc, caches, members, to),
         Value::List(_, elements) => put_list(alloc, caches, elements, to),
-        Value::Bytes(bytes) => put_measured(bytes, to),
+        Value::Bytes(bytes) => put_bytes(bytes, to),
         Value::Ref(reference) => put_reference(&mut caches.oids, reference, to),
     }
 }
@@ -62,6 +62,14 @@ fn put_text(text: &Text, to: &mut Vec<u8>) -> Result<(), NoMemory>
     ensures text { IsUtf8 text.now }
 {
     put_measured(text.as_str().as_bytes(), to)
+}
+
+fn put_bytes(bytes: &[u8], to: &mut Vec<u8>) -> Result<(), NoMemory>
+    requires { length bytes.now < 2 ^ 32 }
+    ensures bytes { OnOk result (to.new.items ≡ to.old.items ++ measured bytes.now) }
+    ensures ranges { AreBytes bytes.now }
+{
+    put_measured(bytes, to)
 }
 
 /// The type, and what the any holds.
@@ -105,7 +113,7 @@ fn put_list(
 
 /// One after the other.
 #[cycle(write)]
-#[tactic(auto, unfolding(urp_model::specs::Writing::spelling, urp_model::specs::Writing::spellings, urp_model::specs::Writing::after, urp_model::specs::Writing::afters, urp_model::specs::Carried::IsSpellable, urp_model::specs::Carried::AreSpellable, crate::specs::Written::IsWritable, crate::specs::Written::AreWritable))]
+#[tactic(auto, unfolding(urp_model::specs::Writing::spelling, urp_model::specs::Writing::spellings, urp_model::specs::Writing::after, urp_model::specs::Writing::afters, uno_model::specs::Spellable::IsSpellable, uno_model::specs::Spellable::AreSpellable, crate::specs::Written::IsWritable, crate::specs::Written::AreWritable))]
 pub fn put_all(
     alloc: Global,
     caches: &mut SendCaches,

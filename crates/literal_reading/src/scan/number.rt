@@ -1,6 +1,6 @@
 //! Numbers, from the lowest hyper to the largest unsigned hyper.
 ghost use Rattle.std.specs.Prelude.{◌≡◌, ◌≤◌, ◌^◌, IfOk};
-ghost use Rattle.uno_model.specs.Shapes.{number_at, digits_at, digits_on};
+ghost use Rattle.literal_model.specs.Shapes.{number_at, digits_at, digits_on};
 ghost use Rattle.literal_reading.specs.Scanning.{Scans, token_of};
 
 use crate::stop::Stop;
@@ -46,7 +46,7 @@ fn digits_at(limit: u128, bytes: &[u8]) -> Result<(u128, &[u8]), Stop>
 }
 
 /// The digits behind a number, as long as it stays within the limit.
-#[tactic(auto, unfolding(uno_model::specs::Shapes::digits_on))]
+#[tactic(auto, unfolding(literal_model::specs::Shapes::digits_on))]
 fn digits_on(limit: u128, begun: u128, bytes: &[u8]) -> Result<(u128, &[u8]), Stop>
     requires some { 1 ≤ begun }
     requires within { begun ≤ limit }

@@ -2,7 +2,7 @@
 ghost use Rattle.std.specs.Prelude.{◌≡◌, IsTrue};
 ghost use Rattle.std.specs.List.{list_all};
 ghost use Rattle.uno_model.specs.Names.{goes_on_identifier};
-ghost use Rattle.uno_model.specs.Shapes.{front, rest};
+ghost use Rattle.literal_model.specs.Shapes.{front, rest};
 ghost use Rattle.literal_reading.specs.Scanning.{test_of};
 
 /// The bytes of a word are letters, digits and `_`, those of a type's name also `.`, `[`, `]` and blanks.

@@ -2,7 +2,7 @@
 ghost use Rattle.std.specs.Prelude.{◌≡◌, IsTrue, IfOk, option_map};
 ghost use Rattle.std.specs.List.{list_all};
 ghost use Rattle.uno_model.specs.NamedTypes.{type_of_text};
-ghost use Rattle.uno_model.specs.Shapes.{type_at};
+ghost use Rattle.literal_model.specs.Shapes.{type_at};
 ghost use Rattle.uno_model.specs.Sound.{IsSound};
 ghost use Rattle.uno_entities.specs.TypeNames.{kind_of};
 ghost use Rattle.literal_reading.specs.Scanning.{Scans, test_of};

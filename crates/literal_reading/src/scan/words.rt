@@ -2,8 +2,8 @@
 ghost use Rattle.std.specs.Prelude.{◌≡◌, map};
 ghost use Rattle.std.specs.List.{list_any};
 ghost use Rattle.uno_model.specs.Defaults.{items_of};
-ghost use Rattle.uno_model.specs.Literals.{first_item};
-ghost use Rattle.uno_model.specs.Shapes.{word_at, is_known_word, is_own_word, is_first_name, is_some_name};
+ghost use Rattle.literal_model.specs.Literals.{first_item};
+ghost use Rattle.literal_model.specs.Shapes.{word_at, is_known_word, is_own_word, is_first_name, is_some_name};
 ghost use Rattle.uno_entities.specs.Entities.{item_of, entity_of, entities_of};
 ghost use Rattle.literal_reading.specs.Scanning.{Scans, token_of};
 

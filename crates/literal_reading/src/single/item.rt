@@ -1,7 +1,7 @@
 //! The literals of an enum: the name of the first item of a number, and a number that no item has.
 ghost use Rattle.std.specs.Prelude.{◌≡◌, map, option_map};
 ghost use Rattle.uno_model.specs.Defaults.{items_of};
-ghost use Rattle.uno_model.specs.Readings.{number_named, item_of_word, item_of_number, item_in};
+ghost use Rattle.literal_model.specs.Readings.{number_named, item_of_word, item_of_number, item_in};
 ghost use Rattle.uno_model.specs.Registry.{find_entity};
 ghost use Rattle.uno_entities.specs.Entities.{item_of};
 ghost use Rattle.literal_reading.specs.Scanning.{token_of};
@@ -34,7 +34,7 @@ fn item_of_word(items: &[Item], word: &str) -> Option<i32>
 }
 
 /// The number of the first item of this name.
-#[tactic(auto, unfolding(uno_model::specs::Readings::number_named))]
+#[tactic(auto, unfolding(literal_model::specs::Readings::number_named))]
 fn number_named(items: &[Item], word: &str) -> Option<i32>
     ensures { result ≡ number_named (map item_of items.now) word.now }
 {

@@ -1,6 +1,6 @@
 //! Numbers within the range of a type.
 ghost use Rattle.std.specs.Prelude.{◌≡◌};
-ghost use Rattle.uno_model.specs.Readings.{unsigned_of, signed_of};
+ghost use Rattle.literal_model.specs.Readings.{unsigned_of, signed_of};
 
 pub(crate) fn to_u16(number: i128) -> Option<u16>
     ensures { result ≡ unsigned_of 16 number }

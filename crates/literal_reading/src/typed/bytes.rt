@@ -1,6 +1,6 @@
 //! The elements of a sequence of bytes.
 ghost use Rattle.std.specs.Prelude.{◌≡◌, length};
-ghost use Rattle.uno_model.specs.Readings.{only_token, byte_in, sequence_of, elements_in, elements_on};
+ghost use Rattle.literal_model.specs.Readings.{only_token, byte_in, sequence_of, elements_in, elements_on};
 ghost use Rattle.literal_reading.specs.Scanning.{all_placed};
 ghost use Rattle.literal_reading.specs.Typing.{Gives, with_firsts};
 

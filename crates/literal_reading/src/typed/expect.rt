@@ -1,6 +1,6 @@
 //! The tokens that stand round values: brackets and commas.
 ghost use Rattle.std.specs.Prelude.{◌≡◌};
-ghost use Rattle.uno_model.specs.Readings.{expect, comma_at, left_at};
+ghost use Rattle.literal_model.specs.Readings.{expect, comma_at, left_at};
 ghost use Rattle.literal_reading.specs.Scanning.{token_of, all_placed};
 ghost use Rattle.literal_reading.specs.Typing.{Gives, mark_test};
 

@@ -1,6 +1,6 @@
 use Rattle.std.proofs.Common.{arith}
 use Rattle.std.proofs.lemmas.Grind.{common_steps}
-use Rattle.uno_model.specs.Literals.{first_item}
+use Rattle.literal_model.specs.Literals.{first_item}
 use Rattle.literal_reading.proofs.items.first_item.Goals as goal
 
 pub returns-then-item-number : goal.returns-then-item-number

@@ -1,5 +1,5 @@
 use Rattle.std.proofs.Common.{◌≡◌, map, drop}
-use Rattle.uno_model.specs.Literals.{first_item}
+use Rattle.literal_model.specs.Literals.{first_item}
 use Rattle.uno_entities.specs.Entities.{item_of}
 use Rattle.literal_reading.proofs.items.first_item.Given as goal
 

@@ -1,5 +1,5 @@
 use Rattle.std.proofs.Common.{◌≡◌, ◌-◌, ◌+◌, ◌∙◌, suc, length, sym, false, true, arith}
-use Rattle.uno_model.specs.Shapes.{is_whole}
+use Rattle.literal_model.specs.Shapes.{is_whole}
 use Rattle.literal_reading.proofs.OrderLemmas.{tokens_end, tokens_next, tokens_out, scan_stops, handed_on}
 use Rattle.literal_reading.specs.Scanning.{all_placed, awaited_of, outer_of, token_of}
 use Rattle.literal_reading.proofs.order.push_tokens.Goals as goal

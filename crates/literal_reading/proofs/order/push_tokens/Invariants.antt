@@ -1,5 +1,5 @@
 use Rattle.std.proofs.Common.{◌≡◌, ◌-◌, suc, length}
-use Rattle.uno_model.specs.Shapes.{value, tokens_at}
+use Rattle.literal_model.specs.Shapes.{value, tokens_at}
 use Rattle.literal_reading.specs.Scanning.{all_placed, awaited_of, outer_of, with_tokens}
 use Rattle.literal_reading.proofs.order.push_tokens.Given as goal
 

@@ -1,6 +1,6 @@
 use Rattle.std.proofs.Common.{◌≡◌, ◌-◌, ◌+◌, ◌∙◌, [], length, map, sym, ap, arith}
 use Rattle.std.proofs.lemmas.List.{nil_from_length, map-append}
-use Rattle.uno_model.specs.Readings.{value_within}
+use Rattle.literal_model.specs.Readings.{value_within}
 use Rattle.uno_model.specs.Entities.{Field}
 use Rattle.uno_model.specs.Registry.{all_members}
 use Rattle.uno_entities.specs.TypeNames.{kind_of}

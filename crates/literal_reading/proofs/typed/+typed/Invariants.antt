@@ -1,5 +1,5 @@
 use Rattle.std.proofs.Common.{◌≡◌, ◌+◌, ◌*◌, ◌-◌, length, map, drop, true}
-use Rattle.uno_model.specs.Readings.{value_within, elements_on, members_on}
+use Rattle.literal_model.specs.Readings.{value_within, elements_on, members_on}
 use Rattle.uno_entities.specs.TypeNames.{kind_of}
 use Rattle.uno_values.specs.Values.{plain_of}
 use Rattle.literal_reading.specs.Scanning.{all_placed}

@@ -1,5 +1,5 @@
 use Rattle.std.proofs.Common.{refl, ap, ◌++◌, arith}
-use Rattle.uno_model.specs.Literals.{print, print_each}
+use Rattle.literal_model.specs.Literals.{print, print_each}
 use Rattle.uno_values.specs.Values.{plain_of, plains_of}
 use Rattle.value_text.proofs.PrintLemmas.{joined_on_all, joins_next, joins_all}
 use Rattle.value_text.proofs.print.+print.Goals as goal

@@ -1,5 +1,5 @@
 use Rattle.std.proofs.Common.{◌≡◌, ◌++◌, drop}
-use Rattle.uno_model.specs.Literals.{joined, print_each}
+use Rattle.literal_model.specs.Literals.{joined, print_each}
 use Rattle.uno_values.specs.Values.{plains_of}
 use Rattle.value_text.proofs.PrintLemmas.{joined_on}
 use Rattle.value_text.proofs.print.+print.Given as goal

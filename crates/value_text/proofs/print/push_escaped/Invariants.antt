@@ -1,6 +1,6 @@
 use Rattle.std.proofs.Common.{◌≡◌, ◌++◌, drop}
 use Rattle.std.specs.List.{flat_map}
-use Rattle.uno_model.specs.Literals.{escaped}
+use Rattle.literal_model.specs.Literals.{escaped}
 use Rattle.value_text.proofs.print.push_escaped.Given as goal
 
 abbrev pub invariant-loop-byte : goal.invariant-loop-byte

@@ -1,6 +1,6 @@
 use Rattle.std.proofs.Common.{◌≡◌, ◌<◌, length, get_or, map, refl, ap, ◌++◌, arith, rules}
 use Rattle.std.proofs.lemmas.List.{get_or_default}
-use Rattle.uno_model.specs.Literals.{byte_text}
+use Rattle.literal_model.specs.Literals.{byte_text}
 use Rattle.value_text.proofs.PrintLemmas.{joined_on_all, joins_next, joins_all}
 use Rattle.value_text.proofs.print.push_numbers.Goals as goal
 

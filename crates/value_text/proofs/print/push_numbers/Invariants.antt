@@ -1,5 +1,5 @@
 use Rattle.std.proofs.Common.{◌≡◌, ◌++◌, drop, map}
-use Rattle.uno_model.specs.Literals.{joined, byte_text}
+use Rattle.literal_model.specs.Literals.{joined, byte_text}
 use Rattle.value_text.proofs.PrintLemmas.{joined_on}
 use Rattle.value_text.proofs.print.push_numbers.Given as goal
 

@@ -1,9 +1,9 @@
 use Rattle.std.specs.Prelude.{◌≡◌, ◌++◌, drop}
 use Rattle.uno_values.specs.Values.{plains_of}
-use Rattle.urp_model.specs.Carried.{AreSpellable}
 use Rattle.urp_model.specs.Writing.{spellings, afters}
 use Rattle.wire_writing.specs.Written.{names_of, AreWritable}
 use Rattle.wire_writing.proofs.value.+write.Given as goal
+use Rattle.uno_model.specs.Spellable.{AreSpellable}
 
 abbrev pub invariant-put_all-loop-value : goal.invariant-put_all-loop-value
 invariant-put_all-loop-value l = record {

@@ -1,5 +1,5 @@
 use Rattle.std.proofs.Common.{◌≡◌, ◌≤◌, length}
-use Rattle.uno_model.specs.Shapes.{digits_on}
+use Rattle.literal_model.specs.Shapes.{digits_on}
 use Rattle.literal_reading.proofs.scan.number.digits_on.Given as goal
 
 abbrev pub invariant-loop-first : goal.invariant-loop-first

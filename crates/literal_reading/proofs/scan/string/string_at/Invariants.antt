@@ -1,5 +1,5 @@
 use Rattle.std.proofs.Common.{◌≡◌, length, false}
-use Rattle.uno_model.specs.Shapes.{string_at}
+use Rattle.literal_model.specs.Shapes.{string_at}
 use Rattle.literal_reading.proofs.ScanLemmas.{with_all}
 use Rattle.literal_reading.proofs.scan.string.string_at.Given as goal
 

@@ -1,7 +1,7 @@
 use Rattle.std.proofs.Common.{◌≡◌, drop, map}
 use Rattle.std.specs.List.{list_any}
-use Rattle.uno_model.specs.Literals.{first_item}
-use Rattle.uno_model.specs.Shapes.{is_some_name}
+use Rattle.literal_model.specs.Literals.{first_item}
+use Rattle.literal_model.specs.Shapes.{is_some_name}
 use Rattle.uno_entities.specs.Entities.{item_of}
 use Rattle.literal_reading.proofs.scan.words.is_first_name.Given as goal
 

@@ -1,7 +1,7 @@
 use Rattle.std.proofs.Common.{◌≡◌, drop, Some}
 use Rattle.std.specs.List.{list_any}
 use Rattle.uno_model.specs.Defaults.{items_of}
-use Rattle.uno_model.specs.Shapes.{is_first_name}
+use Rattle.literal_model.specs.Shapes.{is_first_name}
 use Rattle.uno_entities.specs.Entities.{entities_of}
 use Rattle.literal_reading.proofs.scan.words.is_item_of_some.Given as goal
 

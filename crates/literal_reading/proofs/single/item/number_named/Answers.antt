@@ -1,6 +1,6 @@
 use Rattle.std.proofs.Common.{arith}
 use Rattle.std.proofs.lemmas.Grind.{common_steps}
-use Rattle.uno_model.specs.Readings.{number_named}
+use Rattle.literal_model.specs.Readings.{number_named}
 use Rattle.literal_reading.proofs.single.item.number_named.Goals as goal
 
 pub returns-then-eq : goal.returns-then-eq

@@ -1,5 +1,5 @@
 use Rattle.std.proofs.Common.{◌≡◌, drop, map}
-use Rattle.uno_model.specs.Readings.{number_named}
+use Rattle.literal_model.specs.Readings.{number_named}
 use Rattle.uno_entities.specs.Entities.{item_of}
 use Rattle.literal_reading.proofs.single.item.number_named.Given as goal
 

@@ -1,6 +1,6 @@
 use Rattle.std.proofs.Common.{◌≡◌, ◌-◌, ◌+◌, [], length, sym, ap, arith}
 use Rattle.std.proofs.lemmas.List.{nil_from_length}
-use Rattle.uno_model.specs.Readings.{only_token, byte_in}
+use Rattle.literal_model.specs.Readings.{only_token, byte_in}
 use Rattle.literal_reading.proofs.TypedLemmas.{element_fails, element_alone, element_last, element_lost, element_next, handed_over}
 use Rattle.literal_reading.specs.Scanning.{all_placed, placed_of}
 use Rattle.literal_reading.proofs.typed.bytes.bytes_on.Goals as goal

@@ -1,5 +1,5 @@
 use Rattle.std.proofs.Common.{◌≡◌, ◌-◌, length}
-use Rattle.uno_model.specs.Readings.{elements_on, only_token, byte_in}
+use Rattle.literal_model.specs.Readings.{elements_on, only_token, byte_in}
 use Rattle.literal_reading.specs.Scanning.{all_placed}
 use Rattle.literal_reading.specs.Typing.{with_firsts}
 use Rattle.literal_reading.proofs.typed.bytes.bytes_on.Given as goal

@@ -1,41 +1,13 @@
--- The tokens of a value's literal, and which tokens there are in a registry.
-use Rattle.std.specs.Prelude.{ℕ, ◌<◌, ◌^◌, ℤ, pos, negsuc, Bool, true, false, List, [], ◌∷◌, ◌++◌, Option, None, Some, All, codes}
+-- The tokens of a value's literal.
+use Rattle.std.specs.Prelude.{ℕ, ℤ, pos, Bool, true, false, List, [], ◌∷◌, ◌++◌, Option, None, Some, codes}
 use Rattle.std.specs.Int.{w8, cast_signed}
 use Rattle.uno_model.specs.Defaults.{items_of}
 use Rattle.uno_model.specs.Entities.{Entity}
-use Rattle.uno_model.specs.Literals.{first_item}
+use Rattle.literal_model.specs.Literals.{first_item}
 use Rattle.uno_model.specs.Registry.{find_entity}
-use Rattle.uno_model.specs.Shapes.{Token, opens, closes, comma, number, word, string, named, cast, square, curly}
+use Rattle.literal_model.specs.Shapes.{Token, opens, closes, comma, number, word, string, named, cast, square, curly}
 use Rattle.uno_model.specs.Values.{Plain, Plains, void, char, boolean, byte, short, unsigned_short, long, unsigned_long, hyper}
 use Rattle.uno_model.specs.Values.{unsigned_hyper, str, kind, any, enum, tuple, list, bytes, ref, none, more}
-
--- each number is one of its type
-abbrev pub InRange : ℕ → ℤ → Type 0
-InRange bits (pos n) = n < 2 ^ bits
-InRange bits (negsuc n) = n < 2 ^ bits
-
-unfoldable mutual
-  pub IsSized : Plain → Type 0
-  IsSized (char n) = n < 2 ^ 16
-  IsSized (byte n) = InRange 7 n
-  IsSized (short n) = InRange 15 n
-  IsSized (unsigned_short n) = n < 2 ^ 16
-  IsSized (long n) = InRange 31 n
-  IsSized (unsigned_long n) = n < 2 ^ 32
-  IsSized (hyper n) = InRange 63 n
-  IsSized (unsigned_hyper n) = n < 2 ^ 64
-  IsSized (any k v) = IsSized v
-  IsSized (enum name n) = InRange 31 n
-  IsSized (tuple name vs) = AllSized vs
-  IsSized (list k vs) = AllSized vs
-  IsSized (bytes b) = All (λ c. c < 2 ^ 8) b
-  IsSized _ = Unit
-
-  pub AllSized : Plains → Type 0
-  AllSized none = Unit
-  AllSized (more v vs) = IsSized v × AllSized vs
-
--- ---- the tokens of a literal
 
 -- the name of an item, or the number where no item has it
 abbrev pub item_token : Option (List ℕ) → ℤ → Token

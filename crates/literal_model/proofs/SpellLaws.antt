@@ -4,10 +4,10 @@ use Rattle.std.proofs.lemmas.List.{append-nil, append_assoc}
 use Rattle.uno_model.specs.Entities.{Entity}
 use Rattle.uno_model.specs.Kinds.{name_of}
 use Rattle.uno_model.specs.Defaults.{items_of}
-use Rattle.uno_model.specs.Literals.{first_item, joined, print, print_each, item_text, byte_text}
+use Rattle.literal_model.specs.Literals.{first_item, joined, print, print_each, item_text, byte_text}
 use Rattle.uno_model.specs.Registry.{find_entity}
-use Rattle.uno_model.specs.Shapes.{Token, closes, word, square, curly, spell, spells}
-use Rattle.uno_model.specs.Tokens.{tokens_of, tokens_in, byte_tokens, comma_tokens, item_token}
+use Rattle.literal_model.specs.Shapes.{Token, closes, word, square, curly, spell, spells}
+use Rattle.literal_model.specs.Tokens.{tokens_of, tokens_in, byte_tokens, comma_tokens, item_token}
 use Rattle.uno_model.specs.Values.{Ref, null, own, peer, Plain, Plains, void, char, boolean, byte, short, unsigned_short, long, unsigned_long}
 use Rattle.uno_model.specs.Values.{hyper, unsigned_hyper, str, kind, any, enum, tuple, list, bytes, ref, none, more, refs, refs_in}
 

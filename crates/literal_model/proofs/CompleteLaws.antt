@@ -1,31 +1,33 @@
 -- The tokens of a value that fits a type are read as that value, unless it is nested too deep.
 use Rattle.std.proofs.Common.{◌≡◌, ◌≢◌, ℕ, zero, suc, ◌+◌, ◌<◌, ◌≤◌, ◌^◌, ℤ, pos, negsuc, Bool, true, false, not, List, [], ◌∷◌, ◌++◌, length, map, Option}
-use Rattle.std.proofs.Common.{None, Some, Result, Ok, Err, ◌⊎◌, inl, inr, All, refl, sym, ap, subst, ◌∙◌, codes, arith, nat_lt, length-append}
+use Rattle.std.proofs.Common.{None, Some, Result, Ok, Err, ◌⊎◌, inl, inr, refl, sym, ap, subst, ◌∙◌, codes, arith, nat_lt, length-append, FitsSigned}
 use Rattle.std.proofs.lemmas.Bool.{and_parts, lt-ltb, ltb-true, ltb-false, not-true, or_parts}
 use Rattle.std.proofs.lemmas.Bool.Decides.{Decides-int_eq}
 use Rattle.std.proofs.lemmas.Int.{of_z-to_z}
 use Rattle.std.proofs.lemmas.List.{append_assoc, length-map}
 use Rattle.std.proofs.lemmas.Slice.Eq.{bytes_eq-Decides}
-use Rattle.std.specs.Int.{w8, cast_signed}
+use mir.Val.{hbits}
+use Rattle.std.specs.Int.{Width, w8, w16, w32, w64, cast_signed}
 use Rattle.std.specs.Ordering.{int_eq}
 use Rattle.std.specs.List.{list_all, list_any}
 use Rattle.std.specs.Str.{bytes_eq}
-use Rattle.uno_model.proofs.SpellLaws.{append_none}
-use Rattle.uno_model.proofs.TypedLaws.{bare, listed, listed_plains, listed_bytes, Each, byte_token, any_tokens}
+use Rattle.literal_model.proofs.SpellLaws.{append_none}
+use Rattle.literal_model.proofs.TypedLaws.{bare, listed, listed_plains, listed_bytes, Each, byte_token, any_tokens}
 use Rattle.uno_model.specs.Defaults.{items_of}
 use Rattle.uno_model.specs.Entities.{Entity, Item, Body}
 use Rattle.uno_model.specs.Entities as plain
 use Rattle.uno_model.specs.Fits.{Fits, FitEach, FitAll, RefFits, IsTupleKind, member_kinds}
 use Rattle.uno_model.specs.Kinds.{Kind}
 use Rattle.uno_model.specs.Kinds as kd
-use Rattle.uno_model.specs.Literals.{first_item}
-use Rattle.uno_model.specs.Readings.{Fault, deep, Reads, left_at, unsigned_of, signed_of, number_named, item_in, some_as, single, of_token, only_token}
-use Rattle.uno_model.specs.Readings.{cast_in, is_comma, opens_square, opens_curly, closes_square, closes_curly, expect, elements_on, elements_in}
-use Rattle.uno_model.specs.Readings.{sequence_of, comma_at, members_on, tuple_of, is_void, any_of, byte_in, value_step, value_within}
+use Rattle.literal_model.specs.Literals.{first_item}
+use Rattle.literal_model.specs.Readings.{Fault, deep, Reads, left_at, unsigned_of, signed_of, number_named, item_in, some_as, single, of_token, only_token}
+use Rattle.literal_model.specs.Readings.{cast_in, is_comma, opens_square, opens_curly, closes_square, closes_curly, expect, elements_on, elements_in}
+use Rattle.literal_model.specs.Readings.{sequence_of, comma_at, members_on, tuple_of, is_void, any_of, byte_in, value_step, value_within}
 use Rattle.uno_model.specs.Registry.{find_entity}
-use Rattle.uno_model.specs.Shapes.{Token, opens, closes, comma, number, word, string, named, cast, square, curly, Placed, on_ok}
+use Rattle.literal_model.specs.Shapes.{Token, opens, closes, comma, number, word, string, named, cast, square, curly, Placed, on_ok}
 use Rattle.uno_model.specs.Sound.{all_differ, items_differ}
-use Rattle.uno_model.specs.Tokens.{InRange, IsSized, AllSized, tokens_of, tokens_in, byte_tokens, comma_tokens, item_token}
+use Rattle.literal_model.specs.Tokens.{tokens_of, tokens_in, byte_tokens, comma_tokens, item_token}
+use Rattle.uno_model.specs.Spellable.{AreBytes, IsSpellable, AreSpellable}
 use Rattle.uno_model.specs.Types.{is_type}
 use Rattle.uno_model.specs.Values.{Ref, null, own, peer, Plain, Plains, plains, none, more, refs, refs_in, held}
 use Rattle.uno_model.specs.Values as v
@@ -35,7 +37,7 @@ abbrev pub Comes : {X : Type 0} → Result (X × List Placed) Fault → X → Li
 Comes r x ts = (r ≡ Err deep) ⊎ ((rs : List Placed) × (bare rs ≡ ts) × (r ≡ Ok (x, rs)))
 
 abbrev pub Comes_all : List Entity → (Kind → Reads Plain) → Type 0
-Comes_all reg read = (k : Kind) (x : Plain) (ps : List Placed) (ts : List Token) → Fits reg x k → refs x ≡ [] → IsSized x → bare ps ≡ tokens_of reg x ++ ts → Comes (read k ps) x ts
+Comes_all reg read = (k : Kind) (x : Plain) (ps : List Placed) (ts : List Token) → Fits reg x k → refs x ≡ [] → IsSpellable x → bare ps ≡ tokens_of reg x ++ ts → Comes (read k ps) x ts
 
 -- tokens begin with one
 pub one_token : (ps : List Placed) (t : Token) (ts : List Token) → bare ps ≡ t ∷ ts → (p : Placed) × (qs : List Placed) × (ps ≡ p ∷ qs) × (p.token ≡ t) × (bare qs ≡ ts)
@@ -55,9 +57,9 @@ single_comes reg k x t ps ts e one =
 unsigned_back : (bits n : ℕ) → n < 2 ^ bits → unsigned_of bits (pos n) ≡ Some n
 unsigned_back bits n small = rw (lt-ltb n (2 ^ bits) small) refl
 
-signed_back : (bits : ℕ) (n : ℤ) → InRange bits n → signed_of bits n ≡ Some n
-signed_back bits (pos n) small = rw (lt-ltb n (2 ^ bits) small) refl
-signed_back bits (negsuc n) small = rw (lt-ltb n (2 ^ bits) small) refl
+signed_back : (w : Width) (n : ℤ) → FitsSigned w n → signed_of (hbits w) n ≡ Some n
+signed_back w (pos n) small = rw (lt-ltb n (2 ^ hbits w) small.sfits) refl
+signed_back w (negsuc n) small = rw (lt-ltb n (2 ^ hbits w) small.sfits) refl
 
 -- the first item of a number is found by its name, where names differ
 differs_on : (name w : List ℕ) (items : List Item) (n : ℤ) → list_any (bytes_eq name) (map (λ (i : Item). i.name) items) ≡ false
@@ -94,11 +96,11 @@ named_back (i ∷ items) n w differ found = by_first (int_eq i.number n) refl (n
         let another : bytes_eq i.name w ≡ false = differs_on i.name w items n (not-true _ parts.0) behind in
         rw another (inner parts.1 behind)
 
-item_back : (items : List Item) (n : ℤ) → all_differ (map (λ (i : Item). i.name) items) ≡ true → InRange 31 n → item_in items (item_token (first_item items n) n) ≡ Some n
-item_back items n differ sized = by_item (first_item items n) refl
+item_back : (items : List Item) (n : ℤ) → all_differ (map (λ (i : Item). i.name) items) ≡ true → FitsSigned w32 n → item_in items (item_token (first_item items n) n) ≡ Some n
+item_back items n differ spellable = by_item (first_item items n) refl
   where
     by_item : (o : Option (List ℕ)) → first_item items n ≡ o → item_in items (item_token o n) ≡ Some n
-    by_item None absent = rw (signed_back 31 n sized, absent) refl
+    by_item None absent = rw (signed_back w32 n spellable, absent) refl
     by_item (Some w) found = rw (named_back items n w differ found, found, (bytes_eq-Decides w w).1 refl) refl
 
 -- the items of an enum differ in a sound registry
@@ -264,22 +266,22 @@ list_back (more x vs) = ap (more x) (list_back vs)
 -- ---- members
 
 members_back : (reg : List Entity) (read : Kind → Reads Plain) (left : ℕ) (is_first : Bool) (vs : Plains) (ks : List Kind) (ps : List Placed) (ts : List Token)
-    → Comes_all reg read → FitEach reg vs ks → refs_in vs ≡ [] → AllSized vs
+    → Comes_all reg read → FitEach reg vs ks → refs_in vs ≡ [] → AreSpellable vs
     → bare ps ≡ tokens_in reg is_first vs ++ closes curly ∷ ts → (xs : List Plain) × (plains xs ≡ vs) × Comes (members_on read left is_first ks ps) xs ts
-unfolding FitEach refs_in AllSized tokens_in members_on
-members_back reg read left is_first none [] ps ts all fits closed sized e =
+unfolding FitEach refs_in AreSpellable tokens_in members_on
+members_back reg read left is_first none [] ps ts all fits closed spellable e =
     let at = expect_back left closes_curly (closes curly) ps ts refl e in
     ([], refl, by_end at.0 at.1 at.2)
   where
     by_end : (qs : List Placed) → bare qs ≡ ts → expect left closes_curly ps ≡ Ok qs → Comes (members_on read left is_first [] ps) [] ts
     by_end qs behind_it is = inr (qs, behind_it, rw is refl)
-members_back reg read left is_first none (k ∷ ks) ps ts all fits closed sized e = absurd fits
-members_back reg read left is_first (more x vs) [] ps ts all fits closed sized e = absurd fits
-members_back reg read left is_first (more x vs) (k ∷ ks) ps ts all fits closed sized e =
+members_back reg read left is_first none (k ∷ ks) ps ts all fits closed spellable e = absurd fits
+members_back reg read left is_first (more x vs) [] ps ts all fits closed spellable e = absurd fits
+members_back reg read left is_first (more x vs) (k ∷ ks) ps ts all fits closed spellable e =
     let parts = append_none (refs x) (refs_in vs) closed in
     let front_it = by_comma is_first e in
-    by_value front_it.0 front_it.2 (all k x front_it.0 (tokens_in reg false vs ++ closes curly ∷ ts) fits.0 parts.0 sized.0 front_it.1)
-    (λ qs f. members_back reg read left false vs ks qs ts all fits.1 parts.1 sized.1 f)
+    by_value front_it.0 front_it.2 (all k x front_it.0 (tokens_in reg false vs ++ closes curly ∷ ts) fits.0 parts.0 spellable.0 front_it.1)
+    (λ qs f. members_back reg read left false vs ks qs ts all fits.1 parts.1 spellable.1 f)
   where
     Inner : Type 0
     Inner = (qs : List Placed) → bare qs ≡ tokens_in reg false vs ++ closes curly ∷ ts → (xs : List Plain) × (plains xs ≡ vs) × Comes (members_on read left false ks qs) xs ts
@@ -307,11 +309,11 @@ members_back reg read left is_first (more x vs) (k ∷ ks) ps ts all fits closed
         (x ∷ others.0, ap (more x) others.1, by_rest qs one.0 others.0 comma_it one.2 others.2)
 
 tuple_back : (reg : List Entity) (read : Kind → Reads Plain) (vs : Plains) (ks : List Kind) (ps : List Placed) (ts : List Token) → Comes_all reg read
-    → FitEach reg vs ks → refs_in vs ≡ [] → AllSized vs
+    → FitEach reg vs ks → refs_in vs ≡ [] → AreSpellable vs
     → bare ps ≡ opens curly ∷ (tokens_in reg true vs ++ closes curly ∷ ts) → (xs : List Plain) × (plains xs ≡ vs) × Comes (tuple_of read ks ps) xs ts
-tuple_back reg read vs ks ps ts all fits closed sized e =
+tuple_back reg read vs ks ps ts all fits closed spellable e =
     let at = expect_back (left_at ps) opens_curly (opens curly) ps (tokens_in reg true vs ++ closes curly ∷ ts) refl e in
-    let inner = members_back reg read (left_at ps) true vs ks at.0 ts all fits closed sized at.1 in
+    let inner = members_back reg read (left_at ps) true vs ks at.0 ts all fits closed spellable at.1 in
     (inner.0, inner.1, by_open at.0 inner.0 at.2 inner.2)
   where
     by_open : (qs : List Placed) (xs : List Plain) → expect (left_at ps) opens_curly ps ≡ Ok qs
@@ -388,12 +390,12 @@ value_begins reg (v.ref r) = (word (codes "null"), [], refl, refl)
 abbrev pub IsByte : ℕ → Type 0
 IsByte b = b < 2 ^ 8
 
-pub signed_range : (b : ℕ) → b < 2 ^ 8 → InRange 7 (cast_signed w8 b)
+pub signed_range : (b : ℕ) → b < 2 ^ 8 → FitsSigned w8 (cast_signed w8 b)
 signed_range b small = by_sign (nat_lt b (2 ^ 7)) refl
   where
-    by_sign : (t : Bool) → nat_lt b (2 ^ 7) ≡ t → InRange 7 (cast_signed w8 b)
-    by_sign true low = rw low (ltb-true b (2 ^ 7) low)
-    by_sign false high = let above = ltb-false b (2 ^ 7) high in rw high (omega arith)
+    by_sign : (t : Bool) → nat_lt b (2 ^ 7) ≡ t → FitsSigned w8 (cast_signed w8 b)
+    by_sign true low = rw low (record { sfits = ltb-true b (2 ^ 7) low })
+    by_sign false high = let above = ltb-false b (2 ^ 7) high in rw high (record { sfits = omega arith })
 
 byte_comes : ComesEach IsByte byte_token (only_token byte_in)
 byte_comes b ps ts small e =
@@ -401,7 +403,7 @@ byte_comes b ps ts small e =
     by_one at.0 at.1 at.2 at.3 at.4
   where
     byte_back : byte_in (number (cast_signed w8 b)) ≡ Some b
-    byte_back = rw (signed_back 7 (cast_signed w8 b) (signed_range b small)) (ap Some (of_z-to_z w8 b small))
+    byte_back = rw (signed_back w8 (cast_signed w8 b) (signed_range b small)) (ap Some (of_z-to_z w8 b small))
 
     by_one : (p : Placed) (qs : List Placed) → ps ≡ p ∷ qs → p.token ≡ number (cast_signed w8 b) → bare qs ≡ ts → Comes (only_token byte_in ps) b ts
     by_one p qs split token behind_it =
@@ -411,9 +413,9 @@ byte_comes b ps ts small e =
 byte_begins : (b : ℕ) → IsByte b → Begins (byte_token b)
 byte_begins b small = (number (cast_signed w8 b), [], refl, refl)
 
-each_byte : (bs : List ℕ) → All IsByte bs → Each IsByte bs
+each_byte : (bs : List ℕ) → AreBytes bs → Each IsByte bs
 each_byte [] all = tt
-each_byte (b ∷ bs) all = (all 0 b (omega arith), each_byte bs (λ k d within. all (suc k) d (omega arith)))
+each_byte (b ∷ bs) all = (all 0, each_byte bs (λ i. all (suc i)))
 
 -- a value of a kind that is read by one token
 word_comes : (reg : List Entity) (k : Kind) (w : List ℕ) (x : Plain) (ps : List Placed) (ts : List Token) → bare ps ≡ word w ∷ ts
@@ -422,23 +424,23 @@ word_comes reg k w x ps ts e one = single_comes reg k x (word w) ps ts e one
 
 -- elements of other types
 abbrev Good : List Entity → Kind → Plain → Type 0
-Good reg k x = Fits reg x k × (refs x ≡ []) × IsSized x
+Good reg k x = Fits reg x k × (refs x ≡ []) × IsSpellable x
 
-each_value : (reg : List Entity) (k : Kind) (vs : Plains) → FitAll reg vs k → refs_in vs ≡ [] → AllSized vs → Each (Good reg k) (list_of vs)
-unfolding FitAll refs_in AllSized
-each_value reg k none fits closed sized = tt
-each_value reg k (more x vs) fits closed sized = let parts = append_none (refs x) (refs_in vs) closed in ((fits.0, parts.0, sized.0), each_value reg k vs fits.1 parts.1 sized.1)
+each_value : (reg : List Entity) (k : Kind) (vs : Plains) → FitAll reg vs k → refs_in vs ≡ [] → AreSpellable vs → Each (Good reg k) (list_of vs)
+unfolding FitAll refs_in AreSpellable
+each_value reg k none fits closed spellable = tt
+each_value reg k (more x vs) fits closed spellable = let parts = append_none (refs x) (refs_in vs) closed in ((fits.0, parts.0, spellable.0), each_value reg k vs fits.1 parts.1 spellable.1)
 
 list_comes : (reg : List Entity) (read : Kind → Reads Plain) (k : Kind) (vs : Plains) (ps : List Placed) (ts : List Token) → Comes_all reg read
-    → FitAll reg vs k → refs_in vs ≡ [] → AllSized vs
+    → FitAll reg vs k → refs_in vs ≡ [] → AreSpellable vs
     → bare ps ≡ opens square ∷ (tokens_in reg true vs ++ closes square ∷ ts) → Comes (sequence_of (read k) ps) (list_of vs) ts
-list_comes reg read k vs ps ts all fits closed sized e =
+list_comes reg read k vs ps ts all fits closed spellable e =
     let spelled : tokens_in reg true vs ≡ listed (tokens_of reg) true (list_of vs) = ap (tokens_in reg true) (sym (list_back vs)) ∙ listed_plains reg true (list_of vs) in
     sequence_back (Good reg k) (tokens_of reg) (read k) (list_of vs) ps ts (λ x qs us good f. all k x qs us good.0 good.1 good.2 f)
-    (λ x good. value_begins reg x) (each_value reg k vs fits closed sized)
+    (λ x good. value_begins reg x) (each_value reg k vs fits closed spellable)
     (e ∙ ap (λ us. opens square ∷ (us ++ closes square ∷ ts)) spelled)
 
-bytes_come : (reg : List Entity) (bs : List ℕ) (ps : List Placed) (ts : List Token) → All IsByte bs
+bytes_come : (reg : List Entity) (bs : List ℕ) (ps : List Placed) (ts : List Token) → AreBytes bs
     → bare ps ≡ opens square ∷ (byte_tokens true bs ++ closes square ∷ ts) → Comes (sequence_of (only_token byte_in) ps) bs ts
 bytes_come reg bs ps ts all e = sequence_back IsByte byte_token (only_token byte_in) bs ps ts byte_comes byte_begins (each_byte bs all)
     (e ∙ ap (λ us. opens square ∷ (us ++ closes square ∷ ts)) (listed_bytes true bs))
@@ -473,9 +475,9 @@ void_fits reg (v.ref (peer oid face)) fits = absurd fits
 void_fits reg _ fits = let bad : ⊥ = cc in absurd bad
 
 any_comes : (reg : List Entity) (read : Kind → Reads Plain) (t : Kind) (x : Plain) (ps : List Placed) (ts : List Token) → Comes_all reg read
-    → Fits reg x t → refs x ≡ [] → IsSized x → bare ps ≡ tokens_of reg (v.any t x) ++ ts → Comes (any_of read ps) (v.any t x) ts
+    → Fits reg x t → refs x ≡ [] → IsSpellable x → bare ps ≡ tokens_of reg (v.any t x) ++ ts → Comes (any_of read ps) (v.any t x) ts
 unfolding tokens_of
-any_comes reg read t x ps ts all fits closed sized e = by_void (is_void t) refl
+any_comes reg read t x ps ts all fits closed spellable e = by_void (is_void t) refl
   where
     void_is : (k : Kind) → is_void k ≡ true → k ≡ kd.void
     void_is kd.void f = refl
@@ -505,7 +507,7 @@ any_comes reg read t x ps ts all fits closed sized e = by_void (is_void t) refl
     by_void false other =
         let whole : bare ps ≡ cast t ∷ (tokens_of reg x ++ ts) = e ∙ ap (λ us. us ++ ts) (any_tokens reg t x fits other) in
         let at = one_token ps (cast t) (tokens_of reg x ++ ts) whole in
-        valued at.0 at.1 at.2 at.3 other (all t x at.1 ts fits closed sized at.4)
+        valued at.0 at.1 at.2 at.3 other (all t x at.1 ts fits closed spellable at.4)
 
 null_comes : (reg : List Entity) (read : Kind → Reads Plain) (r : Ref) (k : Kind) (ps : List Placed) (ts : List Token) → RefFits reg k r → held r ≡ []
     → bare ps ≡ word (codes "null") ∷ ts
@@ -524,10 +526,10 @@ list_step reg read kd.byte ps other = absurd (other refl)
 list_step reg read _ ps other = refl
 
 tuple_comes : (reg : List Entity) (read : Kind → Reads Plain) (name : List ℕ) (vs : Plains) (k : Kind) (ps : List Placed) (ts : List Token)
-    → Comes_all reg read → IsTupleKind name k → FitEach reg vs (member_kinds reg name) → refs_in vs ≡ [] → AllSized vs
+    → Comes_all reg read → IsTupleKind name k → FitEach reg vs (member_kinds reg name) → refs_in vs ≡ [] → AreSpellable vs
     → bare ps ≡ opens curly ∷ (tokens_in reg true vs ++ closes curly ∷ ts) → Comes (value_step reg read k ps) (v.tuple name vs) ts
 unfolding value_step
-tuple_comes reg read name vs k ps ts all kind_it fits closed sized e = by_tuple (tuple_back reg read vs (member_kinds reg name) ps ts all fits closed sized e) kind_it
+tuple_comes reg read name vs k ps ts all kind_it fits closed spellable e = by_tuple (tuple_back reg read vs (member_kinds reg name) ps ts all fits closed spellable e) kind_it
   where
     Tuple : Type 0
     Tuple = Comes (on_ok {B = Plain × List Placed} (tuple_of read (member_kinds reg name) ps) (λ y. Ok (v.tuple name (plains y.0), y.1))) (v.tuple name vs) ts
@@ -543,61 +545,61 @@ tuple_comes reg read name vs k ps ts all kind_it fits closed sized e = by_tuple 
         by_kind k (subst (λ z. Comes (on_ok {B = Plain × List Placed} (tuple_of read (member_kinds reg name) ps) (λ y. Ok (v.tuple name (plains y.0), y.1))) (v.tuple name z) ts) one.1 made_it) is_kind
 
 step_comes : (reg : List Entity) (read : Kind → Reads Plain) (k : Kind) (x : Plain) (ps : List Placed) (ts : List Token)
-    → list_all items_differ reg ≡ true → Comes_all reg read → Fits reg x k → refs x ≡ [] → IsSized x → bare ps ≡ tokens_of reg x ++ ts
+    → list_all items_differ reg ≡ true → Comes_all reg read → Fits reg x k → refs x ≡ [] → IsSpellable x → bare ps ≡ tokens_of reg x ++ ts
     → Comes (value_step reg read k ps) x ts
-unfolding Fits refs IsSized tokens_of value_step
-step_comes reg read k v.void ps ts differ all fits closed sized e = subst (λ j. Comes (value_step reg read j ps) v.void ts) (sym fits)
+unfolding Fits refs IsSpellable tokens_of value_step
+step_comes reg read k v.void ps ts differ all fits closed spellable e = subst (λ j. Comes (value_step reg read j ps) v.void ts) (sym fits)
     (single_comes reg kd.void v.void (word (codes "void")) ps ts e refl)
-step_comes reg read k (v.char n) ps ts differ all fits closed sized e = subst (λ j. Comes (value_step reg read j ps) (v.char n) ts) (sym fits)
-    (single_comes reg kd.char (v.char n) (number (pos n)) ps ts e (ap (some_as v.char) (unsigned_back 16 n sized)))
-step_comes reg read k (v.boolean true) ps ts differ all fits closed sized e = subst (λ j. Comes (value_step reg read j ps) (v.boolean true) ts)
+step_comes reg read k (v.char n) ps ts differ all fits closed spellable e = subst (λ j. Comes (value_step reg read j ps) (v.char n) ts) (sym fits)
+    (single_comes reg kd.char (v.char n) (number (pos n)) ps ts e (ap (some_as v.char) (unsigned_back 16 n spellable)))
+step_comes reg read k (v.boolean true) ps ts differ all fits closed spellable e = subst (λ j. Comes (value_step reg read j ps) (v.boolean true) ts)
     (sym fits) (single_comes reg kd.boolean (v.boolean true) (word (codes "true")) ps ts e refl)
-step_comes reg read k (v.boolean false) ps ts differ all fits closed sized e = subst (λ j. Comes (value_step reg read j ps) (v.boolean false) ts)
+step_comes reg read k (v.boolean false) ps ts differ all fits closed spellable e = subst (λ j. Comes (value_step reg read j ps) (v.boolean false) ts)
     (sym fits) (single_comes reg kd.boolean (v.boolean false) (word (codes "false")) ps ts e refl)
-step_comes reg read k (v.byte n) ps ts differ all fits closed sized e = subst (λ j. Comes (value_step reg read j ps) (v.byte n) ts) (sym fits)
-    (single_comes reg kd.byte (v.byte n) (number n) ps ts e (ap (some_as v.byte) (signed_back 7 n sized)))
-step_comes reg read k (v.short n) ps ts differ all fits closed sized e = subst (λ j. Comes (value_step reg read j ps) (v.short n) ts) (sym fits)
-    (single_comes reg kd.short (v.short n) (number n) ps ts e (ap (some_as v.short) (signed_back 15 n sized)))
-step_comes reg read k (v.unsigned_short n) ps ts differ all fits closed sized e =
+step_comes reg read k (v.byte n) ps ts differ all fits closed spellable e = subst (λ j. Comes (value_step reg read j ps) (v.byte n) ts) (sym fits)
+    (single_comes reg kd.byte (v.byte n) (number n) ps ts e (ap (some_as v.byte) (signed_back w8 n spellable)))
+step_comes reg read k (v.short n) ps ts differ all fits closed spellable e = subst (λ j. Comes (value_step reg read j ps) (v.short n) ts) (sym fits)
+    (single_comes reg kd.short (v.short n) (number n) ps ts e (ap (some_as v.short) (signed_back w16 n spellable)))
+step_comes reg read k (v.unsigned_short n) ps ts differ all fits closed spellable e =
     subst (λ j. Comes (value_step reg read j ps) (v.unsigned_short n) ts) (sym fits)
-    (single_comes reg kd.unsigned_short (v.unsigned_short n) (number (pos n)) ps ts e (ap (some_as v.unsigned_short) (unsigned_back 16 n sized)))
-step_comes reg read k (v.long n) ps ts differ all fits closed sized e = subst (λ j. Comes (value_step reg read j ps) (v.long n) ts) (sym fits)
-    (single_comes reg kd.long (v.long n) (number n) ps ts e (ap (some_as v.long) (signed_back 31 n sized)))
-step_comes reg read k (v.unsigned_long n) ps ts differ all fits closed sized e =
+    (single_comes reg kd.unsigned_short (v.unsigned_short n) (number (pos n)) ps ts e (ap (some_as v.unsigned_short) (unsigned_back 16 n spellable)))
+step_comes reg read k (v.long n) ps ts differ all fits closed spellable e = subst (λ j. Comes (value_step reg read j ps) (v.long n) ts) (sym fits)
+    (single_comes reg kd.long (v.long n) (number n) ps ts e (ap (some_as v.long) (signed_back w32 n spellable)))
+step_comes reg read k (v.unsigned_long n) ps ts differ all fits closed spellable e =
     subst (λ j. Comes (value_step reg read j ps) (v.unsigned_long n) ts) (sym fits)
-    (single_comes reg kd.unsigned_long (v.unsigned_long n) (number (pos n)) ps ts e (ap (some_as v.unsigned_long) (unsigned_back 32 n sized)))
-step_comes reg read k (v.hyper n) ps ts differ all fits closed sized e = subst (λ j. Comes (value_step reg read j ps) (v.hyper n) ts) (sym fits)
-    (single_comes reg kd.hyper (v.hyper n) (number n) ps ts e (ap (some_as v.hyper) (signed_back 63 n sized)))
-step_comes reg read k (v.unsigned_hyper n) ps ts differ all fits closed sized e =
+    (single_comes reg kd.unsigned_long (v.unsigned_long n) (number (pos n)) ps ts e (ap (some_as v.unsigned_long) (unsigned_back 32 n spellable)))
+step_comes reg read k (v.hyper n) ps ts differ all fits closed spellable e = subst (λ j. Comes (value_step reg read j ps) (v.hyper n) ts) (sym fits)
+    (single_comes reg kd.hyper (v.hyper n) (number n) ps ts e (ap (some_as v.hyper) (signed_back w64 n spellable)))
+step_comes reg read k (v.unsigned_hyper n) ps ts differ all fits closed spellable e =
     subst (λ j. Comes (value_step reg read j ps) (v.unsigned_hyper n) ts) (sym fits)
-    (single_comes reg kd.unsigned_hyper (v.unsigned_hyper n) (number (pos n)) ps ts e (ap (some_as v.unsigned_hyper) (unsigned_back 64 n sized)))
-step_comes reg read k (v.str s) ps ts differ all fits closed sized e = subst (λ j. Comes (value_step reg read j ps) (v.str s) ts) (sym fits) (single_comes reg kd.str (v.str s) (string s) ps ts e refl)
-step_comes reg read k (v.kind t) ps ts differ all fits closed sized e = subst (λ j. Comes (value_step reg read j ps) (v.kind t) ts) (sym fits.0)
+    (single_comes reg kd.unsigned_hyper (v.unsigned_hyper n) (number (pos n)) ps ts e (ap (some_as v.unsigned_hyper) (unsigned_back 64 n spellable)))
+step_comes reg read k (v.str s) ps ts differ all fits closed spellable e = subst (λ j. Comes (value_step reg read j ps) (v.str s) ts) (sym fits) (single_comes reg kd.str (v.str s) (string s) ps ts e refl)
+step_comes reg read k (v.kind t) ps ts differ all fits closed spellable e = subst (λ j. Comes (value_step reg read j ps) (v.kind t) ts) (sym fits.0)
     (single_comes reg kd.kind (v.kind t) (named t) ps ts e refl)
-step_comes reg read k (v.any t x) ps ts differ all fits closed sized e = subst (λ j. Comes (value_step reg read j ps) (v.any t x) ts) (sym fits.0)
-    (any_comes reg read t x ps ts all fits.3 closed sized e)
-step_comes reg read k (v.enum name n) ps ts differ all fits closed sized e =
+step_comes reg read k (v.any t x) ps ts differ all fits closed spellable e = subst (λ j. Comes (value_step reg read j ps) (v.any t x) ts) (sym fits.0)
+    (any_comes reg read t x ps ts all fits.3 closed spellable e)
+step_comes reg read k (v.enum name n) ps ts differ all fits closed spellable e =
     subst (λ j. Comes (value_step reg read j ps) (v.enum name n) ts) (sym fits.0)
     (single_comes reg (kd.enum name) (v.enum name n) (item_token (first_item (items_of (find_entity name reg)) n) n) ps ts e
-    (ap (some_as (v.enum name)) (item_back (items_of (find_entity name reg)) n (found_differ reg name differ) sized)))
-step_comes reg read k (v.tuple name vs) ps ts differ all fits closed sized e = tuple_comes reg read name vs k ps ts all fits.0 fits.2 closed sized
+    (ap (some_as (v.enum name)) (item_back (items_of (find_entity name reg)) n (found_differ reg name differ) spellable)))
+step_comes reg read k (v.tuple name vs) ps ts differ all fits closed spellable e = tuple_comes reg read name vs k ps ts all fits.0 fits.2 closed spellable
     (bracketed (opens curly) (closes curly) (tokens_in reg true vs) ts (bare ps) e)
-step_comes reg read k (v.list t vs) ps ts differ all fits closed sized e =
-    let come = list_comes reg read t vs ps ts all fits.3 closed sized (bracketed (opens square) (closes square) (tokens_in reg true vs) ts (bare ps) e) in
+step_comes reg read k (v.list t vs) ps ts differ all fits closed spellable e =
+    let come = list_comes reg read t vs ps ts all fits.3 closed spellable (bracketed (opens square) (closes square) (tokens_in reg true vs) ts (bare ps) e) in
     let made_it = made (sequence_of (read t) ps) (list_of vs) (λ xs. v.list t (plains xs)) ts come in
     let value_it = subst (λ z. Comes (on_ok {B = Plain × List Placed} (sequence_of (read t) ps) (λ y. Ok (v.list t (plains y.0), y.1))) (v.list t z) ts) (list_back vs) made_it in
     let step_it = subst (λ r. Comes r (v.list t vs) ts) (sym (list_step reg read t ps fits.1)) value_it in
     subst (λ j. Comes (value_step reg read j ps) (v.list t vs) ts) (sym fits.0) step_it
-step_comes reg read k (v.bytes b) ps ts differ all fits closed sized e =
-    let come = bytes_come reg b ps ts sized (bracketed (opens square) (closes square) (byte_tokens true b) ts (bare ps) e) in
+step_comes reg read k (v.bytes b) ps ts differ all fits closed spellable e =
+    let come = bytes_come reg b ps ts spellable (bracketed (opens square) (closes square) (byte_tokens true b) ts (bare ps) e) in
     subst (λ j. Comes (value_step reg read j ps) (v.bytes b) ts) (sym fits) (made (sequence_of (only_token byte_in) ps) b v.bytes ts come)
-step_comes reg read k (v.ref r) ps ts differ all fits closed sized e = null_comes reg read r k ps ts fits closed e
+step_comes reg read k (v.ref r) ps ts differ all fits closed spellable e = null_comes reg read r k ps ts fits closed e
 
 -- what fits is read, unless it is nested too deep
 pub within_comes : (levels : ℕ) (reg : List Entity) → list_all items_differ reg ≡ true → Comes_all reg (value_within levels reg)
 unfolding value_within
-within_comes zero reg differ k x ps ts fits closed sized e = inl refl
-within_comes (suc levels) reg differ k x ps ts fits closed sized e =
+within_comes zero reg differ k x ps ts fits closed spellable e = inl refl
+within_comes (suc levels) reg differ k x ps ts fits closed spellable e =
     let type = fits_type reg x k fits closed in
-    let come = step_comes reg (value_within levels reg) k x ps ts differ (within_comes levels reg differ) fits closed sized e in
+    let come = step_comes reg (value_within levels reg) k x ps ts differ (within_comes levels reg differ) fits closed spellable e in
     rw type come

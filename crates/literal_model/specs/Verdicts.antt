@@ -2,8 +2,8 @@
 use Rattle.std.specs.Prelude.{ℕ, ◌-◌, List, [], ◌∷◌, length, Result, Ok, Err}
 use Rattle.uno_model.specs.Entities.{Entity}
 use Rattle.uno_model.specs.Kinds.{Kind}
-use Rattle.uno_model.specs.Readings.{Fault, deep, misfit, value_within}
-use Rattle.uno_model.specs.Shapes.{Placed, judge}
+use Rattle.literal_model.specs.Readings.{Fault, deep, misfit, value_within}
+use Rattle.literal_model.specs.Shapes.{Placed, judge}
 use Rattle.uno_model.specs.Values.{Plain}
 
 -- a value that is nested deeper than is read, a byte at which no literal's shape goes on, or the front of a value that is none of its type

@@ -6,17 +6,17 @@ use Rattle.std.proofs.lemmas.Fmt.{decimal_digit, decimal_step}
 use Rattle.std.proofs.lemmas.List.{append_assoc}
 use Rattle.std.specs.Fmt.{decimal, signed_decimal}
 use Rattle.std.specs.List.{list_all, flat_map}
-use Rattle.uno_model.proofs.TypeTextLaws.{text_finds}
-use Rattle.uno_model.proofs.TypedLaws.{HasType, Typed, bare}
+use Rattle.literal_model.proofs.TypeTextLaws.{text_finds}
+use Rattle.literal_model.proofs.TypedLaws.{HasType, Typed, bare}
 use Rattle.uno_model.specs.Entities.{Entity}
 use Rattle.uno_model.specs.Kinds.{Kind, name_of}
 use Rattle.uno_model.specs.Kinds as kd
-use Rattle.uno_model.specs.Literals.{escaped}
+use Rattle.literal_model.specs.Literals.{escaped}
 use Rattle.uno_model.specs.NamedTypes.{IsNamed, type_of_text}
 use Rattle.uno_model.specs.Names.{begins_identifier, goes_on_identifier}
-use Rattle.uno_model.specs.Shapes.{Bracket, square, curly, Token, opens, closes, comma, number, word, string, named, cast, spell, spells, largest, lowest, is_known_word, front, rest}
-use Rattle.uno_model.specs.Shapes.{digits_on, digits_at, on_ok, with_byte, escape_of, string_at, is_name_byte, type_at, cast_of, word_at, negative_of, number_at, value_at, Awaited}
-use Rattle.uno_model.specs.Shapes.{value, element, separator, behind, opened, closing, separator_at, element_at, token_at, Placed, with_token, is_whole, tokens_at}
+use Rattle.literal_model.specs.Shapes.{Bracket, square, curly, Token, opens, closes, comma, number, word, string, named, cast, spell, spells, largest, lowest, is_known_word, front, rest}
+use Rattle.literal_model.specs.Shapes.{digits_on, digits_at, on_ok, with_byte, escape_of, string_at, is_name_byte, type_at, cast_of, word_at, negative_of, number_at, value_at, Awaited}
+use Rattle.literal_model.specs.Shapes.{value, element, separator, behind, opened, closing, separator_at, element_at, token_at, Placed, with_token, is_whole, tokens_at}
 use Rattle.uno_model.specs.Sound.{is_named}
 use Rattle.uno_model.specs.Types.{is_type}
 

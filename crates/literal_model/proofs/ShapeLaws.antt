@@ -1,37 +1,39 @@
 -- A value that fits has a shape: its literal is cut into just its tokens.
 use Rattle.std.proofs.Common.{◌≡◌, ◌≢◌, ℕ, zero, suc, ◌<◌, ◌≤◌, ◌^◌, ℤ, pos, negsuc, Bool, true, false, not, ◌&&◌, ◌||◌, ◌==◌, List, [], ◌∷◌, ◌++◌, length}
-use Rattle.std.proofs.Common.{map, Option, None, Some, Result, Ok, Err, inl, inr, IsTrue, All, refl, sym, ap, subst, ◌∙◌, arith, length-append}
+use Rattle.std.proofs.Common.{map, Option, None, Some, Result, Ok, Err, inl, inr, IsTrue, refl, sym, ap, subst, ◌∙◌, arith, length-append, FitsSigned}
 use Rattle.std.proofs.lemmas.Bool.{and_parts, and_from, both_ways, or_left, or_right, eqb-true}
 use Rattle.std.proofs.lemmas.Bool.Decides.{Decides-int_eq}
 use Rattle.std.proofs.lemmas.Fmt.{decimal_nonempty}
 use Rattle.std.proofs.lemmas.List.{append_assoc, append-nil}
 use Rattle.std.proofs.lemmas.Slice.Eq.{bytes_eq-Decides}
-use Rattle.std.specs.Int.{w8, cast_signed}
+use mir.Val.{hbits}
+use Rattle.std.specs.Int.{Width, w8, w16, w32, w64, cast_signed}
 use Rattle.std.specs.List.{list_all, list_any, flat_map}
 use Rattle.std.specs.Ordering.{int_eq}
 use Rattle.std.specs.Str.{bytes_eq}
-use Rattle.uno_model.proofs.CompleteLaws.{Begins, value_begins, void_fits, IsByte, signed_range}
+use Rattle.literal_model.proofs.CompleteLaws.{Begins, value_begins, void_fits, signed_range}
 use Rattle.uno_model.proofs.NameLaws.{there_named}
-use Rattle.uno_model.proofs.ScanBackLaws.{NumberFits, ends_run, number_back, word_back, string_back, type_back}
-use Rattle.uno_model.proofs.SpellLaws.{spells_print}
-use Rattle.uno_model.proofs.TypedLaws.{bare, any_tokens}
+use Rattle.literal_model.proofs.ScanBackLaws.{NumberFits, ends_run, number_back, word_back, string_back, type_back}
+use Rattle.literal_model.proofs.SpellLaws.{spells_print}
+use Rattle.literal_model.proofs.TypedLaws.{bare, any_tokens}
 use Rattle.uno_model.specs.Defaults.{items_of}
 use Rattle.uno_model.specs.Entities.{Entity, Item, Body}
 use Rattle.uno_model.specs.Entities as plain
 use Rattle.uno_model.specs.Fits.{Fits, FitEach, FitAll, IsTupleKind, member_kinds}
 use Rattle.uno_model.specs.Kinds.{Kind, name_of}
 use Rattle.uno_model.specs.Kinds as kd
-use Rattle.uno_model.specs.Literals.{first_item, escaped, print}
+use Rattle.literal_model.specs.Literals.{first_item, escaped, print}
 use Rattle.uno_model.specs.Names.{is_identifier, is_entity_name, parts_of, begins_identifier, goes_on_identifier}
-use Rattle.uno_model.specs.Readings.{is_void}
+use Rattle.literal_model.specs.Readings.{is_void}
 use Rattle.uno_model.specs.Registry.{find_entity, all_members}
-use Rattle.uno_model.specs.Shapes.{Bracket, square, curly, Token, opens, closes, comma, number, word, string, named, cast, spell, spells, is_some_name}
-use Rattle.uno_model.specs.Shapes.{is_first_name, is_own_word, is_known_word, is_word, on_ok, is_name_byte, type_at, cast_of, string_at, value_at, Awaited, value}
-use Rattle.uno_model.specs.Shapes.{element, separator, behind_cast, behind, opened, separator_at, element_at, token_at, Placed, is_whole, tokens_at, judge}
+use Rattle.literal_model.specs.Shapes.{Bracket, square, curly, Token, opens, closes, comma, number, word, string, named, cast, spell, spells, is_some_name}
+use Rattle.literal_model.specs.Shapes.{is_first_name, is_own_word, is_known_word, is_word, on_ok, is_name_byte, type_at, cast_of, string_at, value_at, Awaited, value}
+use Rattle.literal_model.specs.Shapes.{element, separator, behind_cast, behind, opened, separator_at, element_at, token_at, Placed, is_whole, tokens_at, judge}
 use Rattle.uno_model.specs.Sound.{IsSound, is_named, is_there, is_enum, is_struct, is_exception}
 use Rattle.uno_model.specs.Uses.{inner_names}
 use Rattle.uno_model.specs.Sound.{is_interface, kind_known, elements_plain, is_namable, is_some_list, has_member}
-use Rattle.uno_model.specs.Tokens.{InRange, IsSized, AllSized, tokens_of, tokens_in, byte_tokens, comma_tokens, item_token}
+use Rattle.literal_model.specs.Tokens.{tokens_of, tokens_in, byte_tokens, comma_tokens, item_token}
+use Rattle.uno_model.specs.Spellable.{AreBytes, IsSpellable, AreSpellable}
 use Rattle.uno_model.specs.Types.{is_formed, is_type}
 use Rattle.uno_model.specs.Values.{Ref, null, own, peer, Plain, Plains, none, more, refs, refs_in, held}
 use Rattle.uno_model.specs.Values as v
@@ -523,24 +525,24 @@ comma_good : (reg : List Entity) (is_first : Bool) → AreTokensOf reg (comma_to
 comma_good reg true = tt
 comma_good reg false = (tt, tt)
 
-range_fits : (bits : ℕ) (z : ℤ) → 2 ^ bits ≤ 2 ^ 63 → InRange bits z → NumberFits z
-range_fits bits (pos n) few small = omega arith
-range_fits bits (negsuc n) few small = omega arith
+range_fits : (w : Width) (z : ℤ) → 2 ^ hbits w ≤ 2 ^ 63 → FitsSigned w z → NumberFits z
+range_fits w (pos n) few small = omega (arith, small.sfits)
+range_fits w (negsuc n) few small = omega (arith, small.sfits)
 
-item_good : (reg : List Entity) (name : List ℕ) (n : ℤ) → list_all is_named reg ≡ true → InRange 31 n → IsToken reg (item_token (first_item (items_of (find_entity name reg)) n) n)
-item_good reg name n named_all sized = by_item (first_item (items_of (find_entity name reg)) n) refl
+item_good : (reg : List Entity) (name : List ℕ) (n : ℤ) → list_all is_named reg ≡ true → FitsSigned w32 n → IsToken reg (item_token (first_item (items_of (find_entity name reg)) n) n)
+item_good reg name n named_all spellable = by_item (first_item (items_of (find_entity name reg)) n) refl
   where
     by_item : (o : Option (List ℕ)) → first_item (items_of (find_entity name reg)) n ≡ o → IsToken reg (item_token o n)
-    by_item None absent = range_fits 31 n (omega arith) sized
+    by_item None absent = range_fits w32 n (omega arith) spellable
     by_item (Some w) found = item_known reg name n w named_all found
 
-bytes_good : (reg : List Entity) (is_first : Bool) (bs : List ℕ) → All IsByte bs → AreTokensOf reg (byte_tokens is_first bs)
+bytes_good : (reg : List Entity) (is_first : Bool) (bs : List ℕ) → AreBytes bs → AreTokensOf reg (byte_tokens is_first bs)
 unfolding byte_tokens
 bytes_good reg is_first [] all = tt
 bytes_good reg is_first (b ∷ bs) all =
     tokens_append reg (comma_tokens is_first) _ (comma_good reg is_first) (
-      range_fits 7 (cast_signed w8 b) (omega arith) (signed_range b (all 0 b (omega arith))),
-      bytes_good reg false bs (λ k d within. all (suc k) d (omega arith)),
+      range_fits w8 (cast_signed w8 b) (omega arith) (signed_range b (all 0)),
+      bytes_good reg false bs (λ i. all (suc i)),
     )
 
 any_good : (reg : List Entity) (t : Kind) (x : Plain) (b : Bool) → is_void t ≡ b → t ≢ kd.any → is_type reg t ≡ true → Fits reg x t
@@ -556,49 +558,49 @@ any_good reg t x true is other type fits inner =
 any_good reg t x false some other type fits inner = subst (AreTokensOf reg) (sym (any_tokens reg t x fits some)) ((type, other), inner)
 
 mutual
-  unfolding tokens_of tokens_in Fits FitEach FitAll IsSized AllSized
+  unfolding tokens_of tokens_in Fits FitEach FitAll IsSpellable AreSpellable
 
-  value_good : (reg : List Entity) (x : Plain) (k : Kind) → list_all is_named reg ≡ true → Fits reg x k → IsSized x → AreTokensOf reg (tokens_of reg x)
-  value_good reg v.void k named_all fits sized = ((refl, refl), tt)
-  value_good reg (v.char n) k named_all fits sized = (omega (arith, sized), tt)
-  value_good reg (v.boolean true) k named_all fits sized = ((refl, refl), tt)
-  value_good reg (v.boolean false) k named_all fits sized = ((refl, refl), tt)
-  value_good reg (v.byte n) k named_all fits sized = (range_fits 7 n (omega arith) sized, tt)
-  value_good reg (v.short n) k named_all fits sized = (range_fits 15 n (omega arith) sized, tt)
-  value_good reg (v.unsigned_short n) k named_all fits sized = (omega (arith, sized), tt)
-  value_good reg (v.long n) k named_all fits sized = (range_fits 31 n (omega arith) sized, tt)
-  value_good reg (v.unsigned_long n) k named_all fits sized = (omega (arith, sized), tt)
-  value_good reg (v.hyper n) k named_all fits sized = (range_fits 63 n (omega arith) sized, tt)
-  value_good reg (v.unsigned_hyper n) k named_all fits sized = (omega (arith, sized), tt)
-  value_good reg (v.str s) k named_all fits sized = (tt, tt)
-  value_good reg (v.kind t) k named_all fits sized = (fits.1, tt)
-  value_good reg (v.any t x) k named_all fits sized = any_good reg t x (is_void t) refl fits.1 fits.2 fits.3 (value_good reg x t named_all fits.3 sized)
-  value_good reg (v.enum name n) k named_all fits sized = (item_good reg name n named_all sized, tt)
-  value_good reg (v.tuple name vs) k named_all fits sized = (
+  value_good : (reg : List Entity) (x : Plain) (k : Kind) → list_all is_named reg ≡ true → Fits reg x k → IsSpellable x → AreTokensOf reg (tokens_of reg x)
+  value_good reg v.void k named_all fits spellable = ((refl, refl), tt)
+  value_good reg (v.char n) k named_all fits spellable = (omega (arith, spellable), tt)
+  value_good reg (v.boolean true) k named_all fits spellable = ((refl, refl), tt)
+  value_good reg (v.boolean false) k named_all fits spellable = ((refl, refl), tt)
+  value_good reg (v.byte n) k named_all fits spellable = (range_fits w8 n (omega arith) spellable, tt)
+  value_good reg (v.short n) k named_all fits spellable = (range_fits w16 n (omega arith) spellable, tt)
+  value_good reg (v.unsigned_short n) k named_all fits spellable = (omega (arith, spellable), tt)
+  value_good reg (v.long n) k named_all fits spellable = (range_fits w32 n (omega arith) spellable, tt)
+  value_good reg (v.unsigned_long n) k named_all fits spellable = (omega (arith, spellable), tt)
+  value_good reg (v.hyper n) k named_all fits spellable = (range_fits w64 n (omega arith) spellable, tt)
+  value_good reg (v.unsigned_hyper n) k named_all fits spellable = (omega (arith, spellable), tt)
+  value_good reg (v.str s) k named_all fits spellable = (tt, tt)
+  value_good reg (v.kind t) k named_all fits spellable = (fits.1, tt)
+  value_good reg (v.any t x) k named_all fits spellable = any_good reg t x (is_void t) refl fits.1 fits.2 fits.3 (value_good reg x t named_all fits.3 spellable)
+  value_good reg (v.enum name n) k named_all fits spellable = (item_good reg name n named_all spellable, tt)
+  value_good reg (v.tuple name vs) k named_all fits spellable = (
     tt,
-    tokens_append reg (tokens_in reg true vs) (closes curly ∷ []) (members_good reg true vs (member_kinds reg name) named_all fits.2 sized)
+    tokens_append reg (tokens_in reg true vs) (closes curly ∷ []) (members_good reg true vs (member_kinds reg name) named_all fits.2 spellable)
         (tt, tt),
   )
-  value_good reg (v.list t vs) k named_all fits sized = (tt, tokens_append reg (tokens_in reg true vs) (closes square ∷ []) (elements_good reg true vs t named_all fits.3 sized) (tt, tt))
-  value_good reg (v.bytes b) k named_all fits sized = (tt, tokens_append reg (byte_tokens true b) (closes square ∷ []) (bytes_good reg true b sized) (tt, tt))
-  value_good reg (v.ref r) k named_all fits sized = ((refl, refl), tt)
+  value_good reg (v.list t vs) k named_all fits spellable = (tt, tokens_append reg (tokens_in reg true vs) (closes square ∷ []) (elements_good reg true vs t named_all fits.3 spellable) (tt, tt))
+  value_good reg (v.bytes b) k named_all fits spellable = (tt, tokens_append reg (byte_tokens true b) (closes square ∷ []) (bytes_good reg true b spellable) (tt, tt))
+  value_good reg (v.ref r) k named_all fits spellable = ((refl, refl), tt)
 
-  members_good : (reg : List Entity) (is_first : Bool) (vs : Plains) (ks : List Kind) → list_all is_named reg ≡ true → FitEach reg vs ks → AllSized vs
+  members_good : (reg : List Entity) (is_first : Bool) (vs : Plains) (ks : List Kind) → list_all is_named reg ≡ true → FitEach reg vs ks → AreSpellable vs
       → AreTokensOf reg (tokens_in reg is_first vs)
-  members_good reg is_first none ks named_all fits sized = tt
-  members_good reg is_first (more x vs) [] named_all fits sized = absurd fits
-  members_good reg is_first (more x vs) (k ∷ ks) named_all fits sized =
+  members_good reg is_first none ks named_all fits spellable = tt
+  members_good reg is_first (more x vs) [] named_all fits spellable = absurd fits
+  members_good reg is_first (more x vs) (k ∷ ks) named_all fits spellable =
       tokens_append reg (comma_tokens is_first) _ (comma_good reg is_first)
-      (tokens_append reg (tokens_of reg x) _ (value_good reg x k named_all fits.0 sized.0)
-      (members_good reg false vs ks named_all fits.1 sized.1))
+      (tokens_append reg (tokens_of reg x) _ (value_good reg x k named_all fits.0 spellable.0)
+      (members_good reg false vs ks named_all fits.1 spellable.1))
 
-  elements_good : (reg : List Entity) (is_first : Bool) (vs : Plains) (k : Kind) → list_all is_named reg ≡ true → FitAll reg vs k → AllSized vs
+  elements_good : (reg : List Entity) (is_first : Bool) (vs : Plains) (k : Kind) → list_all is_named reg ≡ true → FitAll reg vs k → AreSpellable vs
       → AreTokensOf reg (tokens_in reg is_first vs)
-  elements_good reg is_first none k named_all fits sized = tt
-  elements_good reg is_first (more x vs) k named_all fits sized =
+  elements_good reg is_first none k named_all fits spellable = tt
+  elements_good reg is_first (more x vs) k named_all fits spellable =
       tokens_append reg (comma_tokens is_first) _ (comma_good reg is_first)
-      (tokens_append reg (tokens_of reg x) _ (value_good reg x k named_all fits.0 sized.0)
-      (elements_good reg false vs k named_all fits.1 sized.1))
+      (tokens_append reg (tokens_of reg x) _ (value_good reg x k named_all fits.0 spellable.0)
+      (elements_good reg false vs k named_all fits.1 spellable.1))
 
 -- ---- the whole text
 
@@ -625,11 +627,11 @@ no_more_tokens reg (t ∷ ts) good =
     omega (arith, one, others, both)
 
 -- the literal of a value that fits is cut into its tokens
-pub literal_tokens : (reg : List Entity) (x : Plain) (k : Kind) → IsSound reg → Fits reg x k → refs x ≡ [] → IsSized x
+pub literal_tokens : (reg : List Entity) (x : Plain) (k : Kind) → IsSound reg → Fits reg x k → refs x ≡ [] → IsSpellable x
     → (ps : List Placed) × (bare ps ≡ tokens_of reg x) × (judge reg (print reg x) ≡ Ok ps)
 unfolding ordered
-literal_tokens reg x k sound fits closed sized =
-    let good = value_good reg x k sound.named fits sized in
+literal_tokens reg x k sound fits closed spellable =
+    let good = value_good reg x k sound.named fits spellable in
     let order : ordered value [] (tokens_of reg x) ≡ true = subst (λ us. ordered value [] us ≡ true) (append-nil (tokens_of reg x)) (value_order reg [] x k [] (sound_members reg sound) fits refl) in
     let few = no_more_tokens reg (tokens_of reg x) good in
     let at = tokens_back (suc (length (spells (tokens_of reg x)))) reg value [] (tokens_of reg x) sound.named (omega (arith, few)) order good in

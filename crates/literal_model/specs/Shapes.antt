@@ -8,7 +8,7 @@ use Rattle.uno_model.specs.Defaults.{items_of}
 use Rattle.uno_model.specs.Entities.{Entity, Item}
 use Rattle.uno_model.specs.Kinds.{Kind, name_of}
 use Rattle.uno_model.specs.Kinds as kd
-use Rattle.uno_model.specs.Literals.{quoted, first_item}
+use Rattle.literal_model.specs.Literals.{quoted, first_item}
 use Rattle.uno_model.specs.NamedTypes.{type_of_text}
 use Rattle.uno_model.specs.Names.{begins_identifier, goes_on_identifier}
 

@@ -2,20 +2,21 @@
 use Rattle.std.proofs.Common.{◌≡◌, ℕ, suc, List, [], ◌∷◌, length, ◌-◌, true, Result, Ok, Err, ◌⊎◌, inl, inr, refl, sym, ap, subst, ◌∙◌}
 use Rattle.std.proofs.lemmas.List.{append-nil}
 use Rattle.std.specs.List.{list_all}
-use Rattle.uno_model.proofs.ScanLaws.{AreTokens, tokens_sound}
-use Rattle.uno_model.proofs.CompleteLaws.{Comes, within_comes}
-use Rattle.uno_model.proofs.ShapeLaws.{literal_tokens}
-use Rattle.uno_model.proofs.SpellLaws.{spells_print}
-use Rattle.uno_model.proofs.TypedLaws.{bare, within_sound}
+use Rattle.literal_model.proofs.ScanLaws.{AreTokens, tokens_sound}
+use Rattle.literal_model.proofs.CompleteLaws.{Comes, within_comes}
+use Rattle.literal_model.proofs.ShapeLaws.{literal_tokens}
+use Rattle.literal_model.proofs.SpellLaws.{spells_print}
+use Rattle.literal_model.proofs.TypedLaws.{bare, within_sound}
 use Rattle.uno_model.specs.Entities.{Entity}
 use Rattle.uno_model.specs.Kinds.{Kind}
-use Rattle.uno_model.specs.Literals.{IsLiteral, print}
-use Rattle.uno_model.specs.Readings.{Fault, deep, misfit, value_within}
-use Rattle.uno_model.specs.Shapes.{Placed, value, judge, spells}
+use Rattle.literal_model.specs.Literals.{IsLiteral, print}
+use Rattle.literal_model.specs.Readings.{Fault, deep, misfit, value_within}
+use Rattle.literal_model.specs.Shapes.{Placed, value, judge, spells}
 use Rattle.uno_model.specs.Sound.{IsSound, is_named}
-use Rattle.uno_model.specs.Tokens.{IsSized, tokens_of}
+use Rattle.literal_model.specs.Tokens.{tokens_of}
+use Rattle.uno_model.specs.Spellable.{IsSpellable}
 use Rattle.uno_model.specs.Values.{Plain}
-use Rattle.uno_model.specs.Verdicts.{Wrong, too_deep, bad, wrong_type, deepest, whole_verdict, of_reading, verdict}
+use Rattle.literal_model.specs.Verdicts.{Wrong, too_deep, bad, wrong_type, deepest, whole_verdict, of_reading, verdict}
 
 wrong_or_right : {Y : Type 0} (w : Wrong) (y : Y) → Err w ≡ Ok y → ⊥
 wrong_or_right w y e = cc
@@ -43,12 +44,12 @@ found_is_literal reg k text v named_all e = by_judgement (judge reg text) refl
     by_judgement (Err left) judged = absurd (wrong_or_right (bad (length text - left)) v (rw judged at e))
 
 -- the value of which a text is the literal is the one that is found, unless it is nested too deep
-pub literal_is_found : (reg : List Entity) (k : Kind) (text : List ℕ) (v : Plain) → IsSound reg → IsLiteral reg k text v → IsSized v
+pub literal_is_found : (reg : List Entity) (k : Kind) (text : List ℕ) (v : Plain) → IsSound reg → IsLiteral reg k text v → IsSpellable v
     → (verdict reg k text ≡ Ok v) ⊎ (verdict reg k text ≡ Err too_deep)
-literal_is_found reg k text v sound is sized =
-    let at = literal_tokens reg v k sound is.fits is.closed sized in
+literal_is_found reg k text v sound is spellable =
+    let at = literal_tokens reg v k sound is.fits is.closed spellable in
     let judged : judge reg text ≡ Ok at.0 = ap (judge reg) is.printed ∙ at.2 in
-    let come = within_comes deepest reg sound.differ k v at.0 [] is.fits is.closed sized (at.1 ∙ sym (append-nil (tokens_of reg v))) in
+    let come = within_comes deepest reg sound.differ k v at.0 [] is.fits is.closed spellable (at.1 ∙ sym (append-nil (tokens_of reg v))) in
     by_reading at.0 judged come
   where
     by_rest : (ps rs : List Placed) → judge reg text ≡ Ok ps → bare rs ≡ [] → value_within deepest reg k ps ≡ Ok (v, rs) → verdict reg k text ≡ Ok v

@@ -1,0 +1,5 @@
+pub mod Literals
+pub mod Readings
+pub mod Shapes
+pub mod Tokens
+pub mod Verdicts
