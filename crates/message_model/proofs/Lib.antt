@@ -10,6 +10,7 @@ pub mod ReplyReadingLaws
 pub mod RequestReadingLaws
 pub mod TargetLaws
 pub mod TargetReadingLaws
+pub mod SaidLaws
 pub mod SentMessageLaws
 pub mod InOrderLaws
 pub mod MessageWeightLaws

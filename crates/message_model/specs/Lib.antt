@@ -4,6 +4,7 @@ pub mod Headers
 pub mod InOrder
 pub mod Messages
 pub mod ReadingMessages
+pub mod Said
 pub mod Speaking
 pub mod SpellingMessages
 pub mod WritingMessages
