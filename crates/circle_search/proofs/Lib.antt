@@ -1,4 +1,8 @@
 pub mod Rows
-pub mod Moves
+pub mod Places
+pub mod Marking
+pub mod Entering
+pub mod Looking
+pub mod Leaving
 pub mod Work
-pub mod Answer
+pub mod Ends

@@ -1,54 +1,45 @@
 -- Each move leaves less to do.
-use Rattle.std.proofs.Common.{◌≡◌, ℕ, zero, suc, ◌+◌, ◌<◌, ◌≤◌, List, [], ◌∷◌, ◌++◌, length, get_or, set, Some, arith}
-use Rattle.std.specs.List.{slice_get}
-use Rattle.std.proofs.lemmas.Option.{slice_get_within}
-use Rattle.std.proofs.lemmas.List.Sums.{sum_by_push}
+use Rattle.std.proofs.Common.{◌≡◌, ℕ, zero, suc, ◌+◌, ◌<◌, ◌≤◌, List, [], ◌∷◌, ◌++◌, length, get_or, set, take, refl, arith}
+use Rattle.std.proofs.lemmas.List.{length-append, length-map, length-take, length_push}
 use Rattle.circle_search.specs.declared.mark.Mark.{Mark}
-use Rattle.circle_search.specs.declared.mark.Mark.TheVariants.{New, Open, Ended}
-use Rattle.circle_search.specs.declared.trail.Step.{Step}
+use Rattle.circle_search.specs.declared.mark.Mark.TheVariants.{New, Open, OffCircle, OnCircle}
+use Rattle.circle_search.specs.declared.trail.Edge.{Edge}
 use Rattle.circle_search.specs.Graph.{targets}
-use Rattle.circle_search.specs.Search.{step_work, new_work, work}
+use Rattle.circle_search.specs.Search.{edges, Kept, mark_work, new_work}
 
--- a node that ends leaves no more to do
-new_work_ended : (g : List (List ℕ)) (marks : List Mark) (n : ℕ) → new_work g (set marks n Ended) ≤ new_work g marks
+-- where no node becomes new, there is no more to do for new ones
+pub kept_work : (g : List (List ℕ)) (marks after : List Mark) → length after ≡ length marks → Kept marks after → new_work g after ≤ new_work g marks
 unfolding new_work
-new_work_ended [] marks n = omega arith
-new_work_ended (row ∷ g) [] n = omega arith
-new_work_ended (row ∷ g) (m ∷ marks) zero = omega arith
-new_work_ended (row ∷ g) (m ∷ marks) (suc n) = let rest = new_work_ended g marks n in omega arith
+kept_work [] marks after long kept = omega arith
+kept_work (row ∷ g) marks [] long kept = omega arith
+kept_work (row ∷ g) [] (n ∷ after) long kept = let bad : ⊥ = omega arith in absurd bad
+kept_work (row ∷ g) (m ∷ marks) (n ∷ after) long kept =
+    let rest = kept_work g marks after (omega arith) (λ i is. kept (suc i) is) in
+    let here : mark_work row n ≤ mark_work row m = one row m n (kept 0) in
+    omega arith
+  where
+    one : (row : List ℕ) (m n : Mark) → (n ≡ New → m ≡ New) → mark_work row n ≤ mark_work row m
+    one row m New new = rw (new refl) (omega arith)
+    one row m (Open place) new = omega arith
+    one row m OffCircle new = omega arith
+    one row m OnCircle new = omega arith
 
 -- a new node that is opened takes its part of the work
-new_work_open : (g : List (List ℕ)) (marks : List Mark) (n : ℕ) → length marks ≡ length g → get_or marks n Ended ≡ New
-    → new_work g (set marks n Open) + (length (targets g n) + 2) ≡ new_work g marks
+pub entered_work : (g : List (List ℕ)) (marks : List Mark) (n place : ℕ) → length marks ≡ length g → get_or marks n OffCircle ≡ New
+    → new_work g (set marks n (Open place)) + (length (targets g n) + 1) ≡ new_work g marks
 unfolding new_work targets
-new_work_open [] [] n long is = let bad : ⊥ = cc in absurd bad
-new_work_open [] (m ∷ marks) n long is = let bad : ⊥ = omega arith in absurd bad
-new_work_open (row ∷ g) [] n long is = let bad : ⊥ = omega arith in absurd bad
-new_work_open (row ∷ g) (m ∷ marks) zero long is = rw is (omega arith)
-new_work_open (row ∷ g) (m ∷ marks) (suc n) long is = let rest = new_work_open g marks n (omega arith) is in omega arith
+entered_work [] [] n place long is = let bad : ⊥ = cc in absurd bad
+entered_work [] (m ∷ marks) n place long is = let bad : ⊥ = omega arith in absurd bad
+entered_work (row ∷ g) [] n place long is = let bad : ⊥ = omega arith in absurd bad
+entered_work (row ∷ g) (m ∷ marks) zero place long is = rw is (omega arith)
+entered_work (row ∷ g) (m ∷ marks) (suc n) place long is = let rest = entered_work g marks n place (omega arith) is in omega arith
 
-some_step_work : (g : List (List ℕ)) (s : Step) → 0 < step_work g s
-unfolding step_work
-some_step_work g s = omega arith
+pub leave_less : (g : List (List ℕ)) (marks after : List Mark) (nodes : List ℕ) (w : List Edge) (b : ℕ) → length after ≡ length marks → Kept marks after
+    → b < length nodes → length w + length (take b nodes) + new_work g after < length w + length nodes + new_work g marks
+leave_less g marks after nodes w b long kept low = omega (arith, length-take b nodes, kept_work g marks after long kept)
 
-step_work_on : (g : List (List ℕ)) (s : Step) → s.place < length (targets g s.node) → step_work g (record { node = s.node; place = s.place + 1 }) < step_work g s
-unfolding step_work
-step_work_on g s low = omega arith
-
-step_work_first : (g : List (List ℕ)) (n : ℕ) → step_work g (record { node = n; place = 0 }) ≡ length (targets g n) + 1
-unfolding step_work
-step_work_first g n = omega arith
-
-pub ended_less : (g : List (List ℕ)) (marks : List Mark) (xs : List Step) (s : Step) → work g (set marks s.node Ended) xs < work g marks (xs ++ s ∷ [])
-ended_less g marks xs s = omega (arith, sum_by_push (step_work g) xs s, some_step_work g s, new_work_ended g marks s.node)
-
-pub on_less : (g : List (List ℕ)) (marks : List Mark) (xs : List Step) (s : Step) (t : ℕ) → slice_get (targets g s.node) s.place ≡ Some t
-    → work g marks (xs ++ record { node = s.node; place = s.place + 1 } ∷ []) < work g marks (xs ++ s ∷ [])
-on_less g marks xs s t some =
-    let low = slice_get_within (targets g s.node) s.place t some in
-    omega (arith, sum_by_push (step_work g) xs s, sum_by_push (step_work g) xs (record { node = s.node; place = s.place + 1 }), step_work_on g s low)
-
-pub new_less : (g : List (List ℕ)) (marks : List Mark) (xs : List Step) (t : ℕ) → length marks ≡ length g → get_or marks t Ended ≡ New
-    → work g (set marks t Open) (xs ++ record { node = t; place = 0 } ∷ []) < work g marks xs
-new_less g marks xs t long is =
-    omega (arith, sum_by_push (step_work g) xs (record { node = t; place = 0 }), step_work_first g t, new_work_open g marks t long is)
+pub enter_less : (g : List (List ℕ)) (marks : List Mark) (nodes : List ℕ) (w : List Edge) (e : Edge) (n : ℕ) → length marks ≡ length g → get_or marks n OffCircle ≡ New
+    → length (w ++ edges (length nodes) (targets g n)) + length (nodes ++ n ∷ []) + new_work g (set marks n (Open (length nodes))) < length (w ++ e ∷ []) + length nodes + new_work g marks
+enter_less g marks nodes w e n long new =
+    let more : length (edges (length nodes) (targets g n)) ≡ length (targets g n) = length-map (targets g n) _ in
+    omega (arith, length-append w (edges (length nodes) (targets g n)), more, length_push nodes n, length_push w e, entered_work g marks n (length nodes) long new)

@@ -1,7 +1,7 @@
--- A graph of numbered nodes: where each leads, and which end.
-use Rattle.std.specs.Prelude.{◌≡◌, ℕ, true, List, [], map, get_or, Vec}
+-- A graph of numbered nodes: where each leads, and which is the first that leads back to itself.
+use Rattle.std.specs.Prelude.{ℕ, ◌<◌, List, [], length, map, get_or, Vec}
 use Rattle.std.specs.declared.alloc.Global.{Global}
-use Rattle.uno_model.specs.Circles.{ends_within}
+use Rattle.uno_model.specs.Circles.{Leads}
 
 -- the lists behind the rows of a graph
 abbrev pub targets_of : List (Vec ℕ Global) → List (List ℕ)
@@ -11,7 +11,8 @@ targets_of rows = map (λ row. row.items) rows
 unfoldable pub targets : List (List ℕ) → ℕ → List ℕ
 targets g node = get_or g node []
 
--- all ways from the node end
-pub record Ends (g : List (List ℕ)) (node : ℕ) : Type 0 where
-  pub steps : ℕ
-  pub all : ends_within (targets g) steps node ≡ true
+-- the node leads back to itself, and none before it does
+pub record IsFirstOnCircle (g : List (List ℕ)) (node : ℕ) : Type 0 where
+  pub within : node < length g
+  pub circle : Leads (targets g) node node
+  pub first : (i : ℕ) → i < node → ¬ Leads (targets g) i i

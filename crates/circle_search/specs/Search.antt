@@ -1,47 +1,105 @@
--- How far a search in depth has come: what its marks and its trail say of the graph, and what is left to do.
-use Rattle.std.specs.Prelude.{◌≡◌, ℕ, ◌+◌, ◌-◌, ◌<◌, List, [], ◌∷◌, length, map, get_or, All, Contains}
-use Rattle.std.specs.List.{AllPairs, sum_by}
+-- How far a search has come: what marks and trail say of the graph, and what is left to do.
+use Rattle.std.specs.Prelude.{◌≡◌, ◌≢◌, ℕ, zero, suc, ◌+◌, ◌-◌, ◌<◌, ◌≤◌, ◌⊎◌, Bool, true, false, ◌||◌, cond, nat_eq, nat_lt, List, [], ◌∷◌, length, map, get_or, All, Contains}
+use Rattle.std.specs.List.{AllPairs, list_any}
 use Rattle.uno_model.specs.Circles.{Leads}
 use Rattle.circle_search.specs.declared.mark.Mark.{Mark}
-use Rattle.circle_search.specs.declared.mark.Mark.TheVariants.{New, Open, Ended}
-use Rattle.circle_search.specs.declared.trail.Step.{Step}
-use Rattle.circle_search.specs.Graph.{targets, Ends}
+use Rattle.circle_search.specs.declared.mark.Mark.TheVariants.{New, Open, OffCircle, OnCircle}
+use Rattle.circle_search.specs.declared.trail.Edge.{Edge}
+use Rattle.circle_search.specs.declared.trail.Trail.{Trail}
+use Rattle.circle_search.specs.Graph.{targets}
 
--- the nodes on a trail, from where the search began
-abbrev pub nodes : List Step → List ℕ
-nodes trail = map (λ s. s.node) trail
+-- the edges from a place to these targets
+abbrev pub edges : ℕ → List ℕ → List Edge
+edges place targets = map (λ t. record { place = place; target = t }) targets
 
--- the targets of a node on the trail before the one that is looked at have ended
-pub record Passed (g : List (List ℕ)) (s : Step) : Type 0 where
-  pub within : s.node < length g
-  pub before : (k : ℕ) → k < s.place → Ends g (get_or (targets g s.node) k 0)
+-- the node stands there
+abbrev pub IsAt : List ℕ → ℕ → ℕ → Type 0
+IsAt nodes place node = (place < length nodes) × (get_or nodes place 0 ≡ node)
 
--- what the marks and the trail say is so
-pub record Fine (g : List (List ℕ)) (marks : List Mark) (trail : List Step) : Type 0 where
-  -- each node has a mark
+-- what is left leads to what is left alone
+abbrev pub is_left : Mark → Bool
+is_left New = false
+is_left (Open place) = false
+is_left OffCircle = true
+is_left OnCircle = true
+
+-- the marks are those of the graph and of the open nodes
+pub record MarksHold (g : List (List ℕ)) (marks : List Mark) (nodes : List ℕ) : Type 0 where
   pub long : length marks ≡ length g
-  -- what is marked so has ended; what is no node has too
-  pub ended : (i : ℕ) → get_or marks i Ended ≡ Ended → Ends g i
-  -- what is open is on the trail
-  pub opened : (i : ℕ) → get_or marks i Ended ≡ Open → Contains (nodes trail) i
-  -- each step went past targets that have ended
-  pub passed : All (Passed g) trail
-  -- each node on the trail leads to those behind it
-  pub way : AllPairs (Leads (targets g)) (nodes trail)
+  pub on : (i : ℕ) → get_or marks i OffCircle ≡ OnCircle → Leads (targets g) i i
+  pub off : (i : ℕ) → get_or marks i OffCircle ≡ OffCircle → ¬ Leads (targets g) i i
+  pub closed : (i t : ℕ) → is_left (get_or marks i OffCircle) ≡ true → Contains (targets g i) t → is_left (get_or marks t OffCircle) ≡ true
+  -- exactly what is open is on the trail, at its place
+  pub opened : (i p : ℕ) → get_or marks i OffCircle ≡ Open p → IsAt nodes p i
+  pub marked : (i p : ℕ) → IsAt nodes p i → get_or marks i OffCircle ≡ Open p
+
+-- the one place is in the group of the other, or in one behind it
+abbrev pub IsNotBefore : List ℕ → ℕ → ℕ → Type 0
+IsNotBefore starts place other = (s : ℕ) → Contains starts s → s ≤ other → s ≤ place
+
+-- each open node leads to those behind it, and to those before it in its group
+pub record GroupsHold (g : List (List ℕ)) (nodes : List ℕ) (starts : List ℕ) : Type 0 where
+  pub on : (i j : ℕ) → i < j → j < length nodes → Leads (targets g) (get_or nodes i 0) (get_or nodes j 0)
+  pub back : (i j : ℕ) → i < j → j < length nodes → IsNotBefore starts i j → Leads (targets g) (get_or nodes j 0) (get_or nodes i 0)
+  -- each group has a node
+  pub first : 0 < length nodes → Contains starts 0
+  pub rising : AllPairs (λ a b. a < b) starts
+  pub within : (s : ℕ) → Contains starts s → s < length nodes
+
+-- the target of the node at the place was left, waits, or stands in a group that is not before
+abbrev pub IsSeen : List Mark → List ℕ → List ℕ → List Edge → ℕ → ℕ → Type 0
+IsSeen marks nodes starts waiting place target =
+    (is_left (get_or marks target OffCircle) ≡ true)
+    ⊎ (Contains waiting (record { place = place; target = target }) ⊎ ((p : ℕ) × IsAt nodes p target × IsNotBefore starts p place))
+
+-- the edges that wait are of open nodes, in their order
+pub record EdgesHold (g : List (List ℕ)) (nodes : List ℕ) (waiting : List Edge) : Type 0 where
+  pub source : (e : Edge) → Contains waiting e → (e.place < length nodes) × Contains (targets g (get_or nodes e.place 0)) e.target
+  pub order : AllPairs (λ a b. a.place ≤ b.place) waiting
+
+-- what marks and trail say is so, and no target of an open node is forgotten
+pub record Fine (g : List (List ℕ)) (marks : List Mark) (nodes : List ℕ) (starts : List ℕ) (waiting : List Edge) : Type 0 where
+  pub of_marks : MarksHold g marks nodes
+  pub of_groups : GroupsHold g nodes starts
+  pub of_edges : EdgesHold g nodes waiting
+  pub seen : (place target : ℕ) → place < length nodes → Contains (targets g (get_or nodes place 0)) target → IsSeen marks nodes starts waiting place target
+
+abbrev pub IsFine : List (List ℕ) → List Mark → Trail → Type 0
+IsFine g marks trail = Fine g marks trail.nodes.items trail.starts.items trail.waiting.items
+
+-- of the starts those up to a place are kept
+pub record IsCut (place : ℕ) (before after : List ℕ) : Type 0 where
+  pub rising : AllPairs (λ a b. a < b) after
+  pub among : (s : ℕ) → Contains after s → Contains before s × (s ≤ place)
+  pub kept : (s : ℕ) → Contains before s → s ≤ place → Contains after s
+
+-- the nodes of a group, which lead to each other, lead back to themselves
+abbrev pub leads_back : List (List ℕ) → List ℕ → Bool
+leads_back g group = nat_lt 1 (length group) || list_any (λ t. nat_eq t (get_or group 0 0)) (targets g (get_or group 0 0))
+
+abbrev pub mark_of_group : List (List ℕ) → List ℕ → Mark
+mark_of_group g group = cond (leads_back g group) OnCircle OffCircle
+
+-- these nodes have the mark, and all others theirs
+pub record IsMarked (nodes : List ℕ) (mark : Mark) (before after : List Mark) : Type 0 where
+  pub long : length after ≡ length before
+  pub these : (i : ℕ) → Contains nodes i → get_or after i OffCircle ≡ mark
+  pub others : (i : ℕ) → ¬ Contains nodes i → get_or after i OffCircle ≡ get_or before i OffCircle
 
 -- what is new afterwards was new before
 abbrev pub Kept : List Mark → List Mark → Type 0
-Kept before after = (i : ℕ) → get_or after i Ended ≡ New → get_or before i Ended ≡ New
+Kept before after = (i : ℕ) → get_or after i OffCircle ≡ New → get_or before i OffCircle ≡ New
 
--- for a step, its targets from the one that is looked at, and one
-unfoldable pub step_work : List (List ℕ) → Step → ℕ
-step_work g s = length (targets g s.node) - s.place + 1
+-- each mark says whether the node leads back to itself
+pub record AllTold (g : List (List ℕ)) (marks : List Mark) : Type 0 where
+  pub long : length marks ≡ length g
+  pub on : (i : ℕ) → get_or marks i OffCircle ≡ OnCircle → Leads (targets g) i i
+  pub off : (i : ℕ) → get_or marks i OffCircle ≢ OnCircle → ¬ Leads (targets g) i i
 
--- for a new node, its targets and two
+-- for a new node, its targets and one
 abbrev pub mark_work : List ℕ → Mark → ℕ
-mark_work row New = length row + 2
-mark_work row Open = 0
-mark_work row Ended = 0
+mark_work row New = length row + 1
+mark_work row _ = 0
 
 -- for all nodes
 unfoldable pub new_work : List (List ℕ) → List Mark → ℕ
@@ -50,5 +108,5 @@ new_work (row ∷ g) [] = 0
 new_work (row ∷ g) (m ∷ marks) = mark_work row m + new_work g marks
 
 -- how much there is left to do
-abbrev pub work : List (List ℕ) → List Mark → List Step → ℕ
-work g marks trail = sum_by (step_work g) trail + new_work g marks
+abbrev pub work : List (List ℕ) → List Mark → Trail → ℕ
+work g marks trail = length trail.waiting.items + length trail.nodes.items + new_work g marks

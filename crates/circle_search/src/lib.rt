@@ -1,12 +1,11 @@
-//! Whether a graph of numbered nodes has a circle, found by one search in depth that is never recursive.
+//! The first node of a graph that is on a circle, found by one search in depth that is never recursive.
 #![tactic(auto)]
 
 mod graph;
+mod group;
 mod mark;
 mod search;
-mod stop;
 mod trail;
-mod visit;
 
 pub use graph::Graph;
-pub use search::has_no_circle;
+pub use search::{first_on_circle, has_no_circle};

@@ -1,20 +1,21 @@
 //! What the search knows of a node.
 ghost use Rattle.std.specs.Prelude.{◌≡◌, get_or};
 
-/// Not reached yet, on the trail, or all of whose ways end.
-#[derive(Clone, Copy, PartialEq, Eq)]
+/// Not reached yet, at a place of the trail, or left: on no circle, or on one.
+#[derive(Clone, Copy)]
 pub(crate) enum Mark {
     New,
-    Open,
-    Ended,
+    Open(usize),
+    OffCircle,
+    OnCircle,
 }
 
-/// The node's mark. What is no node leads nowhere, so it has ended.
+/// The node's mark. What is no node leads nowhere, so it is on no circle.
 pub(crate) fn mark_of(marks: &[Mark], node: usize) -> Mark
-    ensures { result ≡ get_or marks.now node Mark.Ended }
+    ensures { result ≡ get_or marks.now node Mark.OffCircle }
 {
     if node < marks.len() {
         return marks[node];
     }
-    Mark::Ended
+    Mark::OffCircle
 }

@@ -1,35 +1,93 @@
-//! The search from every node.
-ghost use Rattle.std.specs.Prelude.{◌≡◌, ◌↔◌, IfOk, IsTrue, OnOk, IsErrOf};
+//! The search from every node: along a trail, on to what is new, and back from groups that lead to no more.
+ghost use Rattle.std.specs.Prelude.{◌≡◌, ◌≢◌, ◌-◌, ◌<◌, ◌↔◌, [], length, get_or, slice_get, IfOk, IsTrue, MatchOption, OnOk};
 ghost use Rattle.uno_model.specs.Circles.{HasNoCircle};
-ghost use Rattle.circle_search.specs.Graph.{targets};
+ghost use Rattle.circle_search.specs.Graph.{targets, IsFirstOnCircle};
+ghost use Rattle.circle_search.specs.Search.{IsFine, Kept, AllTold, work};
 
 use crate::Graph;
-use crate::mark::Mark;
-use crate::stop::Stop;
-use crate::visit::visit;
+use crate::group::leave;
+use crate::mark::{Mark, mark_of};
+use crate::trail::{Trail, enter, join_groups, next_edge};
 use std::alloc::Global;
 use uno_base::NoMemory;
 
-/// Visits every node.
-#[tactic(auto, using(crate::proofs::Answer::all_ended))]
-fn search(alloc: Global, graph: &Graph) -> Result<(), Stop>
-    ensures none { OnOk result (HasNoCircle (targets graph.now)) }
-    ensures circle { IsErrOf result Stop.Circle → HasNoCircle (targets graph.now) → ⊥ }
+/// One move at the last group, which begins at this place.
+fn advance(
+    graph: &Graph,
+    marks: &mut [Mark],
+    trail: &mut Trail,
+    start: usize,
+) -> Result<(), NoMemory>
+    requires fine { IsFine graph.now marks.old trail.old }
+    requires last { Some start ≡ slice_get trail.old.starts.items (length trail.old.starts.items - 1) }
+    ensures fine { OnOk result (IsFine graph.now marks.new trail.new) }
+    ensures less { OnOk result (work graph.now marks.new trail.new < work graph.now marks.old trail.old) }
+    ensures kept { OnOk result (Kept marks.old marks.new) }
 {
-    let mut marks = vec![in alloc; Mark::New; graph.len()]?;
-    for node in 0..graph.len() {
-        visit(alloc, graph, &mut marks, node)?;
+    let Some(edge) = next_edge(&mut trail.waiting, start) else {
+        leave(graph, marks, trail, start);
+        return Ok(());
+    };
+    match mark_of(marks, edge.target as usize) {
+        Mark::New => {
+            enter(graph, marks, trail, edge.target as usize)?;
+            Ok(())
+        }
+        Mark::Open(place) => {
+            join_groups(&mut trail.starts, place);
+            Ok(())
+        }
+        Mark::OffCircle | Mark::OnCircle => Ok(()),
+    }
+}
+
+/// Follows all ways from the node, until all that was reached is left.
+fn visit(graph: &Graph, marks: &mut [Mark], trail: &mut Trail, node: usize) -> Result<(), NoMemory>
+    requires within { node < length graph.now }
+    requires fine { IsFine graph.now marks.old trail.old }
+    requires empty { trail.old.nodes.items ≡ [] }
+    ensures fine { OnOk result (IsFine graph.now marks.new trail.new) }
+    ensures empty { OnOk result (trail.new.nodes.items ≡ []) }
+    ensures reached { OnOk result (get_or marks.new node Mark.OffCircle ≢ Mark.New) }
+    ensures kept { OnOk result (Kept marks.old marks.new) }
+{
+    let Mark::New = mark_of(marks, node) else {
+        return Ok(());
+    };
+    enter(graph, marks, trail, node)?;
+    while let Some(start) = trail.starts.last().copied() {
+        advance(graph, marks, trail, start)?;
     }
     Ok(())
 }
 
-/// Tells whether no node leads back to itself, in time linear in nodes and targets.
+/// Tells of every node whether it leads back to itself.
+fn search(alloc: Global, graph: &Graph) -> Result<Vec<Mark>, NoMemory>
+    ensures { IfOk result (λ marks. AllTold graph.now marks.items) }
+{
+    let mut marks = vec![in alloc; Mark::New; graph.len()]?;
+    let mut trail = Trail {
+        nodes: Vec::new(alloc),
+        starts: Vec::new(alloc),
+        waiting: Vec::new(alloc),
+    };
+    for node in 0..graph.len() {
+        visit(graph, &mut marks, &mut trail, node)?;
+    }
+    Ok(marks)
+}
+
+/// The first node that leads back to itself, in time linear in nodes and targets.
+pub fn first_on_circle(alloc: Global, graph: &Graph) -> Result<Option<usize>, NoMemory>
+    ensures { IfOk result (λ found. MatchOption found (HasNoCircle (targets graph.now)) (λ node. IsFirstOnCircle graph.now node)) }
+{
+    let marks = search(alloc, graph)?;
+    Ok(marks.iter().position(|mark| matches!(mark, Mark::OnCircle)))
+}
+
+/// Tells whether no node leads back to itself.
 pub fn has_no_circle(alloc: Global, graph: &Graph) -> Result<bool, NoMemory>
     ensures { IfOk result (λ b. IsTrue b ↔ HasNoCircle (targets graph.now)) }
 {
-    match search(alloc, graph) {
-        Ok(()) => Ok(true),
-        Err(Stop::Circle) => Ok(false),
-        Err(Stop::NoMemory) => Err(NoMemory),
-    }
+    Ok(first_on_circle(alloc, graph)?.is_none())
 }

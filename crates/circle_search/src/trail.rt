@@ -1,37 +1,84 @@
-//! The trail: the nodes from where a search began to where it stands.
-ghost use Rattle.std.specs.Prelude.{◌≡◌, ◌+◌, ◌<◌, ◌^◌, [], ◌∷◌, ◌++◌, length, slice_set, OnOk, IsErrOf};
+//! The trail: the nodes that were reached and not left, in groups, and the targets that wait to be looked at.
+ghost use Rattle.std.specs.Prelude.{◌≡◌, ◌+◌, ◌<◌, ◌≤◌, [], ◌∷◌, ◌++◌, length, slice_set, MatchOption, OnOk};
+ghost use Rattle.std.specs.List.{All, AllPairs};
+ghost use Rattle.circle_search.specs.Graph.{targets};
+ghost use Rattle.circle_search.specs.Search.{edges, IsCut};
 
+use crate::Graph;
 use crate::mark::Mark;
-use crate::stop::Stop;
+use uno_base::NoMemory;
 
-/// A node on the trail, and the place of the target that is looked at.
+/// A target of the node at a place of the trail.
 #[derive(Clone, Copy)]
-pub(crate) struct Step {
-    pub node: usize,
+pub(crate) struct Edge {
     pub place: usize,
+    pub target: u32,
 }
 
-/// Opens the node, and puts it at the end of the trail.
-pub(crate) fn enter(marks: &mut [Mark], trail: &mut Vec<Step>, node: usize) -> Result<(), Stop>
+/// A group is what stands from its start to the next: nodes that all lead to each other, or one node.
+#[derive(Drop)]
+pub(crate) struct Trail {
+    pub nodes: Vec<usize>,
+    pub starts: Vec<usize>,
+    pub waiting: Vec<Edge>,
+}
+
+/// Lets the targets of the node at this place wait.
+fn push_edges(waiting: &mut Vec<Edge>, place: usize, targets: &[u32]) -> Result<(), NoMemory>
+    ensures { OnOk result (waiting.new.items ≡ waiting.old.items ++ edges place targets.now) }
+{
+    for target in targets {
+        waiting.push(Edge {
+            place,
+            target: *target,
+        })?;
+    }
+    Ok(())
+}
+
+/// Opens the node, as a group of its own at the end of the trail.
+pub(crate) fn enter(
+    graph: &Graph,
+    marks: &mut [Mark],
+    trail: &mut Trail,
+    node: usize,
+) -> Result<(), NoMemory>
     requires { node < length marks.old }
-    ensures marked { OnOk result (marks.new ≡ slice_set marks.old node Mark.Open) }
-    ensures pushed { OnOk result (trail.new.items ≡ trail.old.items ++ record { node = node; place = 0 } ∷ []) }
-    ensures refused { IsErrOf result Stop.Circle → ⊥ }
+    ensures marked { OnOk result (marks.new ≡ slice_set marks.old node (Mark.Open (length trail.old.nodes.items))) }
+    ensures nodes { OnOk result (trail.new.nodes.items ≡ trail.old.nodes.items ++ node ∷ []) }
+    ensures starts { OnOk result (trail.new.starts.items ≡ trail.old.starts.items ++ length trail.old.nodes.items ∷ []) }
+    ensures waiting { OnOk result (trail.new.waiting.items ≡ trail.old.waiting.items ++ edges (length trail.old.nodes.items) (targets graph.now node)) }
 {
-    trail.push(Step { node, place: 0 })?;
-    marks[node] = Mark::Open;
+    let place = trail.nodes.len();
+    trail.nodes.push(node)?;
+    trail.starts.push(place)?;
+    push_edges(&mut trail.waiting, place, graph.targets(node))?;
+    marks[node] = Mark::Open(place);
     Ok(())
 }
 
-/// Puts the step back, at its next target.
-pub(crate) fn go_on(trail: &mut Vec<Step>, step: Step) -> Result<(), Stop>
-    requires { step.place + 1 < 2 ^ 64 }
-    ensures pushed { OnOk result (trail.new.items ≡ trail.old.items ++ record { node = step.node; place = step.place + 1 } ∷ []) }
-    ensures refused { IsErrOf result Stop.Circle → ⊥ }
+/// Takes off the last edge, where it begins at this place or behind it.
+pub(crate) fn next_edge(waiting: &mut Vec<Edge>, start: usize) -> Option<Edge>
+    requires { AllPairs (λ a b. a.place ≤ b.place) waiting.old.items }
+    ensures none { MatchOption result (All (λ e. e.place < start) waiting.old.items) (λ e. start ≤ e.place) }
+    ensures rest { MatchOption result (waiting.new.items ≡ waiting.old.items) (λ e. waiting.old.items ≡ waiting.new.items ++ e ∷ []) }
 {
-    trail.push(Step {
-        node: step.node,
-        place: step.place + 1,
-    })?;
-    Ok(())
+    let edge = *waiting.last()?;
+    if edge.place < start {
+        return None;
+    }
+    waiting.pop()
+}
+
+/// Joins the groups behind this place with the one in which it stands.
+pub(crate) fn join_groups(starts: &mut Vec<usize>, place: usize)
+    requires { AllPairs (λ a b. a < b) starts.old.items }
+    ensures { IsCut place starts.old.items starts.new.items }
+{
+    while let Some(start) = starts.last() {
+        if *start <= place {
+            return;
+        }
+        starts.pop();
+    }
 }

@@ -1,11 +1,12 @@
-use Rattle.std.proofs.Common.{ℕ, ◌<◌, []}
-use Rattle.circle_search.specs.Graph.{Ends}
-use Rattle.circle_search.specs.Search.{Fine}
+use Rattle.std.proofs.Common.{◌≡◌, ◌≢◌, ℕ, ◌<◌, [], get_or}
+use Rattle.circle_search.specs.declared.mark.Mark.TheVariants.{New, OffCircle}
+use Rattle.circle_search.specs.Search.{IsFine}
 use Rattle.circle_search.proofs.search.search.Given as goal
 
--- the nodes that were visited have ended
+-- the nodes so far were reached, and the trail is empty
 abbrev pub invariant-loop-node : goal.invariant-loop-node
 invariant-loop-node l = record {
-  fine : Fine l.graph l.marks.items [];
-  ended : (i : ℕ) → i < l.node → Ends l.graph i;
+  fine : IsFine l.graph l.marks.items l.trail;
+  empty : l.trail.nodes.items ≡ [];
+  reached : (i : ℕ) → i < l.node → get_or l.marks.items i OffCircle ≢ New;
 }

@@ -1,0 +1,15 @@
+use Rattle.std.proofs.Common.{◌≢◌, get_or}
+use Rattle.circle_search.specs.declared.mark.Mark.TheVariants.{New, OffCircle}
+use Rattle.circle_search.specs.Search.{IsFine, Kept, work}
+use Rattle.circle_search.proofs.search.visit.Given as goal
+
+-- marks and trail are fine, and the node is not new
+abbrev pub invariant-loop-start : goal.invariant-loop-start
+invariant-loop-start l = record {
+  fine : IsFine l.graph l.marks l.trail;
+  reached : get_or l.marks l.node OffCircle ≢ New;
+  kept : Kept l.fn.marks l.marks;
+}
+
+abbrev pub decreases-loop-start : goal.decreases-loop-start
+decreases-loop-start l = work l.graph l.marks l.trail
