@@ -2,6 +2,7 @@ pub mod BuiltInLaws
 pub mod CircleLaws
 pub mod CompleteLaws
 pub mod FindLaws
+pub mod FunctionLaws
 pub mod MemberKindLaws
 pub mod MemberLaws
 pub mod NameLaws
@@ -16,3 +17,4 @@ pub mod SpellLaws
 pub mod TypeTextLaws
 pub mod TypedLaws
 pub mod VerdictLaws
+pub mod VisitLaws

@@ -7,7 +7,6 @@ pub mod Fits
 pub mod Functions
 pub mod Kinds
 pub mod Literals
-pub mod Marks
 pub mod NamedTypes
 pub mod Names
 pub mod Places

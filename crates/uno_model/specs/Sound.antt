@@ -9,7 +9,7 @@ use Rattle.uno_model.specs.Names.{is_identifier, is_entity_name, parts_of}
 use Rattle.uno_model.specs.Entities.{Entity, Body, Base, Member, attribute, method, Constructor, Part, face, subservice, property, interface}
 use Rattle.uno_model.specs.Entities.{struct, exception, enum, constants, typedef, new_service, old_service, new_singleton, old_singleton}
 use Rattle.uno_model.specs.Registry.{find_entity, at_most_one, required, all_members, leads_to}
-use Rattle.uno_model.specs.Marks.{MarksBases}
+use Rattle.uno_model.specs.Functions.{functions_of}
 
 -- ---- the first fact: names are identifiers, joined by points in an entity's name
 
@@ -171,28 +171,6 @@ is_some_list (x ∷ xs) = true
 abbrev pub has_root : List ℕ → List Base → Bool
 has_root name bases = bytes_eq name (codes "com.sun.star.uno.XInterface") || is_some_list (required bases)
 
--- how many functions an attribute has, and a member, and an entity itself
-abbrev pub accessors : Bool → ℕ
-accessors true = 1
-accessors false = 2
-
-abbrev pub functions_of_member : Member → ℕ
-functions_of_member (attribute a) = accessors a.read_only
-functions_of_member (method m) = 1
-
-unfoldable pub functions_in : List Member → ℕ
-functions_in [] = 0
-functions_in (m ∷ ms) = functions_of_member m + functions_in ms
-
-abbrev pub own_functions : Body → ℕ
-own_functions (interface bases members) = functions_in members
-own_functions _ = 0
-
--- how many functions all entities have themselves
-unfoldable pub total_functions : List Entity → ℕ
-total_functions [] = 0
-total_functions (e ∷ es) = own_functions e.body + total_functions es
-
 -- the entity's name is short, and it stands in few modules
 abbrev pub short_name : List ℕ → Bool
 short_name name = nat_le (length name) 4096
@@ -220,16 +198,9 @@ is_allowed e = few_modules e.name && body_allowed e.name e.body
 abbrev pub has_member : List Entity → Entity → Bool
 has_member reg e = (not (is_struct e.body || is_exception e.body)) || is_some_list (all_members reg e.name)
 
--- the functions of what is marked, each entity counted once
-unfoldable pub marked_functions : List Bool → List Entity → ℕ
-marked_functions [] reg = 0
-marked_functions (mark ∷ marks) [] = 0
-marked_functions (true ∷ marks) (e ∷ es) = own_functions e.body + marked_functions marks es
-marked_functions (false ∷ marks) (e ∷ es) = marked_functions marks es
-
--- an interface has at most 65,536 functions, those of its bases counted, each base once
+-- each entity has at most 65,536 functions, those of its bases counted
 abbrev pub HasFewFunctions : List Entity → Type 0
-HasFewFunctions reg = (e : Entity) (marks : List Bool) → Contains reg e → MarksBases reg e.name marks → marked_functions marks reg ≤ 65536
+HasFewFunctions reg = (e : Entity) → Contains reg e → length (functions_of reg e.name) ≤ 65536
 
 -- ---- the five facts
 
