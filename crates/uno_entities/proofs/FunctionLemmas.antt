@@ -2,7 +2,7 @@
 use Rattle.std.proofs.Common.{◌≡◌, ℕ, ◌+◌, ◌<◌, ◌≤◌, min, length, map, drop, get_or, Bool, true, false, if◌then◌else◌, List, [], ◌∷◌, refl, sym, ap, ◌∙◌, arith}
 use Rattle.std.proofs.lemmas.List.{at_drop_more, drop_all}
 use Rattle.uno_model.specs.Entities as plain
-use Rattle.uno_model.specs.Sound.{functions_of_member, functions_in, own_functions, total_functions, marked_functions}
+use Rattle.uno_entities.specs.Counts.{functions_of_member, functions_in, own_functions, total_functions, marked_functions}
 use Rattle.uno_entities.specs.Entities.{member_of, entities_of, entity_of, body_of}
 use Rattle.uno_entities.specs.declared.entity.Member.{Member}
 use Rattle.uno_entities.specs.declared.entity.Entity.{Entity}
@@ -78,11 +78,3 @@ pub marks_end : (marks : List Bool) (es : List Entity) (i total most all : ℕ) 
     → total ≡ all
 unfolding marked_functions
 marks_end marks es i total most all over low held = ends total _ all most (ap (λ ms. marked_functions ms (entities_of (drop i es))) (drop_all i marks over)) low held
-
--- what is marked has no more than all
-pub marked_low : (marks : List Bool) (reg : List plain.Entity) → marked_functions marks reg ≤ total_functions reg
-unfolding marked_functions total_functions
-marked_low [] reg = omega arith
-marked_low (mark ∷ marks) [] = omega arith
-marked_low (true ∷ marks) (e ∷ es) = omega (arith, marked_low marks es)
-marked_low (false ∷ marks) (e ∷ es) = omega (arith, marked_low marks es)

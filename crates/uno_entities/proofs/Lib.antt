@@ -1,8 +1,10 @@
 pub mod AllLemmas
+pub mod CountLemmas
 pub mod Different
 pub mod FewLemmas
 pub mod FindingLemmas
 pub mod FunctionLemmas
 pub mod GraphLemmas
+pub mod MarkLemmas
 pub mod NameParts
 pub mod SpreadLemmas

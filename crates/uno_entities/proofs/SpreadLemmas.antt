@@ -6,11 +6,12 @@ use Rattle.std.proofs.lemmas.Bool.{cases_eq}
 use Rattle.std.proofs.lemmas.List.{length-set, length_push, map_more, length-replicate}
 use Rattle.std.proofs.lemmas.List.Elements.{Contains-append_left, Contains-append_right, Contains-push, Contains-push_cases, Contains-append_cases}
 use Rattle.uno_model.specs.Entities.{Entity, Base}
-use Rattle.uno_model.specs.Marks.{Marked, AllMarked, MarksBases}
+use Rattle.uno_entities.specs.Marks.{Marked, AllMarked, MarksBases}
 use Rattle.uno_model.specs.Registry.{IsRising, find_entity, stands_on, stands_on_body, required, IsBaseOf}
 use Rattle.uno_model.specs.Circles.{Leads, step, on}
 use Rattle.uno_model.proofs.FindLaws.{distinct_places}
-use Rattle.uno_model.proofs.ReachLaws.{found_place, marks_bases}
+use Rattle.uno_model.proofs.ReachLaws.{found_place}
+use Rattle.uno_entities.proofs.MarkLemmas.{marks_bases}
 use Rattle.uno_model.proofs.PlaceLaws.{named_there}
 use Rattle.uno_entities.specs.declared.entity.Base as types
 use Rattle.uno_entities.specs.Entities.{base_of}

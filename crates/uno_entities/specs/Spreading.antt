@@ -1,7 +1,7 @@
 -- Marks that spread from an entity to its bases, and the places from which they are still to spread.
 use Rattle.std.specs.Prelude.{◌≡◌, ℕ, ◌+◌, ◌*◌, ◌<◌, ◌≤◌, Bool, true, false, ◌⊎◌, List, [], ◌∷◌, ◌++◌, length, Some, Contains, slice_get, slice_set}
 use Rattle.uno_model.specs.Entities.{Entity}
-use Rattle.uno_model.specs.Marks.{Marked, AllMarked, Closed, OnlyBases}
+use Rattle.uno_entities.specs.Marks.{Marked, AllMarked, Closed, OnlyBases}
 
 -- how many places are not marked
 unfoldable pub unmarked : List Bool → ℕ

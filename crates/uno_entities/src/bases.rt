@@ -1,7 +1,7 @@
 //! On which entities an entity stands: a search over its bases that marks each of them once.
 ghost use Rattle.std.specs.Prelude.{◌≡◌, ◌<◌, [], ◌∷◌, length, map, take, IfOk, OnOk, slice_get, slice_set, replicate, false, true, Some};
 ghost use Rattle.uno_model.specs.Entities as plain;
-ghost use Rattle.uno_model.specs.Marks.{MarksBases};
+ghost use Rattle.uno_entities.specs.Marks.{MarksBases};
 ghost use Rattle.uno_model.specs.Registry.{IsRising, stands_on_body, required, at_most_one};
 ghost use Rattle.uno_entities.specs.Entities.{entity_of, entities_of, base_of, body_of};
 ghost use Rattle.uno_entities.specs.Spreading.{MarksPlace, Spreads, Searched};

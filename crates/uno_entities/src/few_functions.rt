@@ -1,8 +1,9 @@
 //! Whether each interface has few functions, those of its bases counted. Where one has few, so has all on which it stands.
 ghost use Rattle.std.specs.Prelude.{◌≡◌, ◌<◌, ◌≤◌, ◌↔◌, length, IfOk, OnOk, IsTrue, replicate, false, if◌then◌else◌};
-ghost use Rattle.uno_model.specs.Registry.{IsRising};
-ghost use Rattle.uno_model.specs.Sound.{HasFewFunctions, marked_functions};
-ghost use Rattle.uno_entities.specs.Counts.{FewAt, AllFewBut, KnownFew, joined};
+ghost use Rattle.uno_model.specs.Circles.{HasNoCircle};
+ghost use Rattle.uno_model.specs.Registry.{IsRising, leads_to};
+ghost use Rattle.uno_model.specs.Sound.{HasFewFunctions};
+ghost use Rattle.uno_entities.specs.Counts.{FewAt, AllFewBut, KnownFew, joined, marked_functions};
 ghost use Rattle.uno_entities.specs.Entities.{entities_of};
 
 use crate::Entity;
@@ -14,10 +15,11 @@ use uno_base::NoMemory;
 /// The most functions that an interface has.
 const MOST: u64 = 65_536;
 
-/// Whether no interface has more functions than the limit. Where all entities together have no more, none has. Else those on
+/// Whether no interface has more functions than the limit, where nothing leads back to itself. Where all entities together have no more, none has. Else those on
 /// which another stands are put off: most are known to have few once the others are searched, and so cost no search.
 pub fn all_have_few_functions(alloc: Global, entities: &[Entity]) -> Result<bool, NoMemory>
-    requires { IsRising (entities_of entities.now) }
+    requires rising { IsRising (entities_of entities.now) }
+    requires circles { HasNoCircle (leads_to (entities_of entities.now)) }
     ensures { IfOk result (λ b. IsTrue b ↔ HasFewFunctions (entities_of entities.now)) }
 {
     if functions_of_all(entities) <= MOST {
@@ -49,6 +51,7 @@ fn others_have_few(
     known: &mut [bool],
 ) -> Result<bool, NoMemory>
     requires rising { IsRising (entities_of entities.now) }
+    requires circles { HasNoCircle (leads_to (entities_of entities.now)) }
     requires long { length later.now ≡ length entities.now }
     requires before { KnownFew (entities_of entities.now) known.old }
     ensures few { IfOk result (λ b. IsTrue b ↔ AllFewBut later.now (entities_of entities.now)) }
@@ -71,6 +74,7 @@ fn waits_or_has_few(
     known: &mut [bool],
 ) -> Result<bool, NoMemory>
     requires rising { IsRising (entities_of entities.now) }
+    requires circles { HasNoCircle (leads_to (entities_of entities.now)) }
     requires place { place < length entities.now }
     requires before { KnownFew (entities_of entities.now) known.old }
     ensures few { IfOk result (λ b. IsTrue b ↔ (later ≡ false → FewAt (entities_of entities.now) place)) }
@@ -90,6 +94,7 @@ fn has_few_functions(
     known: &mut [bool],
 ) -> Result<bool, NoMemory>
     requires rising { IsRising (entities_of entities.now) }
+    requires circles { HasNoCircle (leads_to (entities_of entities.now)) }
     requires place { place < length entities.now }
     requires before { KnownFew (entities_of entities.now) known.old }
     ensures few { IfOk result (λ b. IsTrue b ↔ FewAt (entities_of entities.now) place) }
@@ -109,6 +114,7 @@ fn few_are_found(
     known: &mut [bool],
 ) -> Result<bool, NoMemory>
     requires rising { IsRising (entities_of entities.now) }
+    requires circles { HasNoCircle (leads_to (entities_of entities.now)) }
     requires place { place < length entities.now }
     requires before { KnownFew (entities_of entities.now) known.old }
     ensures few { IfOk result (λ b. IsTrue b ↔ FewAt (entities_of entities.now) place) }

@@ -1,6 +1,6 @@
 //! How many functions entities have: one, those that are marked, and all.
 ghost use Rattle.std.specs.Prelude.{◌≡◌, ◌^◌, ◌-◌, min, length, map, if◌then◌else◌};
-ghost use Rattle.uno_model.specs.Sound.{functions_of_member, functions_in, own_functions, marked_functions, total_functions};
+ghost use Rattle.uno_entities.specs.Counts.{functions_of_member, functions_in, own_functions, marked_functions, total_functions};
 ghost use Rattle.uno_entities.specs.Entities.{entities_of, body_of, member_of};
 
 use crate::{Body, Entity, Member};

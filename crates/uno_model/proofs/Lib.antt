@@ -6,6 +6,7 @@ pub mod CodeLaws
 pub mod DefaultLaws
 pub mod FindLaws
 pub mod FitLaws
+pub mod FunctionLaws
 pub mod MemberKindLaws
 pub mod MemberLaws
 pub mod NameLaws
@@ -14,3 +15,4 @@ pub mod PlaceLaws
 pub mod ReachLaws
 pub mod ReachesLaws
 pub mod UsedKindLaws
+pub mod VisitLaws

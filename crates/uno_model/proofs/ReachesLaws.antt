@@ -26,24 +26,24 @@ second_passed true b e = refl
 second_passed false b e = e
 
 -- an element of a list that passes a test
-abbrev Passing : {X : Type 0} → (X → Bool) → List X → Type 0
+abbrev pub Passing : {X : Type 0} → (X → Bool) → List X → Type 0
 Passing {X = X} p xs = (x : X) × Contains xs x × (p x ≡ true)
 
 -- where a test finds something, it is there
-passing : {X : Type 0} (p : X → Bool) (xs : List X) → list_any p xs ≡ true → Passing p xs
+pub passing : {X : Type 0} (p : X → Bool) (xs : List X) → list_any p xs ≡ true → Passing p xs
 passing p [] e = let bad : false ≡ true = e in cc
 passing p (x ∷ xs) e = elim (one_passed (p x) (list_any p xs) e) [ inl here ↦ (x, contains_head x xs, here) | inr behind ↦ later p x xs (passing p xs behind) ]
   where
     later : {X : Type 0} (q : X → Bool) (y : X) (ys : List X) → Passing q ys → Passing q (y ∷ ys)
     later q y ys found = (found.0, contains_behind y ys found.0 found.1, found.2)
 
-passes : {X : Type 0} (p : X → Bool) (xs : List X) (x : X) → Contains xs x → p x ≡ true → list_any p xs ≡ true
+pub passes : {X : Type 0} (p : X → Bool) (xs : List X) (x : X) → Contains xs x → p x ≡ true → list_any p xs ≡ true
 passes p [] x has is = absurd (omega (arith, has.1))
 passes p (y ∷ ys) x has is =
     elim (contains_cases y ys x has) [ inl here ↦ rw (ap p here ∙ is) refl | inr behind ↦ second_passed (p y) (list_any p ys) (passes p ys x behind is) ]
 
 -- a base of what a name stands on is a base of the name
-base_of_base : (reg : List Entity) (to from next : List ℕ) → Contains (stands_on reg from) next → IsBaseOf reg to next → IsBaseOf reg to from
+pub base_of_base : (reg : List Entity) (to from next : List ℕ) → Contains (stands_on reg from) next → IsBaseOf reg to next → IsBaseOf reg to from
 base_of_base reg to from next has (inl same) = inr (step from to (subst (Contains (stands_on reg from)) same has))
 base_of_base reg to from next has (inr way) = inr (on from next to has way)
 
@@ -112,7 +112,7 @@ stands_leads reg name base has = of_found (find_entity name reg) has
     of_found None it = it
     of_found (Some e) it = body_leads e.name e.published e.body base it
 
-ways_lead : (reg : List Entity) (a b : List ℕ) → Leads (stands_on reg) a b → Leads (leads_to reg) a b
+pub ways_lead : (reg : List Entity) (a b : List ℕ) → Leads (stands_on reg) a b → Leads (leads_to reg) a b
 ways_lead reg a b (step from to has) = step from to (stands_leads reg from to has)
 ways_lead reg a b (on from next to has more) = on from next to (stands_leads reg from next has) (ways_lead reg next to more)
 
@@ -128,7 +128,7 @@ standing_named reg name base None is has = absurd (omega (arith, has.1))
 standing_named reg name base (Some e) is has = found_named reg name e is
 
 -- without a circle no way over bases has more steps than there are entities
-bases_end : (reg : List Entity) (name : List ℕ) → HasNoCircle (leads_to reg) → ends_within (stands_on reg) (suc (length reg)) name ≡ true
+pub bases_end : (reg : List Entity) (name : List ℕ) → HasNoCircle (leads_to reg) → ends_within (stands_on reg) (suc (length reg)) name ≡ true
 bases_end reg name none =
     no_circle_ends (stands_on reg) (length reg) (map (λ x. x.name) reg) name (λ a circle. none a (ways_lead reg a a circle)) (length-map reg (λ (x : Entity). x.name))
     (λ b on_way c has. standing_named reg b c (find_entity b reg) refl has)

@@ -5,6 +5,7 @@ use Rattle.std.specs.Str.{bytes_eq}
 use Rattle.uno_model.specs.Kinds.{Kind}
 use Rattle.uno_model.specs.Kinds as kd
 use Rattle.uno_model.specs.Entities.{Entity, Body, Param, Member, Attribute, Method, attribute, method, interface}
+use Rattle.uno_model.specs.BuiltIn.{x_interface_name, query_interface, acquire, release}
 use Rattle.uno_model.specs.Registry.{find_entity, stands_on}
 use Rattle.uno_model.specs.declared.way.Way.TheVariants.{Into}
 
@@ -69,10 +70,18 @@ unfoldable pub met_within : ℕ → List Entity → List (List ℕ) → List ℕ
 met_within zero reg met name = met
 met_within (suc levels) reg met name = if is_met name met then met else visit_all (met_within levels reg) met (stands_on reg name) ++ name ∷ []
 
+-- an interface visited with all its bases: a way over bases that comes to no name twice has no more levels than there are entities
+abbrev pub visit : List Entity → List (List ℕ) → List ℕ → List (List ℕ)
+visit reg met name = met_within (suc (length reg)) reg met name
+
 -- the interfaces whose functions an interface has, in the order in which they are numbered; optional bases add none
 abbrev pub interfaces_of : List Entity → List ℕ → List (List ℕ)
-interfaces_of reg name = met_within (suc (length reg)) reg [] name
+interfaces_of reg name = visit reg [] name
 
 -- the functions of an interface
 abbrev pub functions_of : List Entity → List ℕ → List Function
 functions_of reg name = flat_map (λ owner. declared_by owner (find_entity owner reg)) (interfaces_of reg name)
+
+-- the three functions that every interface has first
+abbrev pub root_functions : List Function
+root_functions = call x_interface_name query_interface ∷ (call x_interface_name acquire ∷ (call x_interface_name release ∷ []))

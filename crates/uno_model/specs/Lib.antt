@@ -6,7 +6,6 @@ pub mod Entities
 pub mod Fits
 pub mod Functions
 pub mod Kinds
-pub mod Marks
 pub mod NamedTypes
 pub mod Names
 pub mod Places

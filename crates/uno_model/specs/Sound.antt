@@ -10,7 +10,7 @@ use Rattle.uno_model.specs.Entities.{Entity, Body, Base, Member, attribute, meth
 use Rattle.uno_model.specs.Entities.{struct, exception, enum, constants, typedef, new_service, old_service, new_singleton, old_singleton}
 use Rattle.uno_model.specs.Registry.{find_entity, at_most_one, required, all_members, leads_to}
 use Rattle.uno_model.specs.Uses.{inner_names, raised_names, interfaces_used, services_used, value_kinds, result_kinds, target_kinds, kinds_in, param_counts}
-use Rattle.uno_model.specs.Marks.{MarksBases}
+use Rattle.uno_model.specs.Functions.{functions_of}
 
 -- ---- names are identifiers, joined by points in an entity's name
 
@@ -159,38 +159,9 @@ few_params count = nat_le count 64
 abbrev pub is_within_limits : Entity → Bool
 is_within_limits e = (few_modules e.name && (not (is_type_body e.body) || short_name e.name)) && (list_all is_namable (kinds_in e.body) && list_all few_params (param_counts e.body))
 
--- how many functions an attribute has, and a member, and an entity itself
-abbrev pub accessors : Bool → ℕ
-accessors true = 1
-accessors false = 2
-
-abbrev pub functions_of_member : Member → ℕ
-functions_of_member (attribute a) = accessors a.read_only
-functions_of_member (method m) = 1
-
-unfoldable pub functions_in : List Member → ℕ
-functions_in [] = 0
-functions_in (m ∷ ms) = functions_of_member m + functions_in ms
-
-abbrev pub own_functions : Body → ℕ
-own_functions (interface bases members) = functions_in members
-own_functions _ = 0
-
--- how many functions all entities have themselves
-unfoldable pub total_functions : List Entity → ℕ
-total_functions [] = 0
-total_functions (e ∷ es) = own_functions e.body + total_functions es
-
--- the functions of what is marked, each entity counted once
-unfoldable pub marked_functions : List Bool → List Entity → ℕ
-marked_functions [] reg = 0
-marked_functions (mark ∷ marks) [] = 0
-marked_functions (true ∷ marks) (e ∷ es) = own_functions e.body + marked_functions marks es
-marked_functions (false ∷ marks) (e ∷ es) = marked_functions marks es
-
--- an interface has at most 65,536 functions, those of its bases counted, each base once
+-- each entity has at most 65,536 functions, those of its bases counted
 abbrev pub HasFewFunctions : List Entity → Type 0
-HasFewFunctions reg = (e : Entity) (marks : List Bool) → Contains reg e → MarksBases reg e.name marks → marked_functions marks reg ≤ 65536
+HasFewFunctions reg = (e : Entity) → Contains reg e → length (functions_of reg e.name) ≤ 65536
 
 -- ---- a sound registry
 

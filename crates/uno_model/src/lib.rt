@@ -2,8 +2,10 @@
 #![tactic(auto)]
 
 mod assignable_laws;
+mod built_in_laws;
 mod circle_laws;
 mod flags;
+mod function_laws;
 mod member_laws;
 mod name_laws;
 mod type_class;
@@ -14,8 +16,15 @@ pub use assignable_laws::{
     a_type_is_assignable_to_itself, what_is_assignable_is_so_over_two_steps,
     what_is_assignable_passes_the_test,
 };
+pub use built_in_laws::the_built_in_entities_are_sound;
 pub use circle_laws::{what_ends_has_no_circle, without_circles_all_ways_end};
 pub use flags::Flags;
+pub use function_laws::{
+    a_visit_is_that_of_the_bases_and_the_interface_itself,
+    an_interface_has_the_functions_of_its_bases, every_interface_stands_on_the_root,
+    more_levels_meet_the_same_interfaces, the_first_functions_are_those_of_the_root,
+    the_functions_of_the_first_base_come_first, what_is_no_interface_has_no_functions,
+};
 pub use member_laws::all_members_are_the_bases_and_its_own;
 pub use name_laws::types_of_one_name_are_one;
 pub use type_class::TypeClass;

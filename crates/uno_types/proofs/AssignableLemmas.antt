@@ -8,7 +8,7 @@ use Rattle.std.proofs.lemmas.Option.{slice_get-get_or}
 use Rattle.std.proofs.lemmas.Slice.Eq.{bytes_eq-Decides}
 use Rattle.uno_model.specs.Circles.{Leads, step, on}
 use Rattle.uno_model.specs.Entities.{Entity, Base, Body, interface, struct, exception}
-use Rattle.uno_model.specs.Marks.{MarksBases}
+use Rattle.uno_entities.specs.Marks.{MarksBases}
 use Rattle.uno_model.specs.Reaches.{reaches_within}
 use Rattle.uno_model.specs.Registry.{find_entity, at_most_one, stands_on, stands_on_body, IsBaseOf}
 use Rattle.uno_model.specs.Sound.{IsSound, is_there, is_interface, is_struct, is_exception, body_known}

@@ -6,7 +6,7 @@ use Rattle.uno_entities.specs.Entities.{entity_of, entities_of}
 use Rattle.uno_entities.proofs.few_functions.all_have_few_functions.Goals as goal
 
 pub returns-then-functions_of_all-le-MOST : goal.returns-then-functions_of_all-le-MOST
-returns-then-functions_of_all-le-MOST c = (λ yes. few_together _ _ c.functions_of_all.ensures c.if-functions_of_all-le-MOST.true, λ few. refl)
+returns-then-functions_of_all-le-MOST c = (λ yes. few_together _ _ c.requires.rising c.requires.circles c.functions_of_all.ensures c.if-functions_of_all-le-MOST.true, λ few. refl)
 
 pub others_have_few-requires-clause-before : goal.others_have_few-requires-clause-before
 others_have_few-requires-clause-before c =

@@ -16,10 +16,10 @@ few_are_marked-few-requires-clause-known c =
 pub returns-clause-few : goal.returns-clause-few
 returns-clause-few c =
     found_few (entities_of c.args.entities.now) c.args.place c.few_are_marked-few.result c.in_ok-marks.marks.items c.as_slice.result.now
-    (omega (arith, c.requires.place, length-map c.args.entities.now entity_of)) c.in_ok-marks.ensures c.as_slice.ensures.value c.few_are_marked-few.ensures.few
+    c.requires.rising c.requires.circles (omega (arith, c.requires.place, length-map c.args.entities.now entity_of)) c.in_ok-marks.ensures c.as_slice.ensures.value c.few_are_marked-few.ensures.few
 
 pub returns-clause-after : goal.returns-clause-after
 returns-clause-after c =
     known_more (entities_of c.args.entities.now) c.args.place c.few_are_marked-few.result c.in_ok-marks.marks.items c.as_slice.result.now c.args.known.now _
-    (omega (arith, c.requires.place, length-map c.args.entities.now entity_of)) c.in_ok-marks.ensures c.as_slice.ensures.value c.few_are_marked-few.ensures.few
+    c.requires.rising c.requires.circles (omega (arith, c.requires.place, length-map c.args.entities.now entity_of)) c.in_ok-marks.ensures c.as_slice.ensures.value c.few_are_marked-few.ensures.few
     c.requires.before c.few_are_marked-few.ensures.after

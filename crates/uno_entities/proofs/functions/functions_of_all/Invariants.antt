@@ -1,5 +1,5 @@
 use Rattle.std.proofs.Common.{◌≡◌, ◌+◌, ◌-◌, ◌^◌, ◌≤◌, min, drop}
-use Rattle.uno_model.specs.Sound.{total_functions}
+use Rattle.uno_entities.specs.Counts.{total_functions}
 use Rattle.uno_entities.specs.Entities.{entities_of}
 use Rattle.uno_entities.proofs.functions.functions_of_all.Given as goal
 

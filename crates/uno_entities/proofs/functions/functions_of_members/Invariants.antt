@@ -1,5 +1,5 @@
 use Rattle.std.proofs.Common.{◌≡◌, ◌+◌, ◌-◌, ◌^◌, ◌≤◌, min, map, drop}
-use Rattle.uno_model.specs.Sound.{functions_in}
+use Rattle.uno_entities.specs.Counts.{functions_in}
 use Rattle.uno_entities.specs.Entities.{member_of}
 use Rattle.uno_entities.proofs.functions.functions_of_members.Given as goal
 
