@@ -12,5 +12,5 @@ pub mod TargetLaws
 pub mod TargetReadingLaws
 pub mod SaidLaws
 pub mod SentMessageLaws
-pub mod InOrderLaws
+pub mod StreamLaws
 pub mod MessageWeightLaws

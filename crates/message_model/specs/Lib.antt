@@ -1,10 +1,10 @@
 pub mod Arriving
 pub mod Calls
 pub mod Headers
-pub mod InOrder
 pub mod Messages
 pub mod ReadingMessages
 pub mod Said
 pub mod Speaking
 pub mod SpellingMessages
+pub mod Streams
 pub mod WritingMessages

@@ -4,6 +4,7 @@
 mod reading_laws;
 mod said_laws;
 mod sending_laws;
+mod stream_laws;
 
 pub use reading_laws::{
     a_front_of_a_message_is_short, a_message_that_is_read_fits,
@@ -16,5 +17,8 @@ pub use said_laws::{
 };
 pub use sending_laws::{
     a_message_is_no_longer_than_its_weight, a_message_is_read_again, a_message_is_spelled,
-    messages_are_read_in_order,
+};
+pub use stream_laws::{
+    a_stream_goes_on_behind_what_it_spells, a_stream_spells_one_list_of_messages,
+    what_was_said_is_read,
 };

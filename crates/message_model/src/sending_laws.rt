@@ -1,13 +1,13 @@
 //! Laws of what a sender writes of messages: each function has an empty body, and its clauses are the law.
-ghost use Rattle.std.specs.Prelude.{◌≡◌, ℕ, ◌≤◌, List, ◌++◌, length, map, Ok};
+ghost use Rattle.std.specs.Prelude.{◌≡◌, ℕ, ◌≤◌, List, ◌++◌, length, Ok};
 ghost use Rattle.message_model.specs.Calls.{Waits};
 ghost use Rattle.message_model.specs.Headers.{Heard, nothing_heard};
-ghost use Rattle.message_model.specs.InOrder.{CanBeSaid, EachCanBeSaid, AreRead};
 ghost use Rattle.message_model.specs.Messages.{Message};
 ghost use Rattle.message_model.specs.ReadingMessages.{message_at};
 ghost use Rattle.message_model.specs.Speaking.{arrived, message_weight, Agree};
 ghost use Rattle.message_model.specs.SpellingMessages.{SpellsMessage};
-ghost use Rattle.message_model.specs.WritingMessages.{Spoken, nothing_spoken, message_spelling, after_message, bodies_spelling, after_messages};
+ghost use Rattle.message_model.specs.Streams.{CanBeSaid};
+ghost use Rattle.message_model.specs.WritingMessages.{Spoken, nothing_spoken, message_spelling, after_message};
 ghost use Rattle.uno_model.specs.Entities.{Entity};
 ghost use Rattle.uno_model.specs.Sound.{IsSound};
 
@@ -23,12 +23,6 @@ pub fn a_message_is_spelled()
 pub fn a_message_is_read_again()
     ensures { (reg : List Entity) (waits : Waits) (m : Message) (heard : Heard) (spoken : Spoken) (rest : List ℕ) → IsSound reg → CanBeSaid reg waits m → Agree heard spoken
         → (after : Heard) × (message_at reg waits heard (message_spelling reg m spoken ++ rest) ≡ Ok (arrived reg m, after, rest)) × Agree after (after_message reg m spoken) }
-{}
-
-/// Messages that are said one after the other are read in that order, where the same calls wait at each.
-pub fn messages_are_read_in_order()
-    ensures { (reg : List Entity) (waits : List Waits) (ms : List Message) (heard : Heard) (spoken : Spoken) → IsSound reg → EachCanBeSaid reg waits ms → Agree heard spoken
-        → (after : Heard) × AreRead reg waits (bodies_spelling reg ms spoken) heard (map (arrived reg) ms) after × Agree after (after_messages reg ms spoken) }
 {}
 
 /// A message is written in no more bytes than it weighs.

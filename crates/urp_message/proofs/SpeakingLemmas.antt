@@ -17,7 +17,7 @@ use Rattle.message_model.specs.Speaking.{Agree}
 use Rattle.message_model.specs.ReadingMessages.{message_at}
 use Rattle.message_model.specs.WritingMessages.{Spoken, Heading, call_heading, release_heading, message_spelling, after_message}
 use Rattle.message_model.proofs.MessageWeightLaws.{message_bounded}
-use Rattle.message_model.proofs.InOrderLaws.{read_back}
+use Rattle.message_model.proofs.StreamLaws.{read_back}
 use Rattle.wire_writing.specs.Written.{IsWritable, AreWritable}
 use Rattle.wire_writing.proofs.Lengths.{all_writable, light_writable}
 use Rattle.urp_message.specs.Speaking.{HeadingWritable, AnswerWritable, MessageWritable}

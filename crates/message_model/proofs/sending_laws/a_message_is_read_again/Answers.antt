@@ -1,4 +1,4 @@
-use Rattle.message_model.proofs.InOrderLaws.{read_back}
+use Rattle.message_model.proofs.StreamLaws.{read_back}
 use Rattle.message_model.proofs.sending_laws.a_message_is_read_again.Goals as goal
 
 pub returns : goal.returns

@@ -1,4 +1,4 @@
-use Rattle.message_model.proofs.InOrderLaws.{agree_at_first}
+use Rattle.message_model.proofs.StreamLaws.{agree_at_first}
 use Rattle.message_model.proofs.SentMessageLaws.{message_is}
 use Rattle.message_model.proofs.sending_laws.a_message_is_spelled.Goals as goal
 
