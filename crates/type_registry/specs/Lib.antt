@@ -1,3 +1,4 @@
 pub mod Functions
 pub mod Met
+pub mod Own
 pub mod Tasks

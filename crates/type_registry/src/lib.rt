@@ -3,11 +3,10 @@
 
 mod function;
 mod met;
-mod numbered;
+mod own;
 mod table;
 mod threads;
 mod walk;
 
-pub use function::Function;
-pub use numbered::function_numbered;
+pub use function::{Function, FunctionRef, ParamRef};
 pub use table::{TableError, function_table};
