@@ -1,7 +1,11 @@
 -- Texts joined by commas, one after the other.
-use Rattle.std.proofs.Common.{◌≡◌, ◌<◌, ◌≤◌, ◌+◌, length, drop, get_or, Bool, true, false, List, [], ◌∷◌, ◌++◌, ℕ, refl, sym, ap, ◌∙◌, codes}
+use Rattle.std.proofs.Common.{◌≡◌, ◌≢◌, suc, arith, ◌<◌, ◌≤◌, ◌+◌, length, drop, get_or, Bool, true, false, List, [], ◌∷◌, ◌++◌, ℕ, refl, sym, ap, ◌∙◌, codes}
+use Rattle.std.proofs.lemmas.Bool.{ne_eqb}
+use Rattle.std.proofs.lemmas.Str.{inside_one}
+use Rattle.std.specs.Char.{encode_utf8}
+use Rattle.std.specs.List.{flat_map}
 use Rattle.std.proofs.lemmas.List.{append-nil, append_assoc, drop_more, drop_all}
-use Rattle.literal_model.specs.Literals.{joined}
+use Rattle.literal_model.specs.Literals.{escaped, joined}
 use Rattle.value_text.specs.Printing.{comma_before}
 
 -- what is left of texts that are joined, where the next is the first or another
@@ -40,3 +44,17 @@ joins_next f g xs i x is_first a b c d more within read all comma text =
 pub joins_all : {X : Type 0} (f : List X → List (List ℕ)) (xs : List X) (i : ℕ) (is_first : Bool) (a d : List ℕ) → f [] ≡ [] → length xs ≤ i
     → a ++ joined_on is_first (f (drop i xs)) ≡ d → a ≡ d
 joins_all f xs i is_first a d none past all = sym (append-nil a) ∙ ap (λ t. a ++ t) (sym (joined_on_none is_first)) ∙ ap (λ ts. a ++ joined_on is_first ts) (sym none) ∙ ap (λ ys. a ++ joined_on is_first (f ys)) (sym (drop_all i xs past)) ∙ all
+
+-- bytes of which none is escaped
+unescaped : (bs : List ℕ) → ((k : ℕ) → k < length bs → (get_or bs k 0 ≢ 34) × (get_or bs k 0 ≢ 92) × (get_or bs k 0 ≢ 10)) → flat_map escaped bs ≡ bs
+unescaped [] none = refl
+unescaped (b ∷ bs) none =
+    let at = none 0 (omega arith) in
+    rw (ne_eqb b 34 at.0, ne_eqb b 92 at.1, ne_eqb b 10 at.2) (ap (λ xs. b ∷ xs) (unescaped bs (λ k within. none (suc k) (omega (arith, within)))))
+
+-- a character that is none of the three is written as it is
+pub plain_character : (c : ℕ) → c ≢ 34 → c ≢ 92 → c ≢ 10 → flat_map escaped (encode_utf8 c) ≡ encode_utf8 c
+plain_character c quote slash line = unescaped (encode_utf8 c) (λ k within. (other k within 34 (omega arith) quote, other k within 92 (omega arith) slash, other k within 10 (omega arith) line))
+  where
+    other : (k : ℕ) → k < length (encode_utf8 c) → (d : ℕ) → d < 128 → c ≢ d → get_or (encode_utf8 c) k 0 ≢ d
+    other k within d small differs is = differs (inside_one c [] (encode_utf8 c) k (sym (append-nil (encode_utf8 c))) within (omega (arith, is, small)) ∙ is)

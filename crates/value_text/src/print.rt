@@ -1,7 +1,10 @@
 //! The text of a value.
-ghost use Rattle.std.specs.Prelude.{◌≡◌, ◌++◌, ◌∷◌, [], map, IfOk, OnOk, codes};
+ghost use Rattle.std.specs.Prelude.{◌≡◌, ◌++◌, map, IfOk, OnOk, codes};
 ghost use Rattle.std.specs.List.{flat_map};
+ghost use Rattle.std.specs.Char.{encode_utf8};
 ghost use Rattle.std.specs.Fmt.{decimal, signed_decimal};
+ghost use Rattle.std.specs.Str.{IsUtf8};
+ghost use Rattle.std.specs.String.{string_bytes};
 ghost use Rattle.uno_model.specs.Defaults.{items_of};
 ghost use Rattle.uno_model.specs.Kinds.{name_of};
 ghost use Rattle.literal_model.specs.Literals.{print, print_each, joined, quoted, escaped, first_item, item_text, byte_text, ref_text};
@@ -20,11 +23,12 @@ use uno_values::{AnyValue, Reference, Value};
 
 /// The literal of a value; that of an object is its identity and its interface behind `@`.
 pub fn print_value(alloc: Global, registry: &Registry, value: &Value) -> Result<Vec<u8>, NoMemory>
-    ensures { IfOk result (λ text. text.items ≡ print registry.now (plain_of value.now)) }
+    ensures literal { IfOk result (λ text. text.items ≡ print registry.now (plain_of value.now)) }
+    ensures utf8 { IfOk result (λ text. IsUtf8 text.items) }
 {
-    let mut text = Vec::new(alloc);
+    let mut text = String::new(alloc);
     push_value(alloc, &mut text, registry, value)?;
-    Ok(text)
+    Ok(text.into_bytes())
 }
 
 /// As deep as the value is nested.
@@ -32,11 +36,11 @@ pub fn print_value(alloc: Global, registry: &Registry, value: &Value) -> Result<
 #[tactic(auto, unfolding(literal_model::specs::Literals::print))]
 fn push_value(
     alloc: Global,
-    text: &mut Vec<u8>,
+    text: &mut String,
     registry: &Registry,
     value: &Value,
 ) -> Result<(), NoMemory>
-    ensures { OnOk result (text.new.items ≡ text.old.items ++ print registry.now (plain_of value.now)) }
+    ensures { OnOk result (string_bytes text.new ≡ string_bytes text.old ++ print registry.now (plain_of value.now)) }
 {
     match value {
         Value::Void => push_text(text, "void"),
@@ -51,11 +55,11 @@ fn push_value(
         Value::Hyper(number) => push_signed(alloc, text, *number),
         Value::UnsignedHyper(number) => push_number(alloc, text, *number),
         Value::Str(string) => push_quoted(text, string.as_str()),
-        Value::Kind(kind) => push_type(text, kind, b'<', b'>'),
+        Value::Kind(kind) => push_type(text, kind, "<", ">"),
         Value::Any(any) => push_any(alloc, text, registry, any),
         Value::Enum(name, number) => push_item(alloc, text, registry, name.as_str(), *number),
-        Value::Tuple(_, members) => push_list(alloc, text, registry, members, b'{', b'}'),
-        Value::List(_, elements) => push_list(alloc, text, registry, elements, b'[', b']'),
+        Value::Tuple(_, members) => push_list(alloc, text, registry, members, "{", "}"),
+        Value::List(_, elements) => push_list(alloc, text, registry, elements, "[", "]"),
         Value::Bytes(bytes) => push_bytes(alloc, text, bytes),
         Value::Ref(reference) => push_reference(text, reference),
     }
@@ -66,13 +70,13 @@ fn push_value(
 #[tactic(auto, unfolding(literal_model::specs::Literals::print))]
 fn push_any(
     alloc: Global,
-    text: &mut Vec<u8>,
+    text: &mut String,
     registry: &Registry,
     any: &AnyValue,
 ) -> Result<(), NoMemory>
-    ensures { OnOk result (text.new.items ≡ text.old.items ++ print registry.now (plain.any (any_of any.now).0 (any_of any.now).1)) }
+    ensures { OnOk result (string_bytes text.new ≡ string_bytes text.old ++ print registry.now (plain.any (any_of any.now).0 (any_of any.now).1)) }
 {
-    push_type(text, &any.kind, b'(', b')')?;
+    push_type(text, &any.kind, "(", ")")?;
     match &any.value {
         Value::Void => Ok(()),
         _ => push_value(alloc, text, registry, &any.value),
@@ -83,28 +87,27 @@ fn push_any(
 #[cycle(print)]
 fn push_list(
     alloc: Global,
-    text: &mut Vec<u8>,
+    text: &mut String,
     registry: &Registry,
     values: &[Value],
-    front: u8,
-    back: u8,
+    front: &str,
+    back: &str,
 ) -> Result<(), NoMemory>
-    ensures { OnOk result (text.new.items ≡ text.old.items ++ (front ∷ (joined (print_each registry.now (plains_of values.now)) ++ back ∷ []))) }
+    ensures { OnOk result (string_bytes text.new ≡ string_bytes text.old ++ (front.now ++ (joined (print_each registry.now (plains_of values.now)) ++ back.now))) }
 {
-    text.push(front)?;
+    push_text(text, front)?;
     push_all(alloc, text, registry, values)?;
-    text.push(back)?;
-    Ok(())
+    push_text(text, back)
 }
 
 #[cycle(print)]
 fn push_all(
     alloc: Global,
-    text: &mut Vec<u8>,
+    text: &mut String,
     registry: &Registry,
     values: &[Value],
 ) -> Result<(), NoMemory>
-    ensures { OnOk result (text.new.items ≡ text.old.items ++ joined (print_each registry.now (plains_of values.now))) }
+    ensures { OnOk result (string_bytes text.new ≡ string_bytes text.old ++ joined (print_each registry.now (plains_of values.now))) }
 {
     let mut is_first = true;
     for value in values {
@@ -116,86 +119,82 @@ fn push_all(
 }
 
 /// The comma before a value that is not the first.
-fn push_comma(text: &mut Vec<u8>, is_first: bool) -> Result<(), NoMemory>
-    ensures { OnOk result (text.new.items ≡ text.old.items ++ comma_before is_first) }
+fn push_comma(text: &mut String, is_first: bool) -> Result<(), NoMemory>
+    ensures { OnOk result (string_bytes text.new ≡ string_bytes text.old ++ comma_before is_first) }
 {
     if is_first {
         return Ok(());
     }
-    text.push(b',')?;
-    Ok(())
+    push_text(text, ",")
 }
 
-fn push_text(text: &mut Vec<u8>, word: &str) -> Result<(), NoMemory>
-    ensures { OnOk result (text.new.items ≡ text.old.items ++ word.now) }
+fn push_text(text: &mut String, word: &str) -> Result<(), NoMemory>
+    ensures { OnOk result (string_bytes text.new ≡ string_bytes text.old ++ word.now) }
 {
-    text.extend_from_slice(word.as_bytes())?;
+    text.push_str(word)?;
     Ok(())
 }
 
-fn push_number(alloc: Global, text: &mut Vec<u8>, number: u64) -> Result<(), NoMemory>
-    ensures { OnOk result (text.new.items ≡ text.old.items ++ decimal number) }
+fn push_number(alloc: Global, text: &mut String, number: u64) -> Result<(), NoMemory>
+    ensures { OnOk result (string_bytes text.new ≡ string_bytes text.old ++ decimal number) }
 {
     let digits = number.to_string(alloc)?;
     push_text(text, digits.as_str())
 }
 
-fn push_signed(alloc: Global, text: &mut Vec<u8>, number: i64) -> Result<(), NoMemory>
-    ensures { OnOk result (text.new.items ≡ text.old.items ++ signed_decimal number) }
+fn push_signed(alloc: Global, text: &mut String, number: i64) -> Result<(), NoMemory>
+    ensures { OnOk result (string_bytes text.new ≡ string_bytes text.old ++ signed_decimal number) }
 {
     let digits = number.to_string(alloc)?;
     push_text(text, digits.as_str())
 }
 
 /// A text between quotes, in which quotes, backslashes and line feeds are written as two characters.
-fn push_quoted(text: &mut Vec<u8>, string: &str) -> Result<(), NoMemory>
-    ensures { OnOk result (text.new.items ≡ text.old.items ++ quoted string.now) }
+fn push_quoted(text: &mut String, string: &str) -> Result<(), NoMemory>
+    ensures { OnOk result (string_bytes text.new ≡ string_bytes text.old ++ quoted string.now) }
 {
-    text.push(b'"')?;
-    push_escaped(text, string.as_bytes())?;
-    text.push(b'"')?;
+    push_text(text, "\"")?;
+    push_escaped(text, string)?;
+    push_text(text, "\"")
+}
+
+fn push_escaped(text: &mut String, string: &str) -> Result<(), NoMemory>
+    ensures { OnOk result (string_bytes text.new ≡ string_bytes text.old ++ flat_map escaped string.now) }
+{
+    for character in string.chars() {
+        push_character(text, character)?;
+    }
     Ok(())
 }
 
-fn push_escaped(text: &mut Vec<u8>, bytes: &[u8]) -> Result<(), NoMemory>
-    ensures { OnOk result (text.new.items ≡ text.old.items ++ flat_map escaped bytes.now) }
+fn push_character(text: &mut String, character: char) -> Result<(), NoMemory>
+    ensures { OnOk result (string_bytes text.new ≡ string_bytes text.old ++ flat_map escaped (encode_utf8 character)) }
 {
-    for byte in bytes {
-        push_byte(text, *byte)?;
+    if character == '"' {
+        return push_text(text, "\\\"");
     }
-    Ok(())
-}
-
-fn push_byte(text: &mut Vec<u8>, byte: u8) -> Result<(), NoMemory>
-    ensures { OnOk result (text.new.items ≡ text.old.items ++ escaped byte) }
-{
-    if byte == b'"' || byte == b'\\' {
-        text.push(b'\\')?;
-        text.push(byte)?;
-        return Ok(());
+    if character == '\\' {
+        return push_text(text, "\\\\");
     }
-    if byte == b'\n' {
-        text.push(b'\\')?;
-        text.push(b'n')?;
-        return Ok(());
+    if character == '\n' {
+        return push_text(text, "\\n");
     }
-    text.push(byte)?;
+    text.push(character)?;
     Ok(())
 }
 
 /// The name of a type between two marks.
-fn push_type(text: &mut Vec<u8>, kind: &TypeName, front: u8, back: u8) -> Result<(), NoMemory>
-    ensures { OnOk result (text.new.items ≡ text.old.items ++ (front ∷ (name_of (kind_of kind.now) ++ back ∷ []))) }
+fn push_type(text: &mut String, kind: &TypeName, front: &str, back: &str) -> Result<(), NoMemory>
+    ensures { OnOk result (string_bytes text.new ≡ string_bytes text.old ++ (front.now ++ (name_of (kind_of kind.now) ++ back.now))) }
 {
-    text.push(front)?;
+    push_text(text, front)?;
     push_name(text, kind)?;
-    text.push(back)?;
-    Ok(())
+    push_text(text, back)
 }
 
 /// As deep as there are sequences round it.
-fn push_name(text: &mut Vec<u8>, kind: &TypeName) -> Result<(), NoMemory>
-    ensures { OnOk result (text.new.items ≡ text.old.items ++ name_of (kind_of kind.now)) }
+fn push_name(text: &mut String, kind: &TypeName) -> Result<(), NoMemory>
+    ensures { OnOk result (string_bytes text.new ≡ string_bytes text.old ++ name_of (kind_of kind.now)) }
 {
     push_text(text, kind.front())?;
     let TypeName::Sequence(inner) = kind else {
@@ -207,12 +206,12 @@ fn push_name(text: &mut Vec<u8>, kind: &TypeName) -> Result<(), NoMemory>
 /// The first item of the number, or the number where the enum has none of it.
 fn push_item(
     alloc: Global,
-    text: &mut Vec<u8>,
+    text: &mut String,
     registry: &Registry,
     name: &str,
     number: i32,
 ) -> Result<(), NoMemory>
-    ensures { OnOk result (text.new.items ≡ text.old.items ++ item_text (first_item (items_of (find_entity name.now registry.now)) number) number) }
+    ensures { OnOk result (string_bytes text.new ≡ string_bytes text.old ++ item_text (first_item (items_of (find_entity name.now registry.now)) number) number) }
 {
     let items = items_of(registry, name);
     match first_item(items, number) {
@@ -222,17 +221,16 @@ fn push_item(
 }
 
 /// The elements of a sequence of bytes, each as a signed number.
-fn push_bytes(alloc: Global, text: &mut Vec<u8>, bytes: &[u8]) -> Result<(), NoMemory>
-    ensures { OnOk result (text.new.items ≡ text.old.items ++ (codes "[" ++ (joined (map byte_text bytes.now) ++ codes "]"))) }
+fn push_bytes(alloc: Global, text: &mut String, bytes: &[u8]) -> Result<(), NoMemory>
+    ensures { OnOk result (string_bytes text.new ≡ string_bytes text.old ++ (codes "[" ++ (joined (map byte_text bytes.now) ++ codes "]"))) }
 {
-    text.push(b'[')?;
+    push_text(text, "[")?;
     push_numbers(alloc, text, bytes)?;
-    text.push(b']')?;
-    Ok(())
+    push_text(text, "]")
 }
 
-fn push_numbers(alloc: Global, text: &mut Vec<u8>, bytes: &[u8]) -> Result<(), NoMemory>
-    ensures { OnOk result (text.new.items ≡ text.old.items ++ joined (map byte_text bytes.now)) }
+fn push_numbers(alloc: Global, text: &mut String, bytes: &[u8]) -> Result<(), NoMemory>
+    ensures { OnOk result (string_bytes text.new ≡ string_bytes text.old ++ joined (map byte_text bytes.now)) }
 {
     let mut is_first = true;
     for byte in bytes {
@@ -243,8 +241,8 @@ fn push_numbers(alloc: Global, text: &mut Vec<u8>, bytes: &[u8]) -> Result<(), N
     Ok(())
 }
 
-fn push_reference(text: &mut Vec<u8>, reference: &Reference) -> Result<(), NoMemory>
-    ensures { OnOk result (text.new.items ≡ text.old.items ++ ref_text (ref_of reference.now)) }
+fn push_reference(text: &mut String, reference: &Reference) -> Result<(), NoMemory>
+    ensures { OnOk result (string_bytes text.new ≡ string_bytes text.old ++ ref_text (ref_of reference.now)) }
 {
     match reference {
         Reference::Null => push_text(text, "null"),
@@ -253,8 +251,8 @@ fn push_reference(text: &mut Vec<u8>, reference: &Reference) -> Result<(), NoMem
     }
 }
 
-fn push_object(text: &mut Vec<u8>, oid: &str, face: &str) -> Result<(), NoMemory>
-    ensures { OnOk result (text.new.items ≡ text.old.items ++ (codes "@" ++ (quoted oid.now ++ (codes "<" ++ (face.now ++ codes ">"))))) }
+fn push_object(text: &mut String, oid: &str, face: &str) -> Result<(), NoMemory>
+    ensures { OnOk result (string_bytes text.new ≡ string_bytes text.old ++ (codes "@" ++ (quoted oid.now ++ (codes "<" ++ (face.now ++ codes ">"))))) }
 {
     push_text(text, "@")?;
     push_quoted(text, oid)?;
