@@ -6,21 +6,24 @@ use Rattle.uno_model.specs.Functions.{Function}
 use Rattle.uno_model.specs.Kinds.{Kind}
 use Rattle.uno_model.specs.Types.{is_type}
 use Rattle.uno_model.specs.Values.{Plain}
-use Rattle.urp_model.specs.Carried.{MeansIdentities}
+use Rattle.urp_model.specs.Carried.{MeansOnly, MeansIdentities}
 use Rattle.message_model.specs.Calls.{acquire_number, release_number, numbered, argument_kinds}
 use Rattle.message_model.specs.Headers.{Heard}
 use Rattle.message_model.specs.Messages.{Answer, Message, request, release, reply}
-use Rattle.message_model.specs.Speaking.{Fill, AnswerFits}
+use Rattle.message_model.specs.Speaking.{Fill, AnswerFits, IsThread}
 
 -- an identity of an object, or the empty one, which is null
 abbrev pub IsObject : List ℕ → Type 0
 IsObject oid = (oid ≡ []) ⊎ IsIdentity oid
 
--- each slot of objects means an identity, the last type is one of the registry, and the last object is an identity or null
+-- each slot of objects means an identity, and of threads that of a thread; the last type is one of the registry, the last object an identity or null, and the
+-- last thread one
 pub record IsHeard (reg : List Entity) (heard : Heard) : Type 0 where
   pub oids : MeansIdentities heard.tables.oids
+  pub tids : MeansOnly IsThread heard.tables.tids
   pub kind : (k : Kind) → heard.last.kind ≡ Some k → IsTrue (is_type reg k)
   pub oid : (oid : List ℕ) → heard.last.oid ≡ Some oid → IsObject oid
+  pub tid : (tid : List ℕ) → heard.last.tid ≡ Some tid → IsThread tid
 
 -- a request calls a function of an interface of the registry, neither acquire nor release, and its arguments fit and are nested at most 64 deep
 pub record RequestFits (reg : List Entity) (oid face : List ℕ) (function : ℕ) (args : List Plain) : Type 0 where
@@ -43,8 +46,8 @@ pub record ReplyFits (reg : List Entity) (face : List ℕ) (function : ℕ) (ans
   pub found : numbered reg face function ≡ Some f
   pub fits : AnswerFits reg f answer
 
--- a message that was read
+-- a message that was read, on its thread
 abbrev pub MessageFits : List Entity → Message → Type 0
-MessageFits reg (request tid oid face function args) = RequestFits reg oid face function args
-MessageFits reg (release tid oid face) = ReleaseFits reg oid face
-MessageFits reg (reply tid face function answer) = ReplyFits reg face function answer
+MessageFits reg (request tid oid face function args) = IsThread tid × RequestFits reg oid face function args
+MessageFits reg (release tid oid face) = IsThread tid × ReleaseFits reg oid face
+MessageFits reg (reply tid face function answer) = IsThread tid × ReplyFits reg face function answer

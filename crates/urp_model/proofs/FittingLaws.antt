@@ -9,7 +9,7 @@ use Rattle.uno_model.specs.Kinds.{Kind, name_of, nesting}
 use Rattle.uno_model.specs.Kinds as kd
 use Rattle.uno_model.specs.Sound.{kind_known, elements_plain, is_plain, is_namable}
 use Rattle.uno_model.specs.Types.{is_type, is_formed}
-use Rattle.urp_model.specs.Carried.{MeansIdentities}
+use Rattle.urp_model.specs.Carried.{MeansOnly, MeansIdentities}
 use Rattle.urp_model.specs.NamedKinds.{is_simple}
 use Rattle.urp_model.specs.Spelling.{IsTextName, Spelled, SpellsKind, simple, SpellsName, SpellsOid, SpellsAll, SpellsEach}
 use Rattle.urp_model.specs.Spelling.{SpellsBytes, SpellsList, SpellsSequence, SpellsTuple, SpellsStep, Spells}
@@ -72,26 +72,36 @@ meaning_noted at slot name oid table = by_slot (nat_lt slot 256)
     by_slot false is = inr is
     by_slot true is = elim (cases_eq at slot) [ inl same ↦ at_same (nat_lt at 256) same is | inr other ↦ at_other (nat_lt at 256) other is ]
 
--- a name that is not empty, and no longer than a name may be
-identity_is : (oid p : List ℕ) → oid ≢ [] → IsTextName p oid → IsIdentity oid
-identity_is [] p some text = absurd (some refl)
-identity_is (b ∷ oid) p some text = record { some = omega arith; bounded = text.1 }
+-- names that are read and are not empty have a property, and so has what slots mean
+module _ (P : List ℕ → Type 0) where
+  noted_only : (slot : ℕ) (name : List ℕ) (table : Table) → P name → MeansOnly P table → MeansOnly P (noted slot name table)
+  noted_only slot name table is each at other meant = elim (meaning_noted at slot name other table meant) [ inl same ↦ subst P same is | inr before ↦ each at other before ]
 
-noted_identities : (slot : ℕ) (name : List ℕ) (table : Table) → IsIdentity name → MeansIdentities table → MeansIdentities (noted slot name table)
-noted_identities slot name table is each at oid meant = elim (meaning_noted at slot name oid table meant) [ inl same ↦ subst IsIdentity same is | inr before ↦ each at oid before ]
+  pub name_fits : (IsName : List ℕ → List ℕ → Type 0) → ((p name : List ℕ) → name ≢ [] → IsName p name → P name) → (table : Table) (name b : List ℕ) (after : Table)
+      → SpellsName IsName table name b after → MeansOnly P table → P name × MeansOnly P after
+  name_fits IsName fits table name b after (spell.SpellsName.held p q slot split name_is slot_is meant same) each = (each slot name meant, subst (MeansOnly P) (sym same) each)
+  name_fits IsName fits table name b after (spell.SpellsName.written p q slot some split name_is slot_is same) each =
+      let is = fits p name some name_is in
+      (is, subst (MeansOnly P) (sym same) (noted_only slot name table is each))
+
+  -- before any announcement no slot means anything
+  pub nothing_meant : MeansOnly P no_meanings
+  unfolding no_meanings meaning
+  nothing_meant slot name = by_slot (nat_lt slot 256) refl
+    where
+      by_slot : (t : Bool) → nat_lt slot 256 ≡ t → (if t then get_or (replicate 256 None) slot None else None) ≡ Some name → P name
+      by_slot false high is = absurd (none_some is)
+      by_slot true low is = absurd (none_some (sym (get_or-replicate 256 slot None None (ltb-true slot 256 low)) ∙ is))
+
+-- a name that is not empty, and no longer than a name may be
+identity_is : (p oid : List ℕ) → oid ≢ [] → IsTextName p oid → IsIdentity oid
+identity_is p [] some text = absurd (some refl)
+identity_is p (b ∷ oid) some text = record { some = omega arith; bounded = text.1 }
 
 -- what is spelled as an object is an identity, and the slots mean identities after it
 pub oid_fits : (table : Table) (oid b : List ℕ) (after : Table) → SpellsName IsTextName table oid b after → MeansIdentities table → IsIdentity oid × MeansIdentities after
-oid_fits table oid b after (spell.SpellsName.held p q slot split name_is slot_is meant same) each = (each slot oid meant, subst MeansIdentities (sym same) each)
-oid_fits table oid b after (spell.SpellsName.written p q slot some split name_is slot_is same) each =
-    let is = identity_is oid p some name_is in
-    (is, subst MeansIdentities (sym same) (noted_identities slot oid table is each))
+oid_fits = name_fits IsIdentity IsTextName identity_is
 
--- before any announcement no slot means anything
 pub no_identities : MeansIdentities no_tables.oids
-unfolding no_tables no_meanings meaning
-no_identities slot oid = by_slot (nat_lt slot 256) refl
-  where
-    by_slot : (t : Bool) → nat_lt slot 256 ≡ t → (if t then get_or (replicate 256 None) slot None else None) ≡ Some oid → IsIdentity oid
-    by_slot false high is = absurd (none_some is)
-    by_slot true low is = absurd (none_some (sym (get_or-replicate 256 slot None None (ltb-true slot 256 low)) ∙ is))
+unfolding no_tables
+no_identities = nothing_meant IsIdentity

@@ -24,4 +24,5 @@ pub mod TypeReadingLaws
 pub mod UseByUse
 pub mod Utf8Laws
 pub mod ValueLaws
+pub mod ThreadLaws
 pub mod WeightLaws

@@ -34,9 +34,12 @@ unfoldable mutual
 abbrev pub carried : List Entity → Plain → Kind → Plain
 carried reg v k = abroad (recast reg v k)
 
--- each identity that a slot means has 1 to 4,096 bytes
+-- each name that a slot means has a property, and is an identity
+abbrev pub MeansOnly : (List ℕ → Type 0) → Table → Type 0
+MeansOnly P table = (slot : ℕ) (name : List ℕ) → meaning slot table ≡ Some name → P name
+
 abbrev pub MeansIdentities : Table → Type 0
-MeansIdentities table = (slot : ℕ) (oid : List ℕ) → meaning slot table ≡ Some oid → IsIdentity oid
+MeansIdentities = MeansOnly IsIdentity
 
 -- a table of the reader answers to what the sender holds after some uses: each name that is held is what its slot means
 pub record Corresponds (table : Table) (held : Names) : Type 0 where
