@@ -1,6 +1,6 @@
 //! That ample memory is enough; `limits` has, through `is_sound`, graphs that are deep or have many ways.
 use crate::judging::see_number;
-use circle_search::{Graph, has_no_circle};
+use circle_search::{Graph, first_on_circle, has_no_circle};
 use std::alloc::Global;
 use uno_base::NoMemory;
 
@@ -12,28 +12,39 @@ fn add_nodes(alloc: Global, graph: &mut Graph, rows: &[&[u32]]) -> Result<(), No
     Ok(())
 }
 
-/// The targets of each node, and whether the graph has no circle.
-type Row = (&'static [&'static [u32]], bool);
+/// The targets of each node, and the first that leads back to itself.
+type Row = (&'static [&'static [u32]], Option<usize>);
 
 const SMALL: &[Row] = &[
-    (&[], true),
-    (&[&[]], true),
-    (&[&[0]], false),
-    (&[&[1]], true),
-    (&[&[1], &[0]], false),
-    (&[&[1, 2], &[2], &[]], true),
-    (&[&[1, 2], &[2], &[0]], false),
-    (&[&[1, 1, 9], &[]], true),
+    (&[], None),
+    (&[&[]], None),
+    (&[&[0]], Some(0)),
+    (&[&[1]], None),
+    (&[&[1], &[0]], Some(0)),
+    (&[&[1, 2], &[2], &[]], None),
+    (&[&[1, 2], &[2], &[0]], Some(0)),
+    (&[&[1, 1, 9], &[]], None),
+    // the circle of 1 is found after that of 3, from which it is led to, and 0 is on neither
+    (&[&[3], &[2], &[1], &[3, 2]], Some(1)),
+    // the circle of 1 stands alone, and that of 3 is found first
+    (&[&[3], &[1], &[], &[4], &[3]], Some(1)),
+    // 1 leads from one circle to the other
+    (&[&[2], &[3], &[4, 1], &[5], &[2], &[3]], Some(2)),
+    // 0 leads to a circle, and a circle leads to 1
+    (&[&[2], &[], &[3], &[2, 1]], Some(2)),
+    // two circles over one node
+    (&[&[], &[2], &[3, 4], &[2], &[1]], Some(1)),
 ];
 
-/// Whether the search says so of the graph with these rows of targets.
+/// Whether the searches say so of the graph with these rows of targets.
 fn is_right(alloc: Global, row: &Row) -> bool {
     let (targets, wanted) = row;
     let mut graph = Graph::new(alloc);
     let added = add_nodes(alloc, &mut graph, targets);
+    let first = first_on_circle(alloc, &graph);
     let free = has_no_circle(alloc, &graph);
     drop(graph);
-    added.is_ok() && free == Ok(*wanted)
+    added.is_ok() && first == Ok(*wanted) && free == Ok(wanted.is_none())
 }
 
 #[test]
