@@ -1,8 +1,7 @@
-pub mod AllLemmas
-pub mod Different
 pub mod FewLemmas
 pub mod FindingLemmas
 pub mod FunctionLemmas
-pub mod GraphLemmas
+pub mod InnermostLemmas
+pub mod NamedLemmas
 pub mod NameParts
 pub mod SpreadLemmas

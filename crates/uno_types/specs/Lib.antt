@@ -1,4 +1,4 @@
-pub mod ErrorTexts
+
 pub mod Known
 pub mod Members
-pub mod Tag
+
