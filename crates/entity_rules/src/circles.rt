@@ -6,11 +6,10 @@ ghost use Rattle.uno_model.specs.Registry.{IsRising, at_most_one, contained, str
 ghost use Rattle.uno_entities.specs.Entities.{entity_of, entities_of, base_of, field_of, body_of};
 ghost use Rattle.uno_entities.specs.TypeNames.{kind_of};
 
-use crate::finding::place_in;
-use crate::{Base, Body, Entity, Field, Name, TypeName};
 use circle_search::{Graph, has_no_circle};
 use std::alloc::Global;
 use uno_base::NoMemory;
+use uno_entities::{Base, Body, Entity, Field, Name, TypeClass, TypeName, place_in};
 
 /// Whether no entity leads back to itself.
 pub fn has_no_circles(alloc: Global, entities: &[Entity]) -> Result<bool, NoMemory>
@@ -48,11 +47,7 @@ fn push_led_to(entities: &[Entity], body: &Body, row: &mut Vec<u32>) -> Result<(
             push_contained(entities, members.as_slice(), row)
         }
         Body::Exception { base, .. } => push_base(entities, base, row),
-        Body::Enum { .. }
-        | Body::Constants { .. }
-        | Body::Typedef { .. }
-        | Body::Service(_)
-        | Body::Singleton(_) => Ok(()),
+        _ => Ok(()),
     }
 }
 
@@ -115,24 +110,8 @@ fn push_struct(entities: &[Entity], kind: &TypeName, row: &mut Vec<u32>) -> Resu
     requires { IsRising (entities_of entities.now) }
     ensures { OnOk result (row.new.items ≡ row.old.items ++ places_of (entities_of entities.now) (struct_in (kind_of kind.now))) }
 {
-    match kind {
-        TypeName::Struct(name) => push_name(entities, name.as_str(), row),
-        TypeName::Void
-        | TypeName::Char
-        | TypeName::Boolean
-        | TypeName::Byte
-        | TypeName::Short
-        | TypeName::UnsignedShort
-        | TypeName::Long
-        | TypeName::UnsignedLong
-        | TypeName::Hyper
-        | TypeName::UnsignedHyper
-        | TypeName::Str
-        | TypeName::Kind
-        | TypeName::Any
-        | TypeName::Enum(_)
-        | TypeName::Exception(_)
-        | TypeName::Interface(_)
-        | TypeName::Sequence(_) => Ok(()),
+    if kind.class() != TypeClass::Struct {
+        return Ok(());
     }
+    push_name(entities, kind.front(), row)
 }

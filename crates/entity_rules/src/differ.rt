@@ -1,13 +1,12 @@
 //! That the items of an enum have different names.
 ghost use Rattle.std.specs.Prelude.{◌≡◌, IfOk, map};
-ghost use Rattle.std.specs.List.{list_all};
 ghost use Rattle.uno_model.specs.Sound.{all_differ, items_differ};
-ghost use Rattle.uno_entities.specs.Entities.{item_of, entity_of, entities_of};
+ghost use Rattle.uno_entities.specs.Entities.{item_of, entity_of};
 
-use crate::{Body, Entity, Item, Service, Singleton};
 use std::alloc::Global;
 use std::collections::BTreeSet;
 use uno_base::NoMemory;
+use uno_entities::{Body, Entity, Item};
 
 /// From the last item to the first, so that each name is looked up among those behind it.
 fn names_differ(alloc: Global, items: &[Item]) -> Result<bool, NoMemory>
@@ -25,31 +24,12 @@ fn names_differ(alloc: Global, items: &[Item]) -> Result<bool, NoMemory>
     Ok(true)
 }
 
-fn items_differ(alloc: Global, entity: &Entity) -> Result<bool, NoMemory>
+/// Whether the items of an enum have different names; what is no enum has none.
+pub fn items_differ(alloc: Global, entity: &Entity) -> Result<bool, NoMemory>
     ensures { IfOk result (λ b. b ≡ items_differ (entity_of entity.now)) }
 {
-    match &entity.body {
-        Body::Enum { items } => names_differ(alloc, items),
-        Body::Interface { .. }
-        | Body::Struct { .. }
-        | Body::Exception { .. }
-        | Body::Constants { .. }
-        | Body::Typedef { .. }
-        | Body::Service(Service::New { .. })
-        | Body::Service(Service::Old { .. })
-        | Body::Singleton(Singleton::New { .. })
-        | Body::Singleton(Singleton::Old { .. }) => Ok(true),
-    }
-}
-
-/// Whether the items of each enum have different names.
-pub fn all_items_differ(alloc: Global, entities: &[Entity]) -> Result<bool, NoMemory>
-    ensures { IfOk result (λ b. b ≡ list_all items_differ (entities_of entities.now)) }
-{
-    for entity in entities {
-        if !items_differ(alloc, entity)? {
-            return Ok(false);
-        }
-    }
-    Ok(true)
+    let Body::Enum { items } = &entity.body else {
+        return Ok(true);
+    };
+    names_differ(alloc, items)
 }

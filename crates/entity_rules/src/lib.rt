@@ -1,13 +1,31 @@
-// A library with one function.
+//! What the entities of a registry must keep: each rule is a test of one entity, or of all of them.
 #![tactic(auto)]
 
-ghost use Rattle.std.specs.Prelude.{◌≡◌};
-ghost use Rattle.entity_rules.specs.Echo.{echo_of};
+mod allowed;
+mod bases;
+mod circles;
+mod complete;
+mod differ;
+mod known;
+mod limits;
+mod member;
+mod names;
+mod raises;
+mod services;
+mod sound;
+mod there;
+mod types;
 
-// The `ensures` clause is the contract: what `echo` returns is `echo_of` of its argument, a definition
-// in `specs/Echo.antt`, which a caller's clause can cite too.
-pub fn echo(x: usize) -> usize
-    ensures { result ≡ echo_of x }
-{
-    x
-}
+pub use allowed::types_allowed;
+pub use bases::bases_known;
+pub use circles::has_no_circles;
+pub use complete::is_complete;
+pub use differ::items_differ;
+pub use known::{kind_known, types_known};
+pub use limits::is_within_limits;
+pub use member::{all_have_members, has_near_member};
+pub use names::is_named;
+pub use raises::raises_known;
+pub use services::services_known;
+pub use sound::is_sound;
+pub use there::{Wanted, is_there};

@@ -1,4 +1,1 @@
-
-pub mod Known
 pub mod Members
-

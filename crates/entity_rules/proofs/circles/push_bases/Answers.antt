@@ -1,8 +1,8 @@
 use Rattle.std.proofs.Common.{[], ◌∷◌, ◌++◌, ap, ◌∙◌}
-use Rattle.uno_entities.proofs.GraphLemmas.{written_more, base_names_step}
+use Rattle.entity_rules.proofs.GraphLemmas.{written_more, base_names_step}
 use Rattle.uno_model.specs.Places.{places_of}
 use Rattle.uno_entities.specs.Entities.{entities_of}
-use Rattle.uno_entities.proofs.circles.push_bases.Goals as goal
+use Rattle.entity_rules.proofs.circles.push_bases.Goals as goal
 
 pub loop-base-preserved : goal.loop-base-preserved
 loop-base-preserved c =

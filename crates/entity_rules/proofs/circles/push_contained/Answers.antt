@@ -1,5 +1,5 @@
-use Rattle.uno_entities.proofs.GraphLemmas.{written_more, contained_step}
-use Rattle.uno_entities.proofs.circles.push_contained.Goals as goal
+use Rattle.entity_rules.proofs.GraphLemmas.{written_more, contained_step}
+use Rattle.entity_rules.proofs.circles.push_contained.Goals as goal
 
 pub loop-member-preserved : goal.loop-member-preserved
 loop-member-preserved c =

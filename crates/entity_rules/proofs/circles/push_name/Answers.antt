@@ -1,6 +1,6 @@
 use Rattle.std.proofs.Common.{[], ◌∷◌, ◌++◌, sym, ap, ◌∙◌, append-nil}
-use Rattle.uno_entities.proofs.GraphLemmas.{place_written, no_place_written}
-use Rattle.uno_entities.proofs.circles.push_name.Goals as goal
+use Rattle.entity_rules.proofs.GraphLemmas.{place_written, no_place_written}
+use Rattle.entity_rules.proofs.circles.push_name.Goals as goal
 
 pub returns-in_ok-push-in-Ok : goal.returns-in_ok-push-in-Ok
 returns-in_ok-push-in-Ok c =

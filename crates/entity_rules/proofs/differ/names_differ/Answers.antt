@@ -1,6 +1,6 @@
 use Rattle.std.proofs.Common.{◌-◌, sym, ◌∙◌, arith}
-use Rattle.uno_entities.proofs.Different.{none_differ, first_differs, one_more, differ_behind}
-use Rattle.uno_entities.proofs.differ.names_differ.Goals as goal
+use Rattle.entity_rules.proofs.Different.{none_differ, first_differs, one_more, differ_behind}
+use Rattle.entity_rules.proofs.differ.names_differ.Goals as goal
 
 pub loop-left-init : goal.loop-left-init
 loop-left-init c = none_differ _ c.args.items.now c.new-names.ensures.empty

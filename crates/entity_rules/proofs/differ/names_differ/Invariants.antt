@@ -1,5 +1,5 @@
-use Rattle.uno_entities.proofs.Different.{Differ}
-use Rattle.uno_entities.proofs.differ.names_differ.Given as goal
+use Rattle.entity_rules.proofs.Different.{Differ}
+use Rattle.entity_rules.proofs.differ.names_differ.Given as goal
 
 abbrev pub invariant-loop-left : goal.invariant-loop-left
 invariant-loop-left l = Differ l.names l.items l.left
