@@ -46,7 +46,7 @@ use Rattle.std.proofs.lemmas.List.{take_at, drop_at}
 use Rattle.std.proofs.lemmas.Slice.Eq.{bytes_eq-Decides}
 use Rattle.urp_model.specs.Blocks.{spell_block}
 use Rattle.urp_model.proofs.BlockLaws.{length-spell_block}
-use Rattle.uno_types.specs.Tag.{IsTag}
+use Rattle.uno_entities.specs.Tag.{IsTag}
 use Rattle.urp_message.specs.First.{IsBuilt, request_body, announced_interface}
 use Rattle.urp_message.specs.declared.first.message.First.{First}
 use Rattle.urp_message.specs.declared.first.message.First.TheVariants.{Query, Twice}

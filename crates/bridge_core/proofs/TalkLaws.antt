@@ -31,7 +31,7 @@ use Rattle.std.proofs.lemmas.Bool.{cases_lt}
 use Rattle.std.proofs.lemmas.List.{nil_from_length, flat_map_more}
 use Rattle.urp_model.specs.Blocks.{IsBlock}
 use Rattle.urp_model.proofs.BlockLaws.{spell_block-front}
-use Rattle.uno_types.specs.Tag.{IsTag}
+use Rattle.uno_entities.specs.Tag.{IsTag}
 use Rattle.urp_message.specs.First.{IsBuilt, request_body}
 use Rattle.urp_message.specs.declared.first.message.First.{First}
 use Rattle.urp_message.specs.declared.first.message.First.TheVariants.{Query, Twice}

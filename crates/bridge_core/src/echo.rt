@@ -1,6 +1,6 @@
 //! The end that answers on the first path: it gives its one object to who asks for it, and doubles numbers.
 ghost use Rattle.std.specs.Prelude.{◌≡◌, ◌≢◌, ◌↔◌, false, IfOk, OnErr, IsTrue};
-ghost use Rattle.uno_types.specs.Tag.{IsTag};
+ghost use Rattle.uno_entities.specs.Tag.{IsTag};
 ghost use Rattle.urp_message.specs.First.{IsBuilt, request_body};
 ghost use Rattle.urp_message.specs.declared.first.message.First.{First};
 ghost use Rattle.bridge_core.specs.Talk.{IsNext};
@@ -20,7 +20,7 @@ pub struct Echo {
 }
 
 impl Model for Echo {
-    ghost use Rattle.uno_types.specs.Tag.{IsTag};
+    ghost use Rattle.uno_entities.specs.Tag.{IsTag};
     ghost use Rattle.bridge_core.specs.Answering.{Answering};
 
     ghost Value = { Answering };

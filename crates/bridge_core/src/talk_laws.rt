@@ -1,6 +1,6 @@
 //! Laws of talks: each function has an empty body, and its clause is the law.
 ghost use Rattle.std.specs.Prelude.{◌≡◌, ℕ, List, ◌++◌};
-ghost use Rattle.uno_types.specs.Tag.{IsTag};
+ghost use Rattle.uno_entities.specs.Tag.{IsTag};
 ghost use Rattle.urp_message.specs.declared.first.message.First.{First};
 ghost use Rattle.bridge_core.specs.Talk.{Begins, IsLongest, HasLongest};
 

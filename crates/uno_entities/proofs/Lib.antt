@@ -1,10 +1,9 @@
-pub mod AllLemmas
 pub mod CountLemmas
-pub mod Different
 pub mod FewLemmas
 pub mod FindingLemmas
 pub mod FunctionLemmas
-pub mod GraphLemmas
+pub mod InnermostLemmas
 pub mod MarkLemmas
+pub mod NamedLemmas
 pub mod NameParts
 pub mod SpreadLemmas

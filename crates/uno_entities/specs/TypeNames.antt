@@ -1,7 +1,9 @@
 -- The plain tree of a type's name.
-use Rattle.std.specs.Prelude.{ℕ, List, codes}
+use Rattle.std.specs.Prelude.{◌≡◌, ℕ, List, codes}
 use Rattle.uno_model.specs.Kinds.{Kind, name_of}
 use Rattle.uno_model.specs.Kinds as kd
+use Rattle.uno_model.specs.TypeClasses.{class_of}
+use Rattle.uno_model.specs.declared.type_class.TypeClass.{TypeClass}
 use Rattle.uno_entities.specs.declared.type_name.TypeName.{TypeName}
 use Rattle.uno_entities.specs.declared.type_name.TypeName.TheOpen.{TypeName-F}
 use Rattle.uno_entities.specs.declared.type_name.TypeName.TheFolds.{fold-TypeName}
@@ -35,3 +37,12 @@ kind_of = fold-TypeName Kind kind_step
 abbrev pub front_of : Kind → List ℕ
 front_of (kd.sequence k) = codes "[]"
 front_of k = name_of k
+
+-- the type below all sequences
+abbrev pub innermost : Kind → Kind
+innermost (kd.sequence k) = innermost k
+innermost k = k
+
+-- a type of that class, whose name has that front
+abbrev pub IsNamed : TypeClass → List ℕ → Kind → Type 0
+IsNamed class front k = (class_of k ≡ class) × (front_of k ≡ front)

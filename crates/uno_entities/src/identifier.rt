@@ -5,6 +5,8 @@ ghost use Rattle.std.specs.Str.{bytes_eq};
 ghost use Rattle.uno_model.specs.Names.{is_identifier, is_entity_name, begins_identifier, goes_on_identifier, reserved_words, parts_of};
 ghost use Rattle.uno_model.specs.Sound.{few_modules};
 
+use crate::MOST_LEVELS;
+
 /// The words of the grammar, of the simple types and of the two truths.
 const RESERVED_WORDS: [&str; 47] = [
     "FALSE",
@@ -66,13 +68,15 @@ pub fn is_identifier(name: &str) -> bool
     begins_identifier(*first) && go_on_identifier(rest) && !is_reserved(name)
 }
 
-fn begins_identifier(byte: u8) -> bool
+/// Whether an identifier may begin with it: a letter or `_`.
+pub fn begins_identifier(byte: u8) -> bool
     ensures { result ≡ begins_identifier byte }
 {
     byte.is_ascii_alphabetic() || byte == b'_'
 }
 
-fn goes_on_identifier(byte: u8) -> bool
+/// Whether an identifier may go on with it: a letter, digit or `_`.
+pub fn goes_on_identifier(byte: u8) -> bool
     ensures { result ≡ goes_on_identifier byte }
 {
     byte.is_ascii_alphanumeric() || byte == b'_'
@@ -114,18 +118,12 @@ pub fn is_entity_name(name: &str) -> bool
 fn points(name: &str) -> usize
     ensures { length (parts_of name.now) ≡ result + 1 }
 {
-    let mut count = 0;
-    for byte in name.as_bytes() {
-        if *byte == b'.' {
-            count += 1;
-        }
-    }
-    count
+    name.bytes().filter(|byte| *byte == b'.').count()
 }
 
 /// Whether it stands in at most 64 modules.
-pub(crate) fn few_modules(name: &str) -> bool
+pub fn few_modules(name: &str) -> bool
     ensures { result ≡ few_modules name.now }
 {
-    points(name) <= 64
+    points(name) <= MOST_LEVELS
 }

@@ -1,5 +1,5 @@
 //! The name of an entity, of a member, of a parameter.
-ghost use Rattle.std.specs.Prelude.{◌≡◌, ◌↔◌, IfOk, IsTrue};
+ghost use Rattle.std.specs.Prelude.{◌≡◌, ◌↔◌, IfOk, IsTrue, string_bytes};
 
 use std::alloc::Global;
 use std::marker::Model;
@@ -19,6 +19,16 @@ impl Model for Name {
     ghost view = { λ n. string_bytes n.text };
 }
 
+impl From<String> for Name {
+    ghost use Rattle.std.specs.Prelude.{◌≡◌, string_bytes};
+
+    ghost from_gives = { λ text n. n ≡ string_bytes text };
+
+    fn from(text: String) -> Name {
+        Name { text }
+    }
+}
+
 impl Name {
     /// The name of just these bytes.
     pub fn of(alloc: Global, text: &str) -> Result<Name, NoMemory>
@@ -33,6 +43,14 @@ impl Name {
         ensures { result.now ≡ self.now }
     {
         self.text.as_str()
+    }
+
+    /// Its text, given back.
+    pub fn into_string(self) -> String
+        ensures { string_bytes result ≡ self }
+    {
+        let Name { text } = self;
+        text
     }
 
     /// An equal name.

@@ -6,42 +6,32 @@ ghost use Rattle.uno_entities.specs.TypeNames.{kind_of};
 
 use crate::TypeName;
 
+/// The most bytes of a type's name, and of an object's identity.
+pub const MOST_BYTES: usize = 4_096;
+
+/// The most `[]` of a type's name, modules round an entity, and parameters of a function.
+pub const MOST_LEVELS: usize = 64;
+
 impl TypeName {
     /// How many sequences stand round the innermost type, or 2^64 - 1 where there are more.
     pub fn nesting(&self) -> u64
         ensures { result ≡ min (nesting (kind_of self.now)) (2 ^ 64 - 1) }
     {
-        match self {
-            TypeName::Sequence(inner) => inner.nesting().saturating_add(1),
-            TypeName::Void
-            | TypeName::Char
-            | TypeName::Boolean
-            | TypeName::Byte
-            | TypeName::Short
-            | TypeName::UnsignedShort
-            | TypeName::Long
-            | TypeName::UnsignedLong
-            | TypeName::Hyper
-            | TypeName::UnsignedHyper
-            | TypeName::Str
-            | TypeName::Kind
-            | TypeName::Any
-            | TypeName::Enum(_)
-            | TypeName::Struct(_)
-            | TypeName::Exception(_)
-            | TypeName::Interface(_) => 0,
+        let mut kind = self;
+        let mut count = 0u64;
+        while let TypeName::Sequence(inner) = kind {
+            kind = inner;
+            count = count.saturating_add(1);
         }
+        count
     }
 
     /// How many bytes its name has, or 2^64 - 1 where there are more.
     pub fn name_len(&self) -> u64
         ensures { result ≡ min (length (name_of (kind_of self.now))) (2 ^ 64 - 1) }
     {
-        let front = self.front().len() as u64;
-        let TypeName::Sequence(inner) = self else {
-            return front;
-        };
-        inner.name_len().saturating_add(front)
+        let innermost = self.innermost().front().len() as u64;
+        self.nesting().saturating_mul(2).saturating_add(innermost)
     }
 
     /// Whether its name has at most 4,096 bytes and at most 64 sequences.
@@ -49,9 +39,9 @@ impl TypeName {
         ensures limits { IsTrue result ↔ IsNamable (kind_of self.now) }
         ensures test { result ≡ is_namable (kind_of self.now) }
     {
-        if self.nesting() > 64 {
+        if self.nesting() > MOST_LEVELS as u64 {
             return false;
         }
-        self.name_len() <= 4096
+        self.name_len() <= MOST_BYTES as u64
     }
 }

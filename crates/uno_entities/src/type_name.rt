@@ -1,8 +1,9 @@
 //! The types, as the entities of a registry and the values name them.
-ghost use Rattle.std.specs.Prelude.{◌≡◌, ◌↔◌, IfOk, IsTrue};
+ghost use Rattle.std.specs.Prelude.{◌≡◌, ◌↔◌, ◌++◌, IfOk, OnOk, IsTrue};
+ghost use Rattle.uno_model.specs.Kinds.{name_of};
 ghost use Rattle.uno_model.specs.Kinds as kd;
 ghost use Rattle.uno_model.specs.TypeClasses.{class_of};
-ghost use Rattle.uno_entities.specs.TypeNames.{kind_of, front_of};
+ghost use Rattle.uno_entities.specs.TypeNames.{kind_of, front_of, innermost, IsNamed};
 
 use crate::Name;
 use std::alloc::Global;
@@ -118,6 +119,30 @@ impl TypeName {
         }
     }
 
+    /// The type below all its sequences.
+    pub fn innermost(&self) -> &TypeName
+        ensures { kind_of result.now ≡ innermost (kind_of self.now) }
+    {
+        let mut kind = self;
+        while let TypeName::Sequence(inner) = kind {
+            kind = inner;
+        }
+        kind
+    }
+
+    /// Adds its name to a text.
+    pub fn push_name(&self, text: &mut Vec<u8>) -> Result<(), NoMemory>
+        ensures { OnOk result (text.new.items ≡ text.old.items ++ name_of (kind_of self.now)) }
+    {
+        let mut kind = self;
+        while let TypeName::Sequence(inner) = kind {
+            text.extend_from_slice(b"[]")?;
+            kind = inner;
+        }
+        text.extend_from_slice(kind.front().as_bytes())?;
+        Ok(())
+    }
+
     /// Whether the other is the same type.
     pub fn is(&self, other: &TypeName) -> bool
         ensures { IsTrue result ↔ (kind_of self.now ≡ kind_of other.now) }
@@ -148,106 +173,44 @@ impl TypeName {
     }
 
     /// Whether it is the enum of that name.
+    #[tactic(auto, using(crate::proofs::NamedLemmas::enum_named))]
     pub fn is_enum(&self, of: &Name) -> bool
         ensures { IsTrue result ↔ (kind_of self.now ≡ kd.enum of.now) }
     {
-        match self {
-            TypeName::Enum(name) => name.is(of),
-            TypeName::Void
-            | TypeName::Char
-            | TypeName::Boolean
-            | TypeName::Byte
-            | TypeName::Short
-            | TypeName::UnsignedShort
-            | TypeName::Long
-            | TypeName::UnsignedLong
-            | TypeName::Hyper
-            | TypeName::UnsignedHyper
-            | TypeName::Str
-            | TypeName::Kind
-            | TypeName::Any
-            | TypeName::Struct(_)
-            | TypeName::Exception(_)
-            | TypeName::Interface(_)
-            | TypeName::Sequence(_) => false,
-        }
+        self.is_named(TypeClass::Enum, of)
     }
 
     /// Whether it is the struct of that name.
+    #[tactic(auto, using(crate::proofs::NamedLemmas::struct_named))]
     pub fn is_struct(&self, of: &Name) -> bool
         ensures { IsTrue result ↔ (kind_of self.now ≡ kd.struct of.now) }
     {
-        match self {
-            TypeName::Struct(name) => name.is(of),
-            TypeName::Void
-            | TypeName::Char
-            | TypeName::Boolean
-            | TypeName::Byte
-            | TypeName::Short
-            | TypeName::UnsignedShort
-            | TypeName::Long
-            | TypeName::UnsignedLong
-            | TypeName::Hyper
-            | TypeName::UnsignedHyper
-            | TypeName::Str
-            | TypeName::Kind
-            | TypeName::Any
-            | TypeName::Enum(_)
-            | TypeName::Exception(_)
-            | TypeName::Interface(_)
-            | TypeName::Sequence(_) => false,
-        }
+        self.is_named(TypeClass::Struct, of)
     }
 
     /// Whether it is the exception of that name.
+    #[tactic(auto, using(crate::proofs::NamedLemmas::exception_named))]
     pub fn is_exception(&self, of: &Name) -> bool
         ensures { IsTrue result ↔ (kind_of self.now ≡ kd.exception of.now) }
     {
-        match self {
-            TypeName::Exception(name) => name.is(of),
-            TypeName::Void
-            | TypeName::Char
-            | TypeName::Boolean
-            | TypeName::Byte
-            | TypeName::Short
-            | TypeName::UnsignedShort
-            | TypeName::Long
-            | TypeName::UnsignedLong
-            | TypeName::Hyper
-            | TypeName::UnsignedHyper
-            | TypeName::Str
-            | TypeName::Kind
-            | TypeName::Any
-            | TypeName::Enum(_)
-            | TypeName::Struct(_)
-            | TypeName::Interface(_)
-            | TypeName::Sequence(_) => false,
-        }
+        self.is_named(TypeClass::Exception, of)
     }
 
     /// Whether it is the interface of that name.
+    #[tactic(auto, using(crate::proofs::NamedLemmas::interface_named))]
     pub fn is_interface(&self, of: &Name) -> bool
         ensures { IsTrue result ↔ (kind_of self.now ≡ kd.interface of.now) }
     {
-        match self {
-            TypeName::Interface(name) => name.is(of),
-            TypeName::Void
-            | TypeName::Char
-            | TypeName::Boolean
-            | TypeName::Byte
-            | TypeName::Short
-            | TypeName::UnsignedShort
-            | TypeName::Long
-            | TypeName::UnsignedLong
-            | TypeName::Hyper
-            | TypeName::UnsignedHyper
-            | TypeName::Str
-            | TypeName::Kind
-            | TypeName::Any
-            | TypeName::Enum(_)
-            | TypeName::Struct(_)
-            | TypeName::Exception(_)
-            | TypeName::Sequence(_) => false,
+        self.is_named(TypeClass::Interface, of)
+    }
+
+    /// Whether it is of that class, and its name has that front.
+    fn is_named(&self, class: TypeClass, of: &Name) -> bool
+        ensures { IsTrue result ↔ IsNamed class of.now (kind_of self.now) }
+    {
+        if self.class() != class {
+            return false;
         }
+        self.front() == of.as_str()
     }
 }

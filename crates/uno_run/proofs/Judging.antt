@@ -2,7 +2,7 @@
 use Rattle.std.proofs.Common.{◌≡◌, ℕ, List, [], ◌∷◌, ◌++◌, length, Option, refl, sym, ap, subst, ◌∙◌, append_assoc, append-nil, arith}
 use Rattle.std.specs.Io.KnownBytes.{Appends}
 use Rattle.urp_model.specs.Blocks.{BeginsWhole}
-use Rattle.uno_types.specs.Tag.{IsTag}
+use Rattle.uno_entities.specs.Tag.{IsTag}
 use Rattle.urp_message.specs.declared.first.message.First.{First}
 use Rattle.bridge_core.specs.Talk.{answer, asked, answered, IsLongest}
 use Rattle.bridge_core.proofs.TalkLaws.{one_longest, front_of_longest}

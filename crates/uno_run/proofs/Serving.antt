@@ -32,7 +32,7 @@ use Rattle.std.proofs.lemmas.List.{flat_map_more, nil_from_length}
 use Rattle.urp_model.specs.Blocks.{spell_block, IsBlock, BeginsWhole}
 use Rattle.urp_model.proofs.BlockLaws.{spell_block-front, block_whole, length-spell_block}
 use Rattle.urp_message.specs.First.{request_body}
-use Rattle.uno_types.specs.Tag.{IsTag}
+use Rattle.uno_entities.specs.Tag.{IsTag}
 use Rattle.urp_message.specs.declared.first.message.First.{First}
 use Rattle.bridge_core.specs.Answering.{Answering}
 use Rattle.bridge_core.specs.Talk.{IsNext, has_begun, request, answer, asked, answered, Begins}

@@ -1,7 +1,7 @@
 //! Answering what was read, block after block.
 ghost use Rattle.std.specs.Prelude.{◌≡◌, ◌≢◌, IfOk, OnOk, OnErr, true};
 ghost use Rattle.uno_base.specs.Causes.{Rose};
-ghost use Rattle.uno_types.specs.Tag.{IsTag};
+ghost use Rattle.uno_entities.specs.Tag.{IsTag};
 ghost use Rattle.uno_run.specs.Answering.{Asks, AnsweredOne, AnsweredFront, AnsweredAll, AnsweredPart};
 ghost use Rattle.urp_message.specs.declared.first.message.First.{First};
 ghost use Rattle.uno_run.specs.declared.answering.Stopped.TheVariants.{Failed, NoMemory};

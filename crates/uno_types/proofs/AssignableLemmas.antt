@@ -11,7 +11,7 @@ use Rattle.uno_model.specs.Entities.{Entity, Base, Body, interface, struct, exce
 use Rattle.uno_entities.specs.Marks.{MarksBases}
 use Rattle.uno_model.specs.Reaches.{reaches_within}
 use Rattle.uno_model.specs.Registry.{find_entity, at_most_one, stands_on, stands_on_body, IsBaseOf}
-use Rattle.uno_model.specs.Sound.{IsSound, is_there, is_interface, is_struct, is_exception, body_known}
+use Rattle.uno_model.specs.Sound.{IsSound, is_there, is_interface, is_struct, is_exception, bases_known}
 use Rattle.uno_model.proofs.CircleLaws.{all_at}
 use Rattle.uno_model.proofs.PlaceLaws.{contains_cases, at_slice}
 use Rattle.uno_model.proofs.ReachLaws.{found_place}
@@ -60,40 +60,37 @@ interfaces_there reg (b ∷ bases) name all has =
     [ inl here ↦ subst (λ n. is_there reg is_interface n ≡ true) here parts.0 | inr more ↦ interfaces_there reg bases name parts.1 more ]
 
 -- what an entity stands on is there, where the names that it uses are known
-body_stands : (reg : List Entity) (name : List ℕ) (published : Bool) (body : Body) (base : List ℕ) → body_known reg body ≡ true
+body_stands : (reg : List Entity) (name : List ℕ) (published : Bool) (body : Body) (base : List ℕ) → bases_known reg body ≡ true
     → Contains (stands_on_body (Some (record { name = name; published = published; body = body }))) base → find_entity base reg ≡ None → ⊥
 body_stands reg name published (interface bases members) base known has none =
-    let parts = both_passed _ _ known in
-    not_there reg is_interface base (interfaces_there reg bases base parts.0 (required_named bases base has)) none
+    not_there reg is_interface base (interfaces_there reg bases base known (required_named bases base has)) none
 body_stands reg name published (struct above members) base known has none =
-    let parts = both_passed _ _ known in
-    not_there reg is_struct base (all_at (is_there reg is_struct) (at_most_one above) base parts.0 has) none
+    not_there reg is_struct base (all_at (is_there reg is_struct) (at_most_one above) base known has) none
 body_stands reg name published (exception above members) base known has none =
-    let parts = both_passed _ _ known in
-    not_there reg is_exception base (all_at (is_there reg is_exception) (at_most_one above) base parts.0 has) none
+    not_there reg is_exception base (all_at (is_there reg is_exception) (at_most_one above) base known has) none
 body_stands reg name published body base known has none = absurd (omega (arith, has.1))
 
 -- each name is known in an entity that is found
-known_found : (reg : List Entity) (name : List ℕ) (e : Entity) → list_all (λ x. body_known reg x.body) reg ≡ true → find_entity name reg ≡ Some e → body_known reg e.body ≡ true
+known_found : (reg : List Entity) (name : List ℕ) (e : Entity) → list_all (λ x. bases_known reg x.body) reg ≡ true → find_entity name reg ≡ Some e → bases_known reg e.body ≡ true
 known_found reg name e known found =
     let place = found_place name reg e found in
     let at = at_slice reg place.0 e e place.1 in
-    all_at (λ x. body_known reg x.body) reg e known (place.0, at.0, at.1)
+    all_at (λ x. bases_known reg x.body) reg e known (place.0, at.0, at.1)
 
-stands_there : (reg : List Entity) (name base : List ℕ) (o : Option Entity) → list_all (λ x. body_known reg x.body) reg ≡ true → find_entity name reg ≡ o
+stands_there : (reg : List Entity) (name base : List ℕ) (o : Option Entity) → list_all (λ x. bases_known reg x.body) reg ≡ true → find_entity name reg ≡ o
     → Contains (stands_on_body o) base → find_entity base reg ≡ None → ⊥
 stands_there reg name base None known is has none = absurd (omega (arith, has.1))
 stands_there reg name base (Some e) known is has none = body_stands reg e.name e.published e.body base (known_found reg name e known is) has none
 
 -- in a sound registry what a name leads to is there
-led_there : (reg : List Entity) (a b : List ℕ) → list_all (λ x. body_known reg x.body) reg ≡ true → Leads (stands_on reg) a b → find_entity b reg ≡ None → ⊥
+led_there : (reg : List Entity) (a b : List ℕ) → list_all (λ x. bases_known reg x.body) reg ≡ true → Leads (stands_on reg) a b → find_entity b reg ≡ None → ⊥
 led_there reg a b known (step from to has) none = stands_there reg from to (find_entity from reg) known refl has none
 led_there reg a b known (on from next to has more) none = led_there reg next to known more none
 
 -- what is not there is no base but of itself
 pub absent_target : (reg : List Entity) (to from : List ℕ) → IsSound reg → find_entity to reg ≡ None → (bytes_eq from to ≡ true) ↔ IsBaseOf reg to from
 absent_target reg to from sound none =
-    (λ same. inl ((bytes_eq-Decides from to).0 same), λ base. elim base [ inl same ↦ (bytes_eq-Decides from to).1 same | inr way ↦ absurd (led_there reg from to sound.known way none) ])
+    (λ same. inl ((bytes_eq-Decides from to).0 same), λ base. elim base [ inl same ↦ (bytes_eq-Decides from to).1 same | inr way ↦ absurd (led_there reg from to sound.bases way none) ])
 
 -- what is not there stands on nothing
 nothing_on : (reg : List Entity) (name base : List ℕ) → find_entity name reg ≡ None → Contains (stands_on reg name) base → ⊥

@@ -1,4 +1,1 @@
-pub mod ErrorTexts
-pub mod Known
 pub mod Members
-pub mod Tag

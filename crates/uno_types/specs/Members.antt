@@ -1,10 +1,8 @@
 -- The levels of bases that members come from.
-use Rattle.std.specs.Prelude.{◌≡◌, ℕ, Bool, not, ◌||◌, List, [], ◌∷◌, ◌++◌, map, Option, None, Some}
+use Rattle.std.specs.Prelude.{◌≡◌, ℕ, List, [], ◌∷◌, ◌++◌, map, Option, None, Some}
 use Rattle.std.specs.Borrow.{Bor}
-use Rattle.std.specs.List.{list_any}
 use Rattle.uno_model.specs.Entities as plain
 use Rattle.uno_model.specs.Registry.{own_members, member_bases}
-use Rattle.uno_model.specs.Sound.{is_struct, is_exception, is_there, is_some_list}
 use Rattle.uno_types.specs.declared.members.Level.{Level}
 use Rattle.uno_entities.specs.declared.entity.Field.{Field}
 use Rattle.uno_entities.specs.Entities.{field_of}
@@ -18,14 +16,6 @@ base_named (Some name) = name.now ∷ []
 pub record IsLevel (level : Level) (entity : Option plain.Entity) : Type 0 where
   pub own : map field_of level.own.now ≡ own_members entity
   pub base : base_named level.base ≡ member_bases entity
-
--- a struct or an exception
-abbrev pub carries : plain.Body → Bool
-carries body = is_struct body || is_exception body
-
--- if it is a struct or an exception, it has a member of its own, or a base that is one too
-abbrev pub member_near : List plain.Entity → plain.Entity → Bool
-member_near reg e = not (carries e.body) || (is_some_list (own_members (Some e)) || list_any (is_there reg carries) (member_bases (Some e)))
 
 -- members that are borrowed, and those of levels of which the last is the base of all others
 abbrev pub fields_at : List (Bor Field) → List plain.Field

@@ -4,9 +4,9 @@ ghost use Rattle.uno_model.specs.Kinds as kd;
 ghost use Rattle.uno_model.specs.Types.{is_type, is_formed};
 ghost use Rattle.uno_entities.specs.TypeNames.{kind_of};
 
-use crate::known::{Wanted, is_there, kind_known};
 use crate::{Registry, TypeName};
-use uno_entities::elements_plain;
+use entity_rules::{Wanted, is_there, kind_known};
+use uno_entities::{MOST_BYTES, elements_plain};
 
 impl Registry {
     /// Whether it is a simple type, an entity of the registry that is a type, or a sequence of such a type other than void
@@ -21,13 +21,13 @@ impl Registry {
     pub fn has_form(&self, kind: &TypeName) -> bool
         ensures { result ≡ is_formed self.now (kind_of kind.now) }
     {
-        kind_known(self, kind) && elements_plain(kind)
+        kind_known(self.entities(), kind) && elements_plain(kind)
     }
 
     /// Whether an interface of the registry has the name.
     pub fn has_interface(&self, name: &str) -> bool
         ensures { result ≡ is_type self.now (kd.interface name.now) }
     {
-        is_there(self, Wanted::Interface, name) && name.len() <= 4096
+        is_there(self.entities(), Wanted::Interface, name) && name.len() <= MOST_BYTES
     }
 }

@@ -1,11 +1,8 @@
 //! The members of structs and exceptions, those of their bases before their own.
 ghost use Rattle.std.specs.Prelude.{◌≡◌, [], None, ◌≤◌, ◌<◌, ◌^◌, ◌↔◌, length, map, IfSome, IsNone, MatchOption, Some, slice_get};
-ghost use Rattle.std.specs.List.{list_all};
-ghost use Rattle.uno_model.specs.Circles.{HasNoCircle};
-ghost use Rattle.uno_model.specs.Registry.{find_entity, leads_to, at_most_one, members_within, all_members};
-ghost use Rattle.uno_model.specs.Sound.{has_member};
-ghost use Rattle.uno_entities.specs.Entities.{field_of, body_of, entity_of, entities_of};
-ghost use Rattle.uno_types.specs.Members.{IsLevel, base_named, carries, member_near};
+ghost use Rattle.uno_model.specs.Registry.{find_entity, at_most_one, members_within, all_members};
+ghost use Rattle.uno_entities.specs.Entities.{field_of, entity_of};
+ghost use Rattle.uno_types.specs.Members.{IsLevel, base_named};
 
 use crate::{Body, Entity, Field, Name, Registry};
 
@@ -39,14 +36,6 @@ impl Registry {
             None => no_level(),
         }
     }
-}
-
-/// Whether each struct and each exception has a member, those of its bases counted; it looks at each once, and walks up no bases.
-pub(crate) fn all_have_members(registry: &Registry) -> bool
-    requires { HasNoCircle (leads_to registry.now) }
-    ensures { result ≡ list_all (has_member registry.now) registry.now }
-{
-    all_have_near(registry, registry.entities())
 }
 
 /// How many members a name has over so many levels of bases.
@@ -123,41 +112,4 @@ fn text_of(name: &Option<Name>) -> Option<&str>
     ensures { base_named result ≡ at_most_one name.now }
 {
     Some(name.as_ref()?.as_str())
-}
-
-/// Whether each struct and each exception has a member near; without a circle, each then has one.
-fn all_have_near(registry: &Registry, entities: &[Entity]) -> bool
-    ensures { result ≡ list_all (member_near registry.now) (entities_of entities.now) }
-{
-    for entity in entities {
-        if !has_near(registry, entity) {
-            return false;
-        }
-    }
-    true
-}
-
-/// Whether a struct or an exception has a member of its own, or a base that is one too.
-fn has_near(registry: &Registry, entity: &Entity) -> bool
-    ensures { result ≡ member_near registry.now (entity_of entity.now) }
-{
-    let Level { own, base } = level_of(entity);
-    if !carries(&entity.body) || !own.is_empty() {
-        return true;
-    }
-    let Some(base) = base else { return false };
-    let Some(base) = registry.find(base) else {
-        return false
-    };
-    carries(&base.body)
-}
-
-/// Whether it is a struct or an exception.
-fn carries(body: &Body) -> bool
-    ensures { result ≡ carries (body_of body.now) }
-{
-    match body {
-        Body::Struct { .. } | Body::Exception { .. } => true,
-        _ => false,
-    }
 }

@@ -1,12 +1,14 @@
 //! A registry: the entities of a type system, each under its name.
-ghost use Rattle.std.specs.Prelude.{◌≡◌, ◌≢◌, ◌+◌, ◌<◌, ◌≤◌, ◌↔◌, length, take, drop, IfOk, OnOk, OnErr, IfErr, IfSome, IsNone, MatchOption, MatchResult, Some, None, option_map, slice_get, insert};
+ghost use Rattle.std.specs.Prelude.{◌≡◌, ◌≢◌, ◌+◌, ◌<◌, ◌≤◌, ◌↔◌, length, take, drop, IfOk, OnOk, OnErr, IfErr, IfSome, IsNone, IsTrue, MatchOption, MatchResult, Some, None, option_map, slice_get, insert};
 ghost use Rattle.uno_model.specs.BuiltIn.{built_in};
 ghost use Rattle.uno_model.specs.Registry.{find_entity, Adds, IsRising};
+ghost use Rattle.uno_model.specs.Sound.{IsSound};
 ghost use Rattle.uno_entities.specs.Entities.{entity_of, entities_of};
 ghost use Rattle.uno_entities.specs.Finding.{IsPlaceOf, IsGapOf};
 ghost use Rattle.uno_types.specs.declared.registry.AddError.TheVariants.{NoMemory, Twice};
 
 use crate::Entity;
+use entity_rules::is_sound;
 use std::alloc::{AllocFailed, Global};
 use std::marker::Model;
 use uno_base::NoMemory;
@@ -86,6 +88,13 @@ impl Registry {
             Ok(place) => entity_at(self.entities.as_slice(), place),
             Err(_) => None,
         }
+    }
+
+    /// Whether the registry is sound. Built-in entities are asked as all others are.
+    pub fn is_sound(&self) -> Result<bool, NoMemory>
+        ensures { IfOk result (λ sound. IsTrue sound ↔ IsSound self.now) }
+    {
+        is_sound(self.alloc, self.entities.as_slice())
     }
 
     /// All entities, in rising order of their names' bytes.

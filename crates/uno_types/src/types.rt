@@ -10,12 +10,7 @@ ghost use Rattle.uno_entities.specs.TypeNames.{kind_of};
 use crate::{Body, Name, Registry, TypeName};
 use std::alloc::Global;
 use uno_base::NoMemory;
-use uno_entities::is_plain;
-
-/// How many bytes the name of a type may have, and how many `[]`.
-const MOST_BYTES: usize = 4096;
-
-const MOST_SEQUENCES: u32 = 64;
+use uno_entities::{MOST_BYTES, MOST_LEVELS, is_plain};
 
 impl Registry {
     /// The type of this name.
@@ -26,7 +21,7 @@ impl Registry {
         if text.len() > MOST_BYTES {
             return Ok(None);
         }
-        within_levels(alloc, self, text, MOST_SEQUENCES)
+        within_levels(alloc, self, text, MOST_LEVELS as u32)
     }
 }
 

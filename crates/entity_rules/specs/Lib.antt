@@ -1,0 +1,4 @@
+pub mod KindTests
+pub mod NearMembers
+pub mod Rules
+pub mod Wanted

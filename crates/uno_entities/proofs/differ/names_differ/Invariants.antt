@@ -1,8 +1,0 @@
-use Rattle.uno_entities.proofs.Different.{Differ}
-use Rattle.uno_entities.proofs.differ.names_differ.Given as goal
-
-abbrev pub invariant-loop-left : goal.invariant-loop-left
-invariant-loop-left l = Differ l.names l.items l.left
-
-abbrev pub decreases-loop-left : goal.decreases-loop-left
-decreases-loop-left l = l.left

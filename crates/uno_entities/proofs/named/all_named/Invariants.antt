@@ -1,8 +1,0 @@
-use Rattle.std.proofs.Common.{◌≡◌, drop}
-use Rattle.std.specs.List.{list_all}
-use Rattle.uno_model.specs.Sound.{is_named}
-use Rattle.uno_entities.specs.Entities.{entities_of}
-use Rattle.uno_entities.proofs.named.all_named.Given as goal
-
-abbrev pub invariant-loop-entity : goal.invariant-loop-entity
-invariant-loop-entity l = list_all is_named (entities_of (drop l.entity-index l.entities)) ≡ list_all is_named (entities_of l.entities)

@@ -1,5 +1,0 @@
-use Rattle.std.proofs.Common.{rules}
-use Rattle.uno_types.proofs.tag.is_tag.Goals as goal
-
-pub returns : goal.returns
-returns c = search rules
