@@ -1,5 +1,6 @@
 //! The default of a type.
 ghost use Rattle.std.specs.Prelude.{◌≡◌, IfOk, map};
+ghost use Rattle.uno_model.specs.Codes.{same_kind};
 ghost use Rattle.uno_model.specs.Defaults.{default_of_kind, first_number, items_of};
 ghost use Rattle.uno_model.specs.Kinds as kd;
 ghost use Rattle.uno_model.specs.Registry.{find_entity};
@@ -77,10 +78,17 @@ fn default_any(alloc: Global) -> Result<Value, NoMemory>
 fn default_sequence(alloc: Global, registry: &Registry, inner: &TypeName) -> Result<Value, NoMemory>
     ensures { IfOk result (λ v. plain_of v ≡ default_of_kind registry.now (kd.sequence (kind_of inner.now))) }
 {
-    if matches!(inner, TypeName::Byte) {
+    if is_byte(inner) {
         return Ok(Value::Bytes(Vec::new(alloc)));
     }
     list_of(alloc, inner, Vec::new(alloc))
+}
+
+#[tactic(auto, unfolding(uno_model::specs::Codes::same_kind))]
+fn is_byte(kind: &TypeName) -> bool
+    ensures { result ≡ same_kind (kind_of kind.now) kd.byte }
+{
+    matches!(kind, TypeName::Byte)
 }
 
 /// The number of the first item that the enum of this name has.
@@ -114,7 +122,7 @@ fn default_tuple(
     };
     let fields = registry.members(alloc, name.as_str())?;
     let members = defaults_of(alloc, registry, &fields, inner)?;
-    tuple_of(alloc, name, members)
+    Ok(tuple_of(alloc, name, members)?)
 }
 
 /// The default of each member.
