@@ -1,5 +1,5 @@
 -- The set of a walk has just the names that were met.
-use Rattle.std.proofs.Common.{◌≡◌, ℕ, List, [], ◌∷◌, ◌++◌, true, refl, ap, sym, ◌∙◌, ◌||◌, arith, Bor}
+use Rattle.std.proofs.Common.{◌≡◌, ℕ, List, [], ◌∷◌, ◌++◌, true, refl, ap, sym, ◌∙◌, ◌||◌, Bool, false, arith, Bor}
 use Rattle.std.specs.List.{list_any}
 use Rattle.std.specs.BTreeSet.{BTreeSet, IsEmpty, Updates}
 use Rattle.std.specs.BTreeMap.{is_at}
@@ -26,3 +26,19 @@ has_more old new name order more updates has is q =
     let same = is_eq-slice_cmp name.now q.now ∙ nat_list_eq_equiv.symm name.now q.now in
     let behind = ap (λ o. is_met q.now (names_at o)) is ∙ met_more q.now order name in
     updates.0 q ∙ grind (arith, same, has q, behind)
+
+-- a name behind others
+pub name_behind : (name last : List ℕ) (names : List (List ℕ)) → is_met name (names ++ last ∷ []) ≡ (bytes_eq name last || is_met name names)
+unfolding is_met
+name_behind name last [] = refl
+name_behind name last (n ∷ names) = let rest = name_behind name last names in grind (arith, rest)
+
+pub none_met : (name : List ℕ) (all : List (List ℕ)) → all ≡ [] → false ≡ is_met name all
+unfolding is_met
+none_met name all none = sym (ap (is_met name) none)
+
+pub is_last : (name last : List ℕ) (names all : List (List ℕ)) → all ≡ names ++ last ∷ [] → bytes_eq name last ≡ true → true ≡ is_met name all
+is_last name last names all is same = sym (ap (is_met name) is ∙ name_behind name last names ∙ ap (λ b. b || is_met name names) same)
+
+pub is_before : (name last : List ℕ) (names all : List (List ℕ)) (b : Bool) → all ≡ names ++ last ∷ [] → bytes_eq name last ≡ false → b ≡ is_met name names → b ≡ is_met name all
+is_before name last names all b is other told = told ∙ sym (ap (is_met name) is ∙ name_behind name last names ∙ ap (λ c. c || is_met name names) other)

@@ -1,11 +1,12 @@
 -- Tasks that are done from the last to the first.
-use Rattle.std.proofs.Common.{◌≡◌, ℕ, zero, suc, ◌+◌, ◌<◌, List, [], ◌∷◌, ◌++◌, length, map, reverse, true, false, refl, ap, sym, ◌∙◌, arith}
+use Rattle.std.proofs.Common.{◌≡◌, ℕ, zero, Bool, None, Some, append-nil, suc, ◌+◌, ◌<◌, List, [], ◌∷◌, ◌++◌, length, map, reverse, true, false, refl, ap, sym, ◌∙◌, arith}
 use Rattle.std.proofs.lemmas.List.{map-append, reverse-append}
-use Rattle.uno_model.specs.Entities.{Entity}
+use Rattle.uno_model.specs.Entities.{Entity, Body, interface, struct, exception}
 use Rattle.uno_model.specs.Functions.{met_within, visit_all, is_met}
-use Rattle.uno_model.specs.Registry.{stands_on}
+use Rattle.uno_model.specs.Registry.{find_entity, stands_on, stands_on_body}
+use Rattle.uno_model.proofs.VisitLaws.{Extends, extends_on, met_extends}
 use Rattle.type_registry.specs.declared.walk.Task.{Task}
-use Rattle.type_registry.specs.Tasks.{tasks_of, doing_of, Doing, visit, leave, do_one, done, visits, sum_with, cost_within, cost, costs}
+use Rattle.type_registry.specs.Tasks.{tasks_of, doing_of, bases_in, Doing, visit, leave, do_one, done, visits, sum_with, cost_within, cost, costs}
 
 -- what stands behind is done first
 pub done_behind : (reg : List Entity) (ts us : List Doing) (met : List (List ℕ)) → done reg (ts ++ us) met ≡ done reg ts (done reg us met)
@@ -40,7 +41,7 @@ done_visits reg levels (name ∷ names) met =
     ap (λ ts. done reg ts met) (visits_both levels (name ∷ []) names) ∙ done_last reg (visits levels names) (visit name levels) met
     ∙ done_visits reg levels names (met_within levels reg met name)
 
-pub costs_visits : (reg : List Entity) (levels : ℕ) (names : List (List ℕ)) → costs reg (visits levels names) ≡ sum_with (cost_within levels reg) names
+pub costs_visits : (reg : List Entity) (levels : ℕ) (names : List (List ℕ)) → costs reg (visits levels names) + length names ≡ sum_with (cost_within levels reg) names
 unfolding costs sum_with
 costs_visits reg levels [] = refl
 costs_visits reg levels (name ∷ names) =
@@ -69,6 +70,10 @@ pub some_cost : (reg : List Entity) (levels : ℕ) (name : List ℕ) → 0 < cos
 unfolding cost_within
 some_cost reg zero name = omega arith
 some_cost reg (suc levels) name = omega arith
+
+pub task_cost : (reg : List Entity) (t : Doing) → 0 < cost reg t
+task_cost reg (visit name levels) = some_cost reg levels name
+task_cost reg (leave name) = omega arith
 
 -- one that brings in its bases, and then itself
 pub bases_first : (reg : List Entity) (ts us vs : List Doing) (levels less : ℕ) (met : List (List ℕ)) (name : List ℕ) → levels ≡ suc less → is_met name met ≡ false
@@ -121,3 +126,42 @@ first_task old new t none added = ap tasks_of added ∙ ap (λ ts. tasks_of (ts 
 pub all_levels : (reg : List Entity) (count levels : ℕ) (met : List (List ℕ)) (n : List ℕ) → count ≡ length reg → levels ≡ count + 1
     → met_within levels reg met n ≡ met_within (suc (length reg)) reg met n
 all_levels reg count levels met n is more = let same : levels ≡ suc (length reg) = omega (arith, is, more) in ap (λ l. met_within l reg met n) same
+
+-- ---- what a walk with few tasks at a time finds
+
+-- what an entity stands on, by its body
+pub bases_found : (reg : List Entity) (name : List ℕ) (e : Entity) → find_entity name reg ≡ Some e → bases_in e.body ≡ stands_on reg name
+bases_found reg name e found = of_body e.name e.published e.body ∙ sym (ap stands_on_body found)
+  where
+    of_body : (n : List ℕ) (p : Bool) (body : Body) → bases_in body ≡ stands_on_body (Some (record { name = n; published = p; body = body }))
+    of_body n p (interface bases members) = refl
+    of_body n p (struct base members) = refl
+    of_body n p (exception base members) = refl
+    of_body n p body = refl
+
+pub no_bases : (reg : List Entity) (name : List ℕ) → find_entity name reg ≡ None → stands_on reg name ≡ []
+no_bases reg name none = ap stands_on_body none
+
+-- what a visit over one level or more costs
+pub cost_more : (reg : List Entity) (levels less : ℕ) (name : List ℕ) → levels ≡ less + 1 → cost_within levels reg name ≡ 2 + sum_with (cost_within less reg) (stands_on reg name)
+unfolding cost_within
+cost_more reg levels less name is = let next : levels ≡ suc less = omega (arith, is) in ap (λ l. cost_within l reg name) next
+
+pub one_sum : (f : List ℕ → ℕ) (name : List ℕ) (names : List (List ℕ)) → names ≡ name ∷ [] → sum_with f names ≡ 1 + f name + 0
+unfolding sum_with
+one_sum f name names one = ap (sum_with f) one
+
+pub sum_last : (f : List ℕ → ℕ) (names : List (List ℕ)) (name : List ℕ) (all : List (List ℕ)) → all ≡ names ++ name ∷ [] → sum_with f all ≡ sum_with f names + f name + 1
+unfolding sum_with
+sum_last f names name all is = ap (sum_with f) is ∙ behind names
+  where
+    behind : (ns : List (List ℕ)) → sum_with f (ns ++ name ∷ []) ≡ sum_with f ns + f name + 1
+    behind [] = omega arith
+    behind (n ∷ ns) = omega (arith, behind ns)
+
+-- what is met stays in front
+pub done_extends : (reg : List Entity) (ts : List Doing) (met : List (List ℕ)) → Extends met (done reg ts met)
+unfolding done
+done_extends reg [] met = ([], sym (append-nil met))
+done_extends reg (visit name levels ∷ ts) met = extends_on met (done reg ts met) _ (done_extends reg ts met) (met_extends levels reg (done reg ts met) name)
+done_extends reg (leave name ∷ ts) met = extends_on met (done reg ts met) _ (done_extends reg ts met) (name ∷ [], refl)

@@ -38,10 +38,10 @@ bases_in (struct base members) = at_most_one base
 bases_in (exception base members) = at_most_one base
 bases_in _ = []
 
--- how many steps a task takes at most
+-- how many steps a task takes at most, and one more for each base that is made a task
 unfoldable pub sum_with : (List ℕ → ℕ) → List (List ℕ) → ℕ
 sum_with cost [] = 0
-sum_with cost (name ∷ names) = cost name + sum_with cost names
+sum_with cost (name ∷ names) = 1 + cost name + sum_with cost names
 
 unfoldable pub cost_within : ℕ → List Entity → List ℕ → ℕ
 cost_within zero reg name = 1

@@ -1,12 +1,15 @@
 //! The functions of interfaces, in the order of their numbers.
 #![tactic(auto)]
 
+mod frames;
 mod function;
 mod met;
+mod numbered;
 mod own;
 mod table;
 mod threads;
 mod walk;
 
 pub use function::{Function, FunctionRef, ParamRef};
+pub use numbered::function_numbered;
 pub use table::{TableError, function_table};

@@ -32,7 +32,9 @@ fn count(group: Group, member: &Member) -> usize
     ensures { (owner : _) → result ≡ length (functions_in group owner (member_of member.now)) }
 {
     match (group, member) {
-        (Group::Accessors, Member::Attribute(attribute)) => { if attribute.read_only { 1 } else { 2 } }
+        (Group::Accessors, Member::Attribute(attribute)) => {
+            if attribute.read_only { 1 } else { 2 }
+        }
         (Group::Methods, Member::Method(_)) => 1,
         _ => 0,
     }
@@ -136,11 +138,7 @@ pub(crate) fn push_named(
     }
 }
 
-fn push_declared(
-    table: &mut Vec<Function>,
-    alloc: Global,
-    entity: &Entity,
-) -> Result<(), NoMemory>
+fn push_declared(table: &mut Vec<Function>, alloc: Global, entity: &Entity) -> Result<(), NoMemory>
     ensures { OnOk result (functions_at table.new.items ≡ functions_at table.old.items ++ declared_in entity.now.name (body_of entity.now.body)) }
 {
     let Body::Interface { bases: _, members } = &entity.body else {

@@ -58,11 +58,7 @@ fn is_interface(body: &Body) -> bool
     matches!(body, Body::Interface { .. })
 }
 
-fn table_of(
-    alloc: Global,
-    registry: &Registry,
-    name: &str,
-) -> Result<Vec<Function>, NoMemory>
+fn table_of(alloc: Global, registry: &Registry, name: &str) -> Result<Vec<Function>, NoMemory>
     ensures { IfOk result (λ table. functions_at table.items ≡ functions_of registry.now name.now) }
 {
     let met = interfaces_of(alloc, registry, name)?;

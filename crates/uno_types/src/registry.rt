@@ -66,7 +66,7 @@ impl Registry {
     }
 
     /// Where its memory comes from.
-    pub(crate) fn allocator(&self) -> Global {
+    pub fn allocator(&self) -> Global {
         self.alloc
     }
 

@@ -1,0 +1,230 @@
+//! One function of an interface, looked up without memory of its own.
+ghost use Rattle.std.specs.Prelude.{◌≡◌, ◌++◌, ◌∷◌, [], map, option_map, slice_get, None, Ok, IfOk, IsOk, MatchOption};
+ghost use Rattle.uno_model.specs.Functions.{functions_of};
+ghost use Rattle.uno_model.specs.Registry.{required, at_most_one};
+ghost use Rattle.uno_entities.specs.Entities.{base_of, entity_of};
+ghost use Rattle.type_registry.specs.Frames.{names_in, tasks_in, Walked};
+ghost use Rattle.type_registry.specs.Functions.{lent_function};
+ghost use Rattle.type_registry.specs.Tasks.{visit, leave, visits, bases_in, doing_of};
+
+use crate::FunctionRef;
+use crate::frames::{Names, Todo, has};
+use crate::own::{Sought, seek_named, seek_owners};
+use crate::walk::{Task, interfaces_of};
+use uno_types::{Base, Body, Entity, Name, Registry};
+
+/// How many tasks a look-up does in the frames of the stack, before it asks for memory.
+const MOST_STEPS: u32 = 256;
+
+/// The steps ran out.
+#[derive(Clone, Copy)]
+pub(crate) struct TooFar;
+
+/// The function of an interface at a number, and none where the number is past its functions. In a sound registry a name that is
+/// no interface's has none. It takes memory only for an interface with a hundred bases and more, and none where there is none.
+pub fn function_numbered<'a>(
+    registry: &'a Registry,
+    name: &str,
+    number: u16,
+) -> Option<FunctionRef<'a>>
+    ensures { option_map lent_function result ≡ slice_get (functions_of registry.now name.now) number }
+{
+    if let Ok(found) = numbered_within(registry, name, number as usize, Some(MOST_STEPS)) {
+        return found;
+    }
+    if let Ok(met) = interfaces_of(registry.allocator(), registry, name) {
+        return seek_owners(registry, met.names(), number as usize);
+    }
+    match numbered_within(registry, name, number as usize, None) {
+        Ok(found) => found,
+        Err(_) => None,
+    }
+}
+
+/// The function at a number, unless it takes more than so many steps.
+fn numbered_within<'a>(
+    registry: &'a Registry,
+    name: &str,
+    number: usize,
+    steps: Option<u32>,
+) -> Result<Option<FunctionRef<'a>>, TooFar>
+    ensures found { IfOk result (λ found. option_map lent_function found ≡ slice_get (functions_of registry.now name.now) number) }
+    ensures ends { steps ≡ None → IsOk result }
+{
+    let levels = registry.entities().len() as u128 + 1;
+    let todo = Todo::More(Task::Visit(name, levels), &Todo::Nothing);
+    walk(registry, &todo, &Names::Nothing, number, steps)
+}
+
+/// One step fewer, where they are counted.
+fn one_fewer(steps: Option<u32>) -> Result<Option<u32>, TooFar>
+    ensures { steps ≡ None → result ≡ Ok None }
+{
+    let Some(left) = steps else { return Ok(None) };
+    match left.checked_sub(1) {
+        Some(left) => Ok(Some(left)),
+        None => Err(TooFar),
+    }
+}
+
+/// Does all tasks, the last one first, until the number is reached.
+#[cycle(walk)]
+fn walk<'a>(
+    registry: &'a Registry,
+    todo: &Todo,
+    met: &Names,
+    number: usize,
+    steps: Option<u32>,
+) -> Result<Option<FunctionRef<'a>>, TooFar>
+    ensures found { Walked registry.now (tasks_in todo.now) (names_in met.now) number result }
+    ensures ends { steps ≡ None → IsOk result }
+{
+    match todo {
+        Todo::Nothing => Ok(None),
+        Todo::More(task, before) => {
+            let steps = one_fewer(steps)?;
+            do_task(registry, task, before, met, number, steps)
+        }
+    }
+}
+
+#[cycle(walk)]
+fn do_task<'a>(
+    registry: &'a Registry,
+    task: &Task,
+    before: &Todo,
+    met: &Names,
+    number: usize,
+    steps: Option<u32>,
+) -> Result<Option<FunctionRef<'a>>, TooFar>
+    ensures found { Walked registry.now (tasks_in before.now ++ doing_of task.now ∷ []) (names_in met.now) number result }
+    ensures ends { steps ≡ None → IsOk result }
+{
+    match task {
+        Task::Visit(name, levels) => visit(registry, name, *levels, before, met, number, steps),
+        Task::Leave(name) => leave(registry, name, before, met, number, steps),
+    }
+}
+
+/// An interface whose bases were met is met itself, unless the number is one of its own.
+#[cycle(walk)]
+fn leave<'a>(
+    registry: &'a Registry,
+    name: &str,
+    before: &Todo,
+    met: &Names,
+    number: usize,
+    steps: Option<u32>,
+) -> Result<Option<FunctionRef<'a>>, TooFar>
+    ensures found { Walked registry.now (tasks_in before.now ++ leave name.now ∷ []) (names_in met.now) number result }
+    ensures ends { steps ≡ None → IsOk result }
+{
+    match seek_named(registry, name, number) {
+        Sought::Found(function) => Ok(Some(function)),
+        Sought::Past(left) => walk(registry, before, &Names::More(&*name, &*met), left, steps),
+    }
+}
+
+/// An interface that was not met, and for which levels are left, is left behind its bases.
+#[cycle(walk)]
+fn visit<'a>(
+    registry: &'a Registry,
+    name: &str,
+    levels: u128,
+    before: &Todo,
+    met: &Names,
+    number: usize,
+    steps: Option<u32>,
+) -> Result<Option<FunctionRef<'a>>, TooFar>
+    ensures found { Walked registry.now (tasks_in before.now ++ visit name.now levels ∷ []) (names_in met.now) number result }
+    ensures ends { steps ≡ None → IsOk result }
+{
+    let Some(levels) = levels.checked_sub(1) else {
+        return walk(registry, before, met, number, steps);
+    };
+    if has(met, name) {
+        return walk(registry, before, met, number, steps);
+    }
+    let todo = Todo::More(Task::Leave(&*name), &*before);
+    match registry.find(name) {
+        Some(entity) => visit_bases(registry, entity, levels, &todo, met, number, steps),
+        None => walk(registry, &todo, met, number, steps),
+    }
+}
+
+/// What an entity stands on is visited before all else.
+#[cycle(walk)]
+fn visit_bases<'a>(
+    registry: &'a Registry,
+    entity: &Entity,
+    levels: u128,
+    todo: &Todo,
+    met: &Names,
+    number: usize,
+    steps: Option<u32>,
+) -> Result<Option<FunctionRef<'a>>, TooFar>
+    ensures found { Walked registry.now (tasks_in todo.now ++ visits levels (bases_in (entity_of entity.now).body)) (names_in met.now) number result }
+    ensures ends { steps ≡ None → IsOk result }
+{
+    match &entity.body {
+        Body::Interface { bases, .. } => {
+            visit_required(registry, bases, levels, todo, met, number, steps)
+        }
+        Body::Struct { base, .. } | Body::Exception { base, .. } => {
+            visit_base(registry, base, levels, todo, met, number, steps)
+        }
+        _ => walk(registry, todo, met, number, steps),
+    }
+}
+
+#[cycle(walk)]
+fn visit_base<'a>(
+    registry: &'a Registry,
+    base: &Option<Name>,
+    levels: u128,
+    todo: &Todo,
+    met: &Names,
+    number: usize,
+    steps: Option<u32>,
+) -> Result<Option<FunctionRef<'a>>, TooFar>
+    ensures found { Walked registry.now (tasks_in todo.now ++ visits levels (at_most_one base.now)) (names_in met.now) number result }
+    ensures ends { steps ≡ None → IsOk result }
+{
+    let Some(base) = base else {
+        return walk(registry, todo, met, number, steps);
+    };
+    let todo = Todo::More(Task::Visit(base.as_str(), levels), &*todo);
+    walk(registry, &todo, met, number, steps)
+}
+
+/// The bases that are not optional, the first one on top.
+#[cycle(walk)]
+fn visit_required<'a>(
+    registry: &'a Registry,
+    bases: &[Base],
+    levels: u128,
+    todo: &Todo,
+    met: &Names,
+    number: usize,
+    steps: Option<u32>,
+) -> Result<Option<FunctionRef<'a>>, TooFar>
+    ensures found { Walked registry.now (tasks_in todo.now ++ visits levels (required (map base_of bases.now))) (names_in met.now) number result }
+    ensures ends { steps ≡ None → IsOk result }
+{
+    let Some((name, others)) = last_required(bases) else {
+        return walk(registry, todo, met, number, steps);
+    };
+    let todo = Todo::More(Task::Visit(name, levels), &*todo);
+    visit_required(registry, others, levels, &todo, met, number, steps)
+}
+
+/// The last base that is not optional, and the bases before it.
+fn last_required(bases: &[Base]) -> Option<(&str, &[Base])>
+    ensures { MatchOption result (required (map base_of bases.now) ≡ []) (λ x. required (map base_of bases.now) ≡ required (map base_of x.1.now) ++ x.0.now ∷ []) }
+{
+    let (last, others) = bases.split_last()?;
+    if last.optional {
+        return last_required(others);
+    }
+    Some((last.name.as_str(), others))
+}
