@@ -15,7 +15,7 @@ use Rattle.literal_model.specs.Literals.{escaped}
 use Rattle.uno_model.specs.NamedTypes.{IsNamed, type_of_text}
 use Rattle.uno_model.specs.Names.{begins_identifier, goes_on_identifier}
 use Rattle.literal_model.specs.Shapes.{Bracket, square, curly, Token, opens, closes, comma, number, word, string, named, cast, spell, spells, largest, lowest, is_known_word, front, rest}
-use Rattle.literal_model.specs.Shapes.{digits_on, digits_at, on_ok, with_byte, escape_of, string_at, is_name_byte, type_at, cast_of, word_at, negative_of, number_at, value_at, Awaited}
+use Rattle.literal_model.specs.Shapes.{digits_on, digits_at, on_ok, with_byte, escape_of, string_at, is_name_byte, name_stop, type_at, cast_of, word_at, negative_of, number_at, value_at, Awaited}
 use Rattle.literal_model.specs.Shapes.{value, element, separator, behind, opened, closing, separator_at, element_at, token_at, Placed, with_token, is_whole, tokens_at}
 use Rattle.uno_model.specs.Sound.{is_named}
 use Rattle.uno_model.specs.Types.{is_type}
@@ -185,10 +185,10 @@ type_sound reg mark bytes k r named_all e = by_rest (rest is_name_byte bytes) re
 
     by_mark : (c : ℕ) (cs : List ℕ) (b : Bool) → rest is_name_byte bytes ≡ c ∷ cs → (c == mark) ≡ b → IsTypeAt reg mark bytes k r
     by_mark c cs true behind_it marked = by_type c cs (type_of_text reg (front is_name_byte bytes)) behind_it marked refl (text_finds reg (front is_name_byte bytes) named_all)
-    by_mark c cs false behind_it other = absurd (not_ok (suc (length cs)) (k, r) (rw (behind_it, other) at e))
+    by_mark c cs false behind_it other = absurd (not_ok (name_stop reg bytes) (k, r) (rw (behind_it, other) at e))
 
     by_rest : (xs : List ℕ) → rest is_name_byte bytes ≡ xs → IsTypeAt reg mark bytes k r
-    by_rest [] none = absurd (not_ok 0 (k, r) (rw none at e))
+    by_rest [] none = absurd (not_ok (name_stop reg bytes) (k, r) (rw none at e))
     by_rest (c ∷ cs) behind_it = by_mark c cs (c == mark) behind_it refl
 
 -- a token is spelled in front, and its type is one of the registry

@@ -459,20 +459,23 @@ item_identifier (i ∷ items) n w all found = by_number (int_eq i.number n) refl
     by_number false other inner = inner (rw other at found)
 
 some_item : (all items : List Item) (n : ℤ) (w : List ℕ) → first_item all n ≡ Some w → first_item items n ≡ Some w
-    → list_any (λ (i : Item). is_some_name (first_item all i.number) w) items ≡ true
+    → list_any (λ (i : Item). bytes_eq i.name w && is_some_name (first_item all i.number) w) items ≡ true
 unfolding first_item
 some_item all [] n w whole found = let bad : ⊥ = cc in absurd bad
 some_item all (i ∷ items) n w whole found = by_number (int_eq i.number n) refl (some_item all items n w whole)
   where
-    by_number : (b : Bool) → int_eq i.number n ≡ b
-        → (first_item items n ≡ Some w → list_any (λ (j : Item). is_some_name (first_item all j.number) w) items ≡ true)
-        → list_any (λ (j : Item). is_some_name (first_item all j.number) w) (i ∷ items) ≡ true
+    Inner : Type 0
+    Inner = first_item items n ≡ Some w → list_any (λ (j : Item). bytes_eq j.name w && is_some_name (first_item all j.number) w) items ≡ true
+
+    by_number : (b : Bool) → int_eq i.number n ≡ b → Inner → list_any (λ (j : Item). bytes_eq j.name w && is_some_name (first_item all j.number) w) (i ∷ items) ≡ true
     by_number true same inner =
         let number_it : i.number ≡ n = (Decides-int_eq i.number n).0 same in
         let first : first_item all i.number ≡ Some w = ap (first_item all) number_it ∙ whole in
         let passes : is_some_name (first_item all i.number) w ≡ true = ap (λ o. is_some_name o w) first ∙ (bytes_eq-Decides w w).1 refl in
-        or_left (is_some_name (first_item all i.number) w) _ passes
-    by_number false other inner = or_right (is_some_name (first_item all i.number) w) _ (inner (rw other at found))
+        let one : Some i.name ≡ Some w = rw same at found in
+        let it : i.name ≡ w = cc in
+        or_left _ _ (and_from (bytes_eq i.name w) _ ((bytes_eq-Decides i.name w).1 it) passes)
+    by_number false other inner = or_right (bytes_eq i.name w && is_some_name (first_item all i.number) w) _ (inner (rw other at found))
 
 in_some_enum : (es : List Entity) (name w : List ℕ) (e : Entity) → find_entity name es ≡ Some e → is_first_name (items_of (Some e)) w ≡ true
     → list_any (λ d. is_first_name (items_of (Some d)) w) es ≡ true

@@ -1,6 +1,6 @@
 -- The tokens of a literal's text, the order in which they stand, and the verdict on a text before its type is asked.
 use Rattle.std.specs.Prelude.{ℕ, zero, suc, ◌+◌, ◌-◌, ◌*◌, ◌^◌, ℤ, pos, negsuc, Bool, true, false, ◌==◌, ◌&&◌, ◌||◌, nat_le}
-use Rattle.std.specs.Prelude.{List, [], ◌∷◌, ◌++◌, length, Option, None, Some, Result, Ok, Err, codes, if◌then◌else◌}
+use Rattle.std.specs.Prelude.{List, [], ◌∷◌, ◌++◌, length, take, drop, slice_index, is_none, Option, None, Some, Result, Ok, Err, codes, if◌then◌else◌}
 use Rattle.std.specs.Fmt.{signed_decimal}
 use Rattle.std.specs.List.{list_all, list_any, flat_map}
 use Rattle.std.specs.Str.{bytes_eq}
@@ -53,13 +53,14 @@ largest = 2 ^ 64 - 1
 abbrev pub lowest : ℕ
 lowest = 2 ^ 63
 
--- the word is the name of the first item of its number
+-- the word is this name
 abbrev pub is_some_name : Option (List ℕ) → List ℕ → Bool
 is_some_name None w = false
 is_some_name (Some name) w = bytes_eq name w
 
+-- the word is the name of an item that is the first of its number
 abbrev pub is_first_name : List Item → List ℕ → Bool
-is_first_name items w = list_any (λ i. is_some_name (first_item items i.number) w) items
+is_first_name items w = list_any (λ i. bytes_eq i.name w && is_some_name (first_item items i.number) w) items
 
 abbrev pub is_own_word : List ℕ → Bool
 is_own_word w = (bytes_eq w (codes "true") || bytes_eq w (codes "false")) || (bytes_eq w (codes "void") || bytes_eq w (codes "null"))
@@ -123,6 +124,53 @@ string_at false (c ∷ cs) = if c == 34 then Ok ([], cs) else (if c == 92 then s
 abbrev pub is_name_byte : ℕ → Bool
 is_name_byte c = goes_on_identifier c || ((c == 46) || ((c == 91) || ((c == 93) || (c == 32))))
 
+-- behind the letters in which a text and a word agree
+unfoldable pub behind_letters : List ℕ → List ℕ → List ℕ
+behind_letters (w ∷ ws) (c ∷ cs) = if c == w then behind_letters ws cs else c ∷ cs
+behind_letters ws cs = cs
+
+abbrev pub shorter : List ℕ → List ℕ → List ℕ
+shorter xs ys = if nat_le (length xs) (length ys) then xs else ys
+
+-- behind the second word of an unsigned type
+abbrev pub behind_second : List ℕ → List ℕ
+behind_second cs = shorter (behind_letters (codes "short") cs) (shorter (behind_letters (codes "long") cs) (behind_letters (codes "hyper") cs))
+
+-- behind words with a point between any two
+unfoldable mutual
+  pub behind_words : List ℕ → List ℕ
+  behind_words [] = []
+  behind_words (c ∷ cs) = if begins_identifier c then behind_word cs else c ∷ cs
+
+  pub behind_word : List ℕ → List ℕ
+  behind_word [] = []
+  behind_word (c ∷ cs) = if goes_on_identifier c then behind_word cs else (if c == 46 then behind_words cs else c ∷ cs)
+
+abbrev pub behind_plain : List ℕ → List ℕ
+behind_plain cs = if bytes_eq (take 9 cs) (codes "unsigned ") then behind_second (drop 9 cs) else behind_words cs
+
+-- behind the longest front of a text that may begin the name of a type: `[]` any number of times, and the words of another type
+unfoldable mutual
+  pub behind_name : List ℕ → List ℕ
+  behind_name [] = []
+  behind_name (c ∷ cs) = if c == 91 then behind_bracket cs else behind_plain (c ∷ cs)
+
+  pub behind_bracket : List ℕ → List ℕ
+  behind_bracket [] = []
+  behind_bracket (c ∷ cs) = if c == 93 then behind_name cs else c ∷ cs
+
+-- the last word is whole, and the name is that of no type
+abbrev pub is_misnamed : List Entity → List ℕ → Bool
+is_misnamed reg name = goes_on_identifier (slice_index name (length name - 1)) && is_none (type_of_text reg name)
+
+-- how many bytes are left from the first at which the name of no type goes on; where a name stands that is none, from its front on
+abbrev pub name_stop : List Entity → List ℕ → ℕ
+name_stop reg bytes = stop (behind_name bytes)
+  where
+    stop : List ℕ → ℕ
+    stop [] = 0
+    stop (c ∷ cs) = if is_misnamed reg (take (length bytes - suc (length cs)) bytes) then length bytes else suc (length cs)
+
 -- the name of a type and the mark behind it
 abbrev pub type_at : List Entity → ℕ → List ℕ → Result (Kind × List ℕ) ℕ
 type_at reg mark bytes = closed (rest is_name_byte bytes)
@@ -132,8 +180,8 @@ type_at reg mark bytes = closed (rest is_name_byte bytes)
     of_name (Some k) cs = Ok (k, cs)
 
     closed : List ℕ → Result (Kind × List ℕ) ℕ
-    closed [] = Err 0
-    closed (c ∷ cs) = if c == mark then of_name (type_of_text reg (front is_name_byte bytes)) cs else Err (suc (length cs))
+    closed [] = Err (name_stop reg bytes)
+    closed (c ∷ cs) = if c == mark then of_name (type_of_text reg (front is_name_byte bytes)) cs else Err (name_stop reg bytes)
 
 -- a type that is not any
 abbrev pub cast_of : ℕ → Kind × List ℕ → Result (Token × List ℕ) ℕ

@@ -7,6 +7,7 @@ ghost use Rattle.uno_entities.specs.TypeNames.{kind_of};
 ghost use Rattle.literal_reading.specs.Scanning.{Scans, token_of, test_of};
 ghost use Rattle.literal_reading.specs.declared.scan.run.Run.TheVariants as run;
 
+mod name;
 mod number;
 mod run;
 mod string;
@@ -69,7 +70,7 @@ fn cast_of<'a>(left: usize, kind: TypeName, rest: &'a [u8]) -> Result<(Token, &'
     }
 }
 
-fn begins_word(byte: u8) -> bool
+pub(crate) fn begins_word(byte: u8) -> bool
     ensures { result ≡ begins_identifier byte }
 {
     byte.is_ascii_alphabetic() || byte == b'_'

@@ -63,6 +63,7 @@ const ROWS: &[Row] = &[
     ("long", "", Err(BadLiteral(0))),
     ("long", "00", Err(BadLiteral(1))),
     ("long", "-0", Err(BadLiteral(1))),
+    ("long", "-01", Err(BadLiteral(1))),
     ("long", "-", Err(BadLiteral(1))),
     ("long", "+1", Err(BadLiteral(0))),
     ("long", "1 ", Err(BadLiteral(1))),
@@ -81,6 +82,23 @@ const ROWS: &[Row] = &[
     ("type", "<long!", Err(BadLiteral(5))),
     ("type", "<long", Err(BadLiteral(5))),
     ("type", "<[]void>", Err(BadLiteral(1))),
+    ("type", "<lo", Err(BadLiteral(3))),
+    ("type", "<.", Err(BadLiteral(1))),
+    ("type", "<>", Err(BadLiteral(1))),
+    ("type", "<[", Err(BadLiteral(2))),
+    ("type", "<[long>", Err(BadLiteral(1))),
+    ("type", "<[long", Err(BadLiteral(2))),
+    ("type", "<long short", Err(BadLiteral(5))),
+    ("type", "<demo.", Err(BadLiteral(6))),
+    ("type", "<demo..Point", Err(BadLiteral(6))),
+    ("type", "<demo.Nope!", Err(BadLiteral(1))),
+    ("type", "<unsigned ", Err(BadLiteral(10))),
+    ("type", "<unsigned byte", Err(BadLiteral(10))),
+    ("type", "<unsigned short.", Err(BadLiteral(15))),
+    ("[]type", "[<long]", Err(BadLiteral(6))),
+    ("[]type", "[<lang]", Err(BadLiteral(2))),
+    ("any", "(7", Err(BadLiteral(1))),
+    ("any", "(unigned short)3", Err(BadLiteral(1))),
     ("any", "(any)(long)1", Err(BadLiteral(1))),
     ("any", "(long)", Err(BadLiteral(6))),
     ("any", "(void)1", Err(BadLiteral(6))),
@@ -161,6 +179,23 @@ fn ends_badly(alloc: Global, registry: &Registry, count: u32) -> Result<bool, No
     is_right(alloc, registry, "long", text.as_str(), wanted)
 }
 
+/// Whether a sequence in an any, so many times one in the other, with two levels each, is read or refused as is wanted.
+fn nested(
+    alloc: Global,
+    registry: &Registry,
+    count: u32,
+    innermost: &str,
+    wanted: Result<(), TextError>,
+) -> Result<bool, NoMemory>
+    requires { IsSound registry.now }
+{
+    let mut text = "([]any)[".repeat(alloc, count as usize)?;
+    text.push_str(innermost)?;
+    let ends = "]".repeat(alloc, count as usize)?;
+    text.push_str(ends.as_str())?;
+    is_right(alloc, registry, "any", text.as_str(), wanted)
+}
+
 #[test]
 fn texts_are_read_and_printed_or_refused_at_their_places(rt: HostRuntime) {
     let registry = sound(&rt, registry_of(rt.alloc(), DEMO));
@@ -170,4 +205,8 @@ fn texts_are_read_and_printed_or_refused_at_their_places(rt: HostRuntime) {
     }
     let bad = ends_badly(rt.alloc(), &registry, 4_000_000);
     see(&rt, bad == Ok(true), "four million brackets");
+    let deepest = nested(rt.alloc(), &registry, 512, "", Ok(()));
+    see(&rt, deepest == Ok(true), "1,024 levels");
+    let deeper = nested(rt.alloc(), &registry, 512, "(void)", Err(TextError::NoMemory));
+    see(&rt, deeper == Ok(true), "one more is no memory");
 }

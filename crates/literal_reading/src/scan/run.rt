@@ -35,7 +35,7 @@ fn goes_on(run: Run, byte: u8) -> bool
     }
 }
 
-fn is_word_byte(byte: u8) -> bool
+pub(crate) fn is_word_byte(byte: u8) -> bool
     ensures { result ≡ goes_on_identifier byte }
 {
     byte.is_ascii_alphanumeric() || byte == b'_'

@@ -1,13 +1,14 @@
-//! Names of types, each up to the mark behind it.
-ghost use Rattle.std.specs.Prelude.{◌≡◌, IsTrue, IfOk, option_map};
+//! The names of types.
+ghost use Rattle.std.specs.Prelude.{◌≡◌, IfOk, IsTrue, option_map};
 ghost use Rattle.std.specs.List.{list_all};
+ghost use Rattle.literal_model.specs.Shapes.{is_misnamed, is_name_byte, name_stop, type_at};
 ghost use Rattle.uno_model.specs.NamedTypes.{type_of_text};
-ghost use Rattle.literal_model.specs.Shapes.{type_at};
 ghost use Rattle.uno_model.specs.Sound.{IsSound};
 ghost use Rattle.uno_entities.specs.TypeNames.{kind_of};
 ghost use Rattle.literal_reading.specs.Scanning.{Scans, test_of};
 
-use crate::scan::run::{Run, split_run};
+use crate::scan::name::behind_name;
+use crate::scan::run::{Run, is_word_byte, split_run};
 use crate::stop::Stop;
 use std::alloc::Global;
 use uno_base::NoMemory;
@@ -25,15 +26,48 @@ pub(crate) fn type_at<'a>(
 {
     let (run, rest) = split_run(Run::Name, bytes);
     let Some((first, behind)) = rest.split_first() else {
-        return Err(Stop::Bad(0));
+        return Err(Stop::Bad(name_stop(alloc, registry, bytes)?));
     };
     if *first != mark {
-        return Err(Stop::Bad(rest.len()));
+        return Err(Stop::Bad(name_stop(alloc, registry, bytes)?));
     }
     let Some(kind) = type_named(alloc, registry, as_text(Run::Name, run))? else {
         return Err(Stop::Bad(bytes.len()));
     };
     Ok((kind, behind))
+}
+
+/// How many bytes are left from the first at which the name of no type goes on.
+fn name_stop(alloc: Global, registry: &Registry, bytes: &[u8]) -> Result<usize, NoMemory>
+    requires { IsSound registry.now }
+    ensures { IfOk result (λ left. left ≡ name_stop registry.now bytes.now) }
+{
+    let behind = behind_name(bytes);
+    if behind.is_empty() {
+        return Ok(0);
+    }
+    let (name, _) = bytes.split_at(bytes.len().saturating_sub(behind.len()));
+    if is_misnamed(alloc, registry, name)? {
+        return Ok(bytes.len());
+    }
+    Ok(behind.len())
+}
+
+fn is_misnamed(alloc: Global, registry: &Registry, name: &[u8]) -> Result<bool, NoMemory>
+    requires sound { IsSound registry.now }
+    requires bytes { IsTrue (list_all is_name_byte name.now) }
+    ensures { IfOk result (λ is. is ≡ is_misnamed registry.now name.now) }
+{
+    let Some(last) = name.last() else {
+        return Ok(false);
+    };
+    if !is_word_byte(*last) {
+        return Ok(false);
+    }
+    match type_named(alloc, registry, as_text(Run::Name, name))? {
+        Some(_) => Ok(false),
+        None => Ok(true),
+    }
 }
 
 fn type_named(alloc: Global, registry: &Registry, name: &str) -> Result<Option<TypeName>, NoMemory>

@@ -55,11 +55,12 @@ fn is_item_of_some(entities: &[Entity], word: &str) -> bool
     false
 }
 
+/// Where items have different names, only one of them asks which item is the first of its number.
 fn is_first_name(items: &[Item], word: &str) -> bool
     ensures { result ≡ is_first_name (map item_of items.now) word.now }
 {
     for item in items {
-        if is_name_of(items, item.number, word) {
+        if item.name.as_str() == word && is_name_of(items, item.number, word) {
             return true;
         }
     }
