@@ -2,14 +2,14 @@
 use Rattle.std.proofs.Common.{◌≡◌, ℕ, zero, suc, ◌+◌, ◌<◌, true, false, List, [], ◌∷◌, ◌++◌, length, map, take, get_or, Option, None, Some, refl, sym, ap, ◌∙◌, arith}
 use Rattle.std.specs.Borrow.{Bor}
 use Rattle.std.specs.List.{list_all}
-use Rattle.std.specs.Prelude.{IsTrue}
+use Rattle.std.specs.Prelude.{Bool, IsTrue}
 use Rattle.std.proofs.lemmas.Bool.{and_parts}
 use Rattle.std.proofs.lemmas.List.{map-append, map_more}
 use Rattle.uno_model.specs.Entities as plain
 use Rattle.uno_model.specs.Kinds.{Kind}
 use Rattle.uno_model.specs.Defaults.{IsDefault, EachDefault, items_of}
 use Rattle.uno_model.specs.Registry.{find_entity, all_members}
-use Rattle.uno_model.specs.Sound.{IsSound, is_there, is_enum, is_allowed, is_some_list, few_modules, short_name, body_allowed}
+use Rattle.uno_model.specs.Sound.{IsSound, is_there, is_enum, is_complete, is_some_list}
 use Rattle.uno_model.proofs.MemberKindLaws.{members_formed}
 use Rattle.uno_model.proofs.UsedKindLaws.{found_entity}
 use Rattle.uno_model.specs.Types.{is_formed}
@@ -31,17 +31,18 @@ one_more_default reg (w ∷ vs) v [] k each is = absurd each
 one_more_default reg (w ∷ vs) v (j ∷ ks) k each is = (each.0, one_more_default reg vs v ks k each.1 is)
 
 -- an enum of a sound registry has an item
-has_item : (name : List ℕ) (b : plain.Body) → is_enum b ≡ true → body_allowed name b ≡ true → is_some_list (items_of (Some (record { name = name; published = false; body = b }))) ≡ true
-has_item name (plain.enum items) is allowed = (and_parts (short_name name) (is_some_list items) allowed).1
-has_item name (plain.interface bs ms) is allowed = absurd cc
-has_item name (plain.struct b ms) is allowed = absurd cc
-has_item name (plain.exception b ms) is allowed = absurd cc
-has_item name (plain.constants cs) is allowed = absurd cc
-has_item name (plain.typedef k) is allowed = absurd cc
-has_item name (plain.new_service b cs) is allowed = absurd cc
-has_item name (plain.old_service ps) is allowed = absurd cc
-has_item name (plain.new_singleton b) is allowed = absurd cc
-has_item name (plain.old_singleton s) is allowed = absurd cc
+has_item : (name : List ℕ) (published : Bool) (b : plain.Body) → is_enum b ≡ true → is_complete (record { name = name; published = published; body = b }) ≡ true
+    → is_some_list (items_of (Some (record { name = name; published = published; body = b }))) ≡ true
+has_item name published (plain.enum items) is complete = complete
+has_item name published (plain.interface bs ms) is complete = absurd cc
+has_item name published (plain.struct b ms) is complete = absurd cc
+has_item name published (plain.exception b ms) is complete = absurd cc
+has_item name published (plain.constants cs) is complete = absurd cc
+has_item name published (plain.typedef k) is complete = absurd cc
+has_item name published (plain.new_service b cs) is complete = absurd cc
+has_item name published (plain.old_service ps) is complete = absurd cc
+has_item name published (plain.new_singleton b) is complete = absurd cc
+has_item name published (plain.old_singleton s) is complete = absurd cc
 
 pub never_empty : (reg : List plain.Entity) (name : List ℕ) → IsSound reg → IsTrue (is_there reg is_enum name) → items_of (find_entity name reg) ≡ [] → ⊥
 never_empty reg name sound is none = by_find (find_entity name reg) refl
@@ -51,8 +52,8 @@ never_empty reg name sound is none = by_find (find_entity name reg) refl
     by_find (Some e) found =
         let enum : is_enum e.body ≡ true = rw found at is in
         let empty : items_of (Some e) ≡ [] = rw found at none in
-        let allowed = found_entity is_allowed name reg e sound.allowed found in
-        let some = has_item e.name e.body enum (and_parts (few_modules e.name) (body_allowed e.name e.body) allowed.0).1 in
+        let complete = found_entity is_complete name reg e sound.complete found in
+        let some = has_item e.name e.published e.body enum complete.0 in
         let bad : false ≡ true = rw empty at some in
         absurd cc
 
