@@ -214,6 +214,7 @@ fn visit_required<'a>(
     let Some((name, others)) = last_required(bases) else {
         return walk(registry, todo, met, number, steps);
     };
+    let steps = one_fewer(steps)?;
     let todo = Todo::More(Task::Visit(name, levels), &*todo);
     visit_required(registry, others, levels, &todo, met, number, steps)
 }
@@ -222,9 +223,12 @@ fn visit_required<'a>(
 fn last_required(bases: &[Base]) -> Option<(&str, &[Base])>
     ensures { MatchOption result (required (map base_of bases.now) ≡ []) (λ x. required (map base_of bases.now) ≡ required (map base_of x.1.now) ++ x.0.now ∷ []) }
 {
-    let (last, others) = bases.split_last()?;
-    if last.optional {
-        return last_required(others);
+    let mut rest = bases;
+    while let Some((last, others)) = rest.split_last() {
+        if !last.optional {
+            return Some((last.name.as_str(), others));
+        }
+        rest = others;
     }
-    Some((last.name.as_str(), others))
+    None
 }
