@@ -1,22 +1,22 @@
 -- The last group is left, of whose targets none waits: what marks and trail say stays so.
-use Rattle.std.proofs.Common.{Some, All, true, false, ◌≡◌, ◌≢◌, ℕ, zero, suc, ◌+◌, ◌-◌, ◌<◌, ◌≤◌, ◌⊎◌, inl, inr, List, [], ◌∷◌, ◌++◌, length, get_or, take, drop, refl, sym, ◌∙◌, ap, arith, subst, Contains}
+use Rattle.std.proofs.Common.{true, false, ◌≡◌, ◌≢◌, ℕ, zero, suc, ◌+◌, ◌-◌, ◌<◌, ◌≤◌, ◌⊎◌, inl, inr, Bool, List, [], ◌∷◌, length, get_or, take, drop, All, refl, sym, ◌∙◌, ap, arith, Contains}
 use Rattle.std.specs.Prelude.{nat_lt, nat_eq, cond, ◌||◌}
-use Rattle.std.specs.List.{list_any, slice_get}
-use Rattle.std.proofs.lemmas.Bool.{cond_both, cases_lt, cases_order, cases_Bool, or_parts, or_cases, ltb-true, ltb-false, eqb-true, eq-eqb, false≢true}
-use Rattle.std.proofs.lemmas.List.{get_or_default, get_or_past, get_or-take, get_or-drop, length-take, length-drop}
-use Rattle.std.proofs.lemmas.List.Elements.{All-contains, Contains-push, Contains-push_cases, Contains-append_left}
+use Rattle.std.specs.List.{list_any}
+use Rattle.std.proofs.lemmas.Bool.{cases_lt, cond_both, or_parts, or_cases, ltb-true, ltb-false, eqb-true, eq-eqb}
+use Rattle.std.proofs.lemmas.List.{places, get_or-take, length-drop, length-take}
+use Rattle.std.proofs.lemmas.List.Elements.{All-contains}
 use Rattle.uno_model.specs.Circles.{Leads, step, on}
 use Rattle.circle_search.specs.declared.mark.Mark.{Mark}
 use Rattle.circle_search.specs.declared.mark.Mark.TheVariants.{New, Open, OffCircle, OnCircle}
 use Rattle.circle_search.specs.declared.trail.Edge.{Edge}
 use Rattle.circle_search.specs.Graph.{targets}
-use Rattle.circle_search.specs.Search.{is_left, leads_back, mark_of_group, IsAt, IsNotBefore, IsSeen, IsMarked, Kept, MarksHold, GroupsHold, EdgesHold, Fine}
-use Rattle.circle_search.proofs.Places.{last_off, up_to_last, pairs_front, pairs_last, at_take, at_take_from, in_rest, from_rest}
-use Rattle.circle_search.proofs.Looking.{leads_through}
+use Rattle.circle_search.specs.Search.{is_left, leads_back, mark_of_group, IsAt, IsNotBefore, IsSeen, IsMarked, Kept, MarksHold, GroupsHold, Fine, new_work}
+use Rattle.circle_search.proofs.Work.{kept_work}
+use Rattle.circle_search.proofs.Looking.{leads_through, last_start}
 
--- a test passes at some element exactly where it passes at one that the list contains
+-- a test for a number passes at some element exactly where the list contains it
 any_at : (ts : List ℕ) (n : ℕ) → list_any (λ t. nat_eq t n) ts ≡ true → Contains ts n
-any_at [] n is = absurd (false≢true is)
+any_at [] n is = grind arith
 any_at (t ∷ ts) n is = elim (or_cases (nat_eq t n) (list_any (λ u. nat_eq u n) ts) is) [
   | inl here ↦ (0, omega arith, eqb-true t n here)
   | inr there ↦ let rest = any_at ts n there in (suc rest.0, omega (arith, rest.1), rest.2)
@@ -24,7 +24,7 @@ any_at (t ∷ ts) n is = elim (or_cases (nat_eq t n) (list_any (λ u. nat_eq u n
 
 none_at : (ts : List ℕ) (n : ℕ) → list_any (λ t. nat_eq t n) ts ≡ false → ¬ Contains ts n
 none_at [] n is (k, low, at) = omega arith
-none_at (t ∷ ts) n is (zero, low, at) = let e : true ≡ false = sym (eq-eqb t n at) ∙ (or_parts (nat_eq t n) (list_any (λ u. nat_eq u n) ts) is).0 in false≢true (sym e)
+none_at (t ∷ ts) n is (zero, low, at) = let here = eq-eqb t n at in let none = or_parts (nat_eq t n) (list_any (λ u. nat_eq u n) ts) is in grind arith
 none_at (t ∷ ts) n is (suc k, low, at) = none_at ts n (or_parts (nat_eq t n) (list_any (λ u. nat_eq u n) ts) is).1 (k, omega arith, at)
 
 -- from what was left, a way leads to what was left alone
@@ -33,245 +33,167 @@ leads_left : (g : List (List ℕ)) (marks : List Mark) (nodes : List ℕ) (a c :
 leads_left g marks nodes a c f left (step a' c' to) = f.closed a c left to
 leads_left g marks nodes a c f left (on a' b c' to rest) = leads_left g marks nodes b c f (f.closed a b left to) rest
 
-left_not_open : (m : Mark) (p : ℕ) → is_left m ≡ true → m ≡ Open p → ⊥
-left_not_open m p left is = let e : false ≡ true = sym (ap is_left is) ∙ left in false≢true e
+-- which mark a group has by its test
+by_test : (x : Bool) → (is_left (cond x OnCircle OffCircle) ≡ true) × (cond x OnCircle OffCircle ≡ OnCircle → x ≡ true) × (cond x OnCircle OffCircle ≡ OffCircle → x ≡ false)
+by_test true = (refl, λ e. refl, λ e. grind arith)
+by_test false = (refl, λ e. grind arith, λ e. refl)
 
--- the targets of the last group were left, or stand in it
-group_to : (g : List (List ℕ)) (marks : List Mark) (nodes starts : List ℕ) (waiting : List Edge) (b p t : ℕ) → Fine g marks nodes starts waiting
-    → Contains starts b → ((e : Edge) → Contains waiting e → e.place < b) → b ≤ p → p < length nodes → Contains (targets g (get_or nodes p 0)) t
-    → (is_left (get_or marks t OffCircle) ≡ true) ⊎ ((q : ℕ) × IsAt nodes q t × (b ≤ q))
-group_to g marks nodes starts waiting b p t f last none high low to = elim (f.seen p t low to) [
-  | inl left ↦ inl left
-  | inr (inl waits) ↦ let early = none (record { place = p; target = t }) waits in let bad : ⊥ = omega arith in absurd bad
-  | inr (inr (q, at, behind)) ↦ inr (q, at, behind b last high)
-]
-
--- nodes of a group of two or more lead back to themselves
-many_lead : (g : List (List ℕ)) (nodes starts : List ℕ) (b p : ℕ) → GroupsHold g nodes starts → ((s : ℕ) → Contains starts s → s ≤ b)
-    → b ≤ p → p < length nodes → b + 1 < length nodes → Leads (targets g) (get_or nodes p 0) (get_or nodes p 0)
-many_lead g nodes starts b p f last high low more = elim (cases_lt b p) [
-  | inl behind ↦
-      leads_through (targets g) (get_or nodes p 0) (get_or nodes b 0) (get_or nodes p 0) (f.back b p behind low (λ s in' le. last s in')) (f.on b p behind low)
-  | inr first ↦
-      let next : p < p + 1 = omega arith in
-      let low-next : p + 1 < length nodes = omega arith in
-      leads_through (targets g) (get_or nodes p 0) (get_or nodes (p + 1) 0) (get_or nodes p 0) (f.on p (p + 1) next low-next)
-      (f.back p (p + 1) next low-next (λ s in' le. let early = last s in' in omega arith))
-]
-
--- what the mark of the last group says is so of each of its nodes
-record IsTold (g : List (List ℕ)) (mark : Mark) (node : ℕ) : Type 0 where
-  left : is_left mark ≡ true
-  on : mark ≡ OnCircle → Leads (targets g) node node
-  off : mark ≡ OffCircle → ¬ Leads (targets g) node node
-
-told : (g : List (List ℕ)) (marks : List Mark) (nodes starts : List ℕ) (waiting : List Edge) (b p i : ℕ) → Fine g marks nodes starts waiting
-    → Contains starts b → ((s : ℕ) → Contains starts s → s ≤ b) → ((e : Edge) → Contains waiting e → e.place < b) → b ≤ p → IsAt nodes p i
-    → IsTold g (mark_of_group g (drop b nodes)) i
-told g marks nodes starts waiting b p i f there last none high at = elim (cases_Bool (leads_back g (drop b nodes))) [
-  | inl back ↦ subst (λ m. IsTold g m i) (sym (ap (λ x. cond x OnCircle OffCircle) back)) (record {
-    left = refl;
-    on = λ e. on_circle (cases_lt 1 (length (drop b nodes))) back;
-    off = λ e. let bad : ⊥ = cc in absurd bad;
-  })
-  | inr not_back ↦ subst (λ m. IsTold g m i) (sym (ap (λ x. cond x OnCircle OffCircle) not_back)) (record {
-    left = refl;
-    on = λ e. let bad : ⊥ = cc in absurd bad;
-    off = λ e way. off_circle (or_parts (nat_lt 1 (length (drop b nodes))) (list_any (λ t. nat_eq t (get_or (drop b nodes) 0 0)) (targets g (get_or (drop b nodes) 0 0))) not_back) way;
-  })
-]
-  where
-    -- the node of a group of one
-    the_one : length (drop b nodes) ≤ 1 → get_or (drop b nodes) 0 0 ≡ i
-    the_one short =
-        let here : b + 0 ≡ p = omega (arith, length-drop b nodes, at.0) in
-        get_or-drop b nodes 0 0 ∙ ap (λ k. get_or nodes k 0) here ∙ at.1
-
-    on_circle : (1 < length (drop b nodes)) ⊎ (length (drop b nodes) ≤ 1) → leads_back g (drop b nodes) ≡ true → Leads (targets g) i i
-    on_circle (inl more) back =
-        subst (λ n. Leads (targets g) n n) at.1 (many_lead g nodes starts b p f.of_groups last high at.0 (omega (arith, length-drop b nodes)))
-    on_circle (inr short) back = elim (or_cases (nat_lt 1 (length (drop b nodes))) (list_any (λ t. nat_eq t (get_or (drop b nodes) 0 0)) (targets g (get_or (drop b nodes) 0 0))) back) [
-      | inl more ↦ let many = ltb-true 1 (length (drop b nodes)) more in let bad : ⊥ = omega arith in absurd bad
-      | inr own ↦ subst (λ n. Leads (targets g) n n) (the_one short) (step (get_or (drop b nodes) 0 0) (get_or (drop b nodes) 0 0) (any_at (targets g (get_or (drop b nodes) 0 0)) (get_or (drop b nodes) 0 0) own))
-    ]
-
-    to_left : length (drop b nodes) ≤ 1 → ¬ Contains (targets g i) i → (t : ℕ) → Contains (targets g i) t → is_left (get_or marks t OffCircle) ≡ true
-    to_left short none_own t to = elim (group_to g marks nodes starts waiting b p t f there none high at.0 (subst (λ n. Contains (targets g n) t) (sym at.1) to)) [
-      | inl left ↦ left
-      | inr (q, at-q, high-q) ↦
-          let here : p ≡ q = omega (arith, length-drop b nodes, at.0, at-q.0) in
-          let same : t ≡ i = sym at-q.1 ∙ ap (λ k. get_or nodes k 0) (sym here) ∙ at.1 in
-          absurd (none_own (subst (Contains (targets g i)) same to))
-    ]
-
-    comes_back : length (drop b nodes) ≤ 1 → ¬ Contains (targets g i) i → Leads (targets g) i i → is_left (get_or marks i OffCircle) ≡ true
-    comes_back short none_own (step i' i'' to) = to_left short none_own i to
-    comes_back short none_own (on i' t i'' to rest) = leads_left g marks nodes t i f.of_marks (to_left short none_own t to) rest
-
-    off_circle : (nat_lt 1 (length (drop b nodes)) ≡ false) × (list_any (λ t. nat_eq t (get_or (drop b nodes) 0 0)) (targets g (get_or (drop b nodes) 0 0)) ≡ false)
-        → Leads (targets g) i i → ⊥
-    off_circle alone way =
-        let short : length (drop b nodes) ≤ 1 = ltb-false 1 (length (drop b nodes)) alone.0 in
-        let none_own : ¬ Contains (targets g i) i = subst (λ n. ¬ Contains (targets g n) n) (the_one short) (none_at (targets g (get_or (drop b nodes) 0 0)) (get_or (drop b nodes) 0 0) alone.1) in
-        left_not_open (get_or marks i OffCircle) p (comes_back short none_own way) (f.of_marks.marked i p at)
-
--- what a leaving does to a node: it is of the group and has its mark, or neither
-abbrev Left : List Mark → List Mark → List ℕ → ℕ → Mark → ℕ → Type 0
-Left marks after nodes b m i =
-    ((p : ℕ) × IsAt nodes p i × (b ≤ p) × (get_or after i OffCircle ≡ m)) ⊎ ((¬ Contains (drop b nodes) i) × (get_or after i OffCircle ≡ get_or marks i OffCircle))
-
-is_open : (m : Mark) → ((p : ℕ) × (m ≡ Open p)) ⊎ ((p : ℕ) → m ≢ Open p)
-is_open New = inr (λ p e. let bad : ⊥ = cc in bad)
-is_open (Open p) = inl (p, refl)
-is_open OffCircle = inr (λ p e. let bad : ⊥ = cc in bad)
-is_open OnCircle = inr (λ p e. let bad : ⊥ = cc in bad)
-
-was_left : (g : List (List ℕ)) (marks after : List Mark) (nodes : List ℕ) (b : ℕ) (m : Mark) (i : ℕ) → MarksHold g marks nodes
-    → IsMarked (drop b nodes) m marks after → Left marks after nodes b m i
-was_left g marks after nodes b m i f w = elim (is_open (get_or marks i OffCircle)) [
-  | inl (p, is) ↦ elim (cases_lt p b) [
-    | inl before ↦ not_there (λ q at high.
-        let e : Open p ≡ Open q = sym is ∙ f.marked i q at in
-        let same : p ≡ q = cc in omega arith)
-    | inr behind ↦ let at = f.opened i p is in inl (p, at, behind, w.these i (in_rest nodes b p i at behind))
+module _ (g : List (List ℕ)) (marks : List Mark) (nodes starts : List ℕ) (waiting : List Edge) (b : ℕ) (f : Fine g marks nodes starts waiting)
+    (some : 0 < length starts) (last : get_or starts (length starts - 1) 0 ≡ b) (none : All (λ e. e.place < b) waiting) where
+  -- the targets of the last group were left, or stand in it
+  group_to : (p t : ℕ) → b ≤ p → p < length nodes → Contains (targets g (get_or nodes p 0)) t
+      → (is_left (get_or marks t OffCircle) ≡ true) ⊎ ((q : ℕ) × IsAt nodes q t × (b ≤ q))
+  group_to p t high low to = elim (f.seen p t low to) [
+    | inl left ↦ inl left
+    | inr (inl waits) ↦ let early = All-contains (λ e. e.place < b) waiting (record { place = p; target = t }) none waits in let bad : ⊥ = omega arith in absurd bad
+    | inr (inr (q, at, behind)) ↦ let own = behind (length starts - 1) in inr (q, at, omega (arith, own))
   ]
-  | inr none ↦ not_there (λ q at high. none q (f.marked i q at))
-]
-  where
-    not_there : ((q : ℕ) → IsAt nodes q i → b ≤ q → ⊥) → Left marks after nodes b m i
-    not_there no-place =
-        let out : ¬ Contains (drop b nodes) i = λ in'. let at = from_rest nodes b i in' in no-place at.0 at.1 at.2 in
-        inr (out, w.others i out)
 
-left_marks : (g : List (List ℕ)) (marks after : List Mark) (nodes starts : List ℕ) (waiting : List Edge) (b : ℕ) (m : Mark) → Fine g marks nodes starts waiting
-    → Contains starts b → ((e : Edge) → Contains waiting e → e.place < b) → ((p i : ℕ) → b ≤ p → IsAt nodes p i → IsTold g m i)
-    → IsMarked (drop b nodes) m marks after → is_left m ≡ true → MarksHold g after (take b nodes)
-left_marks g marks after nodes starts waiting b m f last none told-all w left-m = record {
-  long = w.long ∙ f.of_marks.long;
-  on = λ i at. on_now i (each i) at;
-  off = λ i at. off_now i (each i) at;
-  closed = λ i t left to. closed_now i t left to (each i);
-  opened = λ i p at. opened_now i p (each i) at;
-  marked = λ i p at. let parts = at_take nodes b p i at in marked_now i p parts.0 parts.1 (each i);
-}
-  where
-    each : (i : ℕ) → Left marks after nodes b m i
-    each i = was_left g marks after nodes b m i f.of_marks w
+  -- nodes of a group of two or more lead back to themselves
+  in_group : (i j : ℕ) → b ≤ i → i < j → j < length nodes → Leads (targets g) (get_or nodes j 0) (get_or nodes i 0)
+  in_group i j high low within = f.of_groups.back i j low within (λ k k-low le. omega (arith, last_start g nodes starts k f.of_groups k-low))
 
-    on_now : (i : ℕ) → Left marks after nodes b m i → get_or after i OffCircle ≡ OnCircle → Leads (targets g) i i
-    on_now i (inl (p, at, high, is)) now = (told-all p i high at).on (sym is ∙ now)
-    on_now i (inr (out, is)) now = f.of_marks.on i (sym is ∙ now)
+  many_lead : (p : ℕ) → b ≤ p → p < length nodes → b + 1 < length nodes → Leads (targets g) (get_or nodes p 0) (get_or nodes p 0)
+  many_lead p high low more =
+      let back = in_group b p (omega arith) in
+      let on_way = f.of_groups.on b p in
+      let next_back = in_group p (p + 1) high in
+      let next_on = f.of_groups.on p (p + 1) in
+      grind (arith, leads_through)
 
-    off_now : (i : ℕ) → Left marks after nodes b m i → get_or after i OffCircle ≡ OffCircle → ¬ Leads (targets g) i i
-    off_now i (inl (p, at, high, is)) now = (told-all p i high at).off (sym is ∙ now)
-    off_now i (inr (out, is)) now = f.of_marks.off i (sym is ∙ now)
+  alone : length (drop b nodes) ≤ 1 → (p : ℕ) → b ≤ p → p < length nodes → get_or (drop b nodes) 0 0 ≡ get_or nodes p 0
+  alone short p high low = grind (arith, places)
 
-    still : (t : ℕ) → Left marks after nodes b m t → is_left (get_or marks t OffCircle) ≡ true → is_left (get_or after t OffCircle) ≡ true
-    still t (inl (p, at, high, is)) left = ap is_left is ∙ left-m
-    still t (inr (out, is)) left = ap is_left is ∙ left
-
-    closed_now : (i t : ℕ) → is_left (get_or after i OffCircle) ≡ true → Contains (targets g i) t → Left marks after nodes b m i → is_left (get_or after t OffCircle) ≡ true
-    closed_now i t left to (inl (p, at, high, is)) =
-        elim (group_to g marks nodes starts waiting b p t f last none high at.0 (subst (λ n. Contains (targets g n) t) (sym at.1) to)) [
-          | inl before ↦ still t (each t) before
-          | inr (q, there, behind) ↦ ap is_left (w.these t (in_rest nodes b q t there behind)) ∙ left-m
-        ]
-    closed_now i t left to (inr (out, is)) = still t (each t) (f.of_marks.closed i t (sym (ap is_left is) ∙ left) to)
-
-    opened_now : (i p : ℕ) → Left marks after nodes b m i → get_or after i OffCircle ≡ Open p → IsAt (take b nodes) p i
-    opened_now i p (inl (q, at, high, is)) now = absurd (left_not_open m p left-m (sym is ∙ now))
-    opened_now i p (inr (out, is)) now =
-        let at = f.of_marks.opened i p (sym is ∙ now) in
-        elim (cases_lt p b) [ inl before ↦ at_take_from nodes b p i at before | inr behind ↦ absurd (out (in_rest nodes b p i at behind)) ]
-
-    marked_now : (i p : ℕ) → IsAt nodes p i → p < b → Left marks after nodes b m i → get_or after i OffCircle ≡ Open p
-    marked_now i p at low (inl (q, there, high, is)) =
-        let e : Open p ≡ Open q = sym (f.of_marks.marked i p at) ∙ f.of_marks.marked i q there in
-        let same : p ≡ q = cc in
-        let bad : ⊥ = omega arith in absurd bad
-    marked_now i p at low (inr (out, is)) = is ∙ f.of_marks.marked i p at
-
--- what is not before by the starts left is not before by all
-not_before : (starts : List ℕ) (b i j : ℕ) → j < b → IsNotBefore starts i j → IsNotBefore (starts ++ b ∷ []) i j
-not_before starts b i j low same s in' le = elim (Contains-push_cases starts b s in') [ inl before ↦ same s before le | inr last ↦ let bad : ⊥ = omega arith in absurd bad ]
-
-left_groups : (g : List (List ℕ)) (nodes starts : List ℕ) (b : ℕ) → GroupsHold g nodes (starts ++ b ∷ []) → GroupsHold g (take b nodes) starts
-left_groups g nodes starts b f = record {
-  on = λ i j low high. rw (get_or-take b nodes i 0 (omega (arith, length-take b nodes)), get_or-take b nodes j 0 (omega (arith, length-take b nodes)))
-      (f.on i j low (omega (arith, length-take b nodes)));
-  back = λ i j low high same. rw (get_or-take b nodes i 0 (omega (arith, length-take b nodes)), get_or-take b nodes j 0 (omega (arith, length-take b nodes)))
-      (f.back i j low (omega (arith, length-take b nodes)) (not_before starts b i j (omega (arith, length-take b nodes)) same));
-  first = λ some. elim (Contains-push_cases starts b 0 (f.first (omega (arith, length-take b nodes)))) [
-    | inl before ↦ before
-    | inr last ↦ let bad : ⊥ = omega (arith, length-take b nodes) in absurd bad
-  ];
-  rising = pairs_front (λ x y. x < y) starts b f.rising;
-  within = λ s in'. omega (arith, length-take b nodes, pairs_last (λ x y. x < y) starts b s f.rising in', f.within b (Contains-push starts b));
-}
-
-left_edges : (g : List (List ℕ)) (nodes : List ℕ) (waiting : List Edge) (b : ℕ) → EdgesHold g nodes waiting → ((e : Edge) → Contains waiting e → e.place < b)
-    → EdgesHold g (take b nodes) waiting
-left_edges g nodes waiting b f none = record {
-  source = λ e in'.
-      let at = f.source e in' in
-      let low = none e in' in
-      (omega (arith, length-take b nodes, at.0), rw (get_or-take b nodes e.place 0 low) at.1);
-  order = f.order;
-}
-
-left_behind_fine : (g : List (List ℕ)) (marks after : List Mark) (nodes starts : List ℕ) (waiting : List Edge) (b : ℕ)
-    → Fine g marks nodes (starts ++ b ∷ []) waiting → ((e : Edge) → Contains waiting e → e.place < b)
-    → IsMarked (drop b nodes) (mark_of_group g (drop b nodes)) marks after → Fine g after (take b nodes) starts waiting
-left_behind_fine g marks after nodes starts waiting b f none w =
-    let there = Contains-push starts b in
-    let last : (s : ℕ) → Contains (starts ++ b ∷ []) s → s ≤ b = λ s in'. up_to_last starts b s f.of_groups.rising in' in
-    let all : (p i : ℕ) → b ≤ p → IsAt nodes p i → IsTold g (mark_of_group g (drop b nodes)) i = λ p i high at. told g marks nodes (starts ++ b ∷ []) waiting b p i f there last none high at in
-    let first : IsAt nodes b (get_or nodes b 0) = (f.of_groups.within b there, refl) in
-    let left-m = (all b (get_or nodes b 0) (omega arith) first).left in
-    record {
-      of_marks = left_marks g marks after nodes (starts ++ b ∷ []) waiting b (mark_of_group g (drop b nodes)) f there none all w left-m;
-      of_groups = left_groups g nodes starts b f.of_groups;
-      of_edges = left_edges g nodes waiting b f.of_edges none;
-      seen = λ p t low to. seen_now left-m p t (omega (arith, length-take b nodes)) (omega (arith, length-take b nodes)) to;
-    }
-  where
-    seen_now : is_left (mark_of_group g (drop b nodes)) ≡ true → (p t : ℕ) → p < b → p < length nodes → Contains (targets g (get_or (take b nodes) p 0)) t
-        → IsSeen after (take b nodes) starts waiting p t
-    seen_now left-m p t low within to = elim (f.seen p t within (rw (get_or-take b nodes p 0 low) at to)) [
-      | inl left ↦ elim (was_left g marks after nodes b (mark_of_group g (drop b nodes)) t f.of_marks w) [
-        | inl (q, at', high, is) ↦ inl (ap is_left is ∙ left-m)
-        | inr (out, is) ↦ inl (ap is_left is ∙ left)
-      ]
-      | inr (inl waits) ↦ inr (inl waits)
-      | inr (inr (q, at', behind)) ↦ elim (cases_lt q b) [
-        | inl before ↦ inr (inr (q, at_take_from nodes b q t at' before, λ s in' le. behind s (Contains-append_left starts (b ∷ []) s in') le))
-        | inr high ↦ inl (ap is_left (w.these t (in_rest nodes b q t at' high)) ∙ left-m)
-      ]
+  told_on : leads_back g (drop b nodes) ≡ true → (p : ℕ) → b ≤ p → p < length nodes → Leads (targets g) (get_or nodes p 0) (get_or nodes p 0)
+  told_on back p high low = elim (cases_lt 1 (length (drop b nodes))) [
+    | inl more ↦ many_lead p high low (omega (arith, length-drop b nodes))
+    | inr short ↦ elim (or_cases (nat_lt 1 (length (drop b nodes))) (list_any (λ t. nat_eq t (get_or (drop b nodes) 0 0)) (targets g (get_or (drop b nodes) 0 0))) back) [
+      | inl many ↦ let more = ltb-true 1 (length (drop b nodes)) many in let bad : ⊥ = omega arith in absurd bad
+      | inr own ↦
+          let on_itself = any_at (targets g (get_or (drop b nodes) 0 0)) (get_or (drop b nodes) 0 0) own in
+          step (get_or nodes p 0) (get_or nodes p 0) (rw (alone short p high low) at on_itself)
     ]
+  ]
 
--- a group is left once no edge of it waits
-pub leave_fine : (g : List (List ℕ)) (marks after : List Mark) (nodes starts : List ℕ) (waiting : List Edge) (b : ℕ) → Fine g marks nodes starts waiting
-    → slice_get starts (length starts - 1) ≡ Some b → All (λ e. e.place < b) waiting
-    → IsMarked (drop b nodes) (mark_of_group g (drop b nodes)) marks after → Fine g after (take b nodes) (take (length starts - 1) starts) waiting
-leave_fine g marks after nodes starts waiting b f last none w =
-    left_behind_fine g marks after nodes (take (length starts - 1) starts) waiting b (subst (λ s. Fine g marks nodes s waiting) (last_off starts b last) f)
-    (λ e in'. All-contains (λ e. e.place < b) waiting e none in') w
+  told_off : leads_back g (drop b nodes) ≡ false → (p : ℕ) → b ≤ p → p < length nodes → ¬ Leads (targets g) (get_or nodes p 0) (get_or nodes p 0)
+  told_off not_back p high low way =
+      let parts = or_parts (nat_lt 1 (length (drop b nodes))) (list_any (λ t. nat_eq t (get_or (drop b nodes) 0 0)) (targets g (get_or (drop b nodes) 0 0))) not_back in
+      let short : length (drop b nodes) ≤ 1 = ltb-false 1 (length (drop b nodes)) parts.0 in
+      let none_own : ¬ Contains (targets g (get_or nodes p 0)) (get_or nodes p 0) =
+      rw (alone short p high low) at (none_at (targets g (get_or (drop b nodes) 0 0)) (get_or (drop b nodes) 0 0) parts.1) in
+      let here = f.of_marks.marked (get_or nodes p 0) p (low, refl) in
+      let left = comes_back short none_own way in
+      grind arith
+    where
+      to_left : length (drop b nodes) ≤ 1 → ¬ Contains (targets g (get_or nodes p 0)) (get_or nodes p 0) → (t : ℕ) → Contains (targets g (get_or nodes p 0)) t
+          → is_left (get_or marks t OffCircle) ≡ true
+      to_left short none_own t to = elim (group_to p t high low to) [
+        | inl left ↦ left
+        | inr (q, at, behind) ↦
+            let same : q ≡ p = omega (arith, length-drop b nodes, at.0) in
+            absurd (none_own (rw (sym at.1 ∙ ap (λ k. get_or nodes k 0) same) at to))
+      ]
 
--- what is open has a mark
-pub open_low : (g : List (List ℕ)) (marks : List Mark) (nodes : List ℕ) → MarksHold g marks nodes → All (λ n. n < length marks) nodes
-open_low g marks nodes f k d low = elim (cases_lt (get_or nodes k d) (length marks)) [
-  | inl within ↦ within
-  | inr past ↦
-      let e : OffCircle ≡ Open k = sym (get_or_past marks (get_or nodes k d) OffCircle past) ∙ f.marked (get_or nodes k d) k (low, get_or_default nodes k 0 d low) in
-      let bad : ⊥ = cc in absurd bad
-]
+      comes_back : length (drop b nodes) ≤ 1 → ¬ Contains (targets g (get_or nodes p 0)) (get_or nodes p 0) → Leads (targets g) (get_or nodes p 0) (get_or nodes p 0)
+          → is_left (get_or marks (get_or nodes p 0) OffCircle) ≡ true
+      comes_back short none_own (step a c to) = to_left short none_own (get_or nodes p 0) to
+      comes_back short none_own (on a t c to rest) = leads_left g marks nodes t (get_or nodes p 0) f.of_marks (to_left short none_own t to) rest
 
-left_not_new : (g : List (List ℕ)) (group : List ℕ) → mark_of_group g group ≡ New → ⊥
-left_not_new g group = cond_both (leads_back g group) OnCircle OffCircle (λ m. m ≡ New → ⊥) (λ e new. let bad : ⊥ = cc in bad) (λ e new. let bad : ⊥ = cc in bad)
+  module _ (after : List Mark) (w : IsMarked (drop b nodes) (mark_of_group g (drop b nodes)) marks after) where
+    -- a node is of the group and has its mark, or neither
+    abbrev WasLeft : ℕ → Type 0
+    WasLeft i = ((p : ℕ) × IsAt nodes p i × (b ≤ p) × (get_or after i OffCircle ≡ mark_of_group g (drop b nodes)))
+        ⊎ (((p : ℕ) → IsAt nodes p i → p < b) × (get_or after i OffCircle ≡ get_or marks i OffCircle))
 
-pub leave_kept : (g : List (List ℕ)) (marks after : List Mark) (nodes : List ℕ) (b : ℕ) → MarksHold g marks nodes
-    → IsMarked (drop b nodes) (mark_of_group g (drop b nodes)) marks after → Kept marks after
-leave_kept g marks after nodes b f w i new = elim (was_left g marks after nodes b (mark_of_group g (drop b nodes)) i f w) [
-  | inl (p, at, high, is) ↦ absurd (left_not_new g (drop b nodes) (sym is ∙ new))
-  | inr (out, is) ↦ sym is ∙ new
-]
+    was_left : (i : ℕ) → WasLeft i
+    was_left i = by_mark (get_or marks i OffCircle) refl
+      where
+        other : ((p : ℕ) → IsAt nodes p i → p < b) → WasLeft i
+        other out = inr (out, w.others i (λ k low is. let early = out (b + k) in grind (arith, places)))
+
+        by_mark : (m : Mark) → get_or marks i OffCircle ≡ m → WasLeft i
+        by_mark (Open p) is = elim (cases_lt p b) [
+          | inl before ↦ other (λ q at. let same = f.of_marks.marked i q at in grind arith)
+          | inr behind ↦
+              let at = f.of_marks.opened i p is in
+              let has = w.these (p - b) in
+              inl (p, at, behind, grind (arith, places))
+        ]
+        by_mark New is = other (λ q at. let same = f.of_marks.marked i q at in grind arith)
+        by_mark OffCircle is = other (λ q at. let same = f.of_marks.marked i q at in grind arith)
+        by_mark OnCircle is = other (λ q at. let same = f.of_marks.marked i q at in grind arith)
+
+    -- what was left stays so, and what stood in the group is left
+    test : (is_left (mark_of_group g (drop b nodes)) ≡ true) × (mark_of_group g (drop b nodes) ≡ OnCircle → leads_back g (drop b nodes) ≡ true)
+        × (mark_of_group g (drop b nodes) ≡ OffCircle → leads_back g (drop b nodes) ≡ false)
+    test = by_test (leads_back g (drop b nodes))
+
+    still : (t : ℕ) → is_left (get_or marks t OffCircle) ≡ true → is_left (get_or after t OffCircle) ≡ true
+    still t left = elim (was_left t) [ inl (p, is, high, has) ↦ ap is_left has ∙ test.0 | inr (out, has) ↦ ap is_left has ∙ left ]
+
+    still_in : (q t : ℕ) → IsAt nodes q t → b ≤ q → is_left (get_or after t OffCircle) ≡ true
+    still_in q t at high = elim (was_left t) [ inl (p, is, behind, has) ↦ ap is_left has ∙ test.0 | inr (out, has) ↦ let early = out q at in let bad : ⊥ = omega arith in absurd bad ]
+
+    left_marks : MarksHold g after (take b nodes)
+    left_marks = record {
+      long = w.long ∙ f.of_marks.long;
+      on = λ i at. elim (was_left i) [
+        | inl (p, is, high, has) ↦ rw is.1 at (told_on (test.1 (sym has ∙ at)) p high is.0)
+        | inr (out, has) ↦ f.of_marks.on i (sym has ∙ at)
+      ];
+      off = λ i at. elim (was_left i) [
+        | inl (p, is, high, has) ↦ rw is.1 at (told_off (test.2 (sym has ∙ at)) p high is.0)
+        | inr (out, has) ↦ f.of_marks.off i (sym has ∙ at)
+      ];
+      closed = λ i t left to. elim (was_left i) [
+        | inl (p, is, high, has) ↦ elim (group_to p t high is.0 (rw (sym is.1) at to)) [
+          | inl before ↦ still t before
+          | inr (q, there, behind) ↦ still_in q t there behind
+        ]
+        | inr (out, has) ↦ still t (f.of_marks.closed i t (sym (ap is_left has) ∙ left) to)
+      ];
+      opened = λ i p at. let old = f.of_marks.opened i p in let has = was_left i in let left = test.0 in grind (arith, places);
+      marked = λ i p at. let old = f.of_marks.marked i p in let has = was_left i in grind (arith, places, f.of_marks.marked i);
+    }
+
+    left_groups : GroupsHold g (take b nodes) (take (length starts - 1) starts)
+    left_groups = record {
+      on = λ i j low high. grind (arith, places, f.of_groups.on);
+      back = λ i j low high same. let old = f.of_groups.back i j low in let within = same_start i j same in grind (arith, places);
+      first = λ at-all. let old = f.of_groups.first in grind (arith, places);
+      rising = λ i j d low high. let old = f.of_groups.rising i j d in grind (arith, places);
+      within = λ k low. let old = f.of_groups.rising k (length starts - 1) 0 in grind (arith, places);
+    }
+      where
+        same_start : (i j : ℕ) → IsNotBefore (take (length starts - 1) starts) i j → j < b → IsNotBefore starts i j
+        same_start i j same low k k-low le = let old = same k in grind (arith, places)
+
+    pub leave_fine : Fine g after (take b nodes) (take (length starts - 1) starts) waiting
+    leave_fine = record {
+      of_marks = left_marks;
+      of_groups = left_groups;
+      of_edges = record {
+        within = λ k d low. let early = none k d low in let old = f.of_edges.within k d low in grind (arith, places);
+        source = λ k d low. rw (get_or-take b nodes (get_or waiting k d).place 0 (none k d low)) (f.of_edges.source k d low);
+        order = f.of_edges.order;
+      };
+      seen = λ p t low to. seen_now p t (omega (arith, length-take b nodes)) (omega (arith, length-take b nodes)) to;
+    }
+      where
+        seen_now : (p t : ℕ) → p < b → p < length nodes → Contains (targets g (get_or (take b nodes) p 0)) t → IsSeen after (take b nodes) (take (length starts - 1) starts) waiting p t
+        seen_now p t low within to = elim (f.seen p t within (rw (get_or-take b nodes p 0 low) at to)) [
+          | inl left ↦ inl (still t left)
+          | inr (inl waits) ↦ inr (inl waits)
+          | inr (inr (q, at, behind)) ↦ elim (cases_lt q b) [
+            | inl before ↦ inr (inr (q, grind (arith, places), λ k k-low le. let old = behind k in grind (arith, places)))
+            | inr high ↦ inl (still_in q t at high)
+          ]
+        ]
+
+    leave_kept : Kept marks after
+    leave_kept i new = elim (was_left i) [ inl (p, is, high, has) ↦ let left = test.0 in grind arith | inr (out, has) ↦ sym has ∙ new ]
+
+    pub leave_less : length waiting + length (take b nodes) + new_work g after < length waiting + length nodes + new_work g marks
+    leave_less =
+        let within = f.of_groups.within (length starts - 1) (omega arith) in
+        omega (arith, length-take b nodes, within, last, kept_work g marks after w.long leave_kept)

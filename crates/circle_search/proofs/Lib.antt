@@ -1,8 +1,7 @@
 pub mod Rows
-pub mod Places
-pub mod Marking
+pub mod Parts
 pub mod Entering
 pub mod Looking
 pub mod Leaving
-pub mod Work
 pub mod Ends
+pub mod Work

@@ -34,10 +34,6 @@ entered_work (row ∷ g) [] n place long is = let bad : ⊥ = omega arith in abs
 entered_work (row ∷ g) (m ∷ marks) zero place long is = rw is (omega arith)
 entered_work (row ∷ g) (m ∷ marks) (suc n) place long is = let rest = entered_work g marks n place (omega arith) is in omega arith
 
-pub leave_less : (g : List (List ℕ)) (marks after : List Mark) (nodes : List ℕ) (w : List Edge) (b : ℕ) → length after ≡ length marks → Kept marks after
-    → b < length nodes → length w + length (take b nodes) + new_work g after < length w + length nodes + new_work g marks
-leave_less g marks after nodes w b long kept low = omega (arith, length-take b nodes, kept_work g marks after long kept)
-
 pub enter_less : (g : List (List ℕ)) (marks : List Mark) (nodes : List ℕ) (w : List Edge) (e : Edge) (n : ℕ) → length marks ≡ length g → get_or marks n OffCircle ≡ New
     → length (w ++ edges (length nodes) (targets g n)) + length (nodes ++ n ∷ []) + new_work g (set marks n (Open (length nodes))) < length (w ++ e ∷ []) + length nodes + new_work g marks
 enter_less g marks nodes w e n long new =

@@ -1,5 +1,5 @@
 -- How far a search has come: what marks and trail say of the graph, and what is left to do.
-use Rattle.std.specs.Prelude.{◌≡◌, ◌≢◌, ℕ, zero, suc, ◌+◌, ◌-◌, ◌<◌, ◌≤◌, ◌⊎◌, Bool, true, false, ◌||◌, cond, nat_eq, nat_lt, List, [], ◌∷◌, length, map, get_or, All, Contains}
+use Rattle.std.specs.Prelude.{◌≡◌, ◌≢◌, ℕ, zero, suc, ◌+◌, ◌-◌, ◌<◌, ◌≤◌, ◌⊎◌, Bool, true, false, ◌||◌, cond, nat_eq, nat_lt, List, [], ◌∷◌, length, map, get_or, take, All, Contains}
 use Rattle.std.specs.List.{AllPairs, list_any}
 use Rattle.uno_model.specs.Circles.{Leads}
 use Rattle.circle_search.specs.declared.mark.Mark.{Mark}
@@ -35,16 +35,15 @@ pub record MarksHold (g : List (List ℕ)) (marks : List Mark) (nodes : List ℕ
 
 -- the one place is in the group of the other, or in one behind it
 abbrev pub IsNotBefore : List ℕ → ℕ → ℕ → Type 0
-IsNotBefore starts place other = (s : ℕ) → Contains starts s → s ≤ other → s ≤ place
+IsNotBefore starts place other = (k : ℕ) → k < length starts → get_or starts k 0 ≤ other → get_or starts k 0 ≤ place
 
--- each open node leads to those behind it, and to those before it in its group
+-- each open node leads to those behind it, and to those before it in its group; the groups begin at the starts, the first at 0
 pub record GroupsHold (g : List (List ℕ)) (nodes : List ℕ) (starts : List ℕ) : Type 0 where
   pub on : (i j : ℕ) → i < j → j < length nodes → Leads (targets g) (get_or nodes i 0) (get_or nodes j 0)
   pub back : (i j : ℕ) → i < j → j < length nodes → IsNotBefore starts i j → Leads (targets g) (get_or nodes j 0) (get_or nodes i 0)
-  -- each group has a node
-  pub first : 0 < length nodes → Contains starts 0
+  pub first : 0 < length nodes → IsAt starts 0 0
   pub rising : AllPairs (λ a b. a < b) starts
-  pub within : (s : ℕ) → Contains starts s → s < length nodes
+  pub within : (k : ℕ) → k < length starts → get_or starts k 0 < length nodes
 
 -- the target of the node at the place was left, waits, or stands in a group that is not before
 abbrev pub IsSeen : List Mark → List ℕ → List ℕ → List Edge → ℕ → ℕ → Type 0
@@ -54,7 +53,8 @@ IsSeen marks nodes starts waiting place target =
 
 -- the edges that wait are of open nodes, in their order
 pub record EdgesHold (g : List (List ℕ)) (nodes : List ℕ) (waiting : List Edge) : Type 0 where
-  pub source : (e : Edge) → Contains waiting e → (e.place < length nodes) × Contains (targets g (get_or nodes e.place 0)) e.target
+  pub within : All (λ e. e.place < length nodes) waiting
+  pub source : All (λ e. Contains (targets g (get_or nodes e.place 0)) e.target) waiting
   pub order : AllPairs (λ a b. a.place ≤ b.place) waiting
 
 -- what marks and trail say is so, and no target of an open node is forgotten
@@ -67,11 +67,11 @@ pub record Fine (g : List (List ℕ)) (marks : List Mark) (nodes : List ℕ) (st
 abbrev pub IsFine : List (List ℕ) → List Mark → Trail → Type 0
 IsFine g marks trail = Fine g marks trail.nodes.items trail.starts.items trail.waiting.items
 
--- of the starts those up to a place are kept
-pub record IsCut (place : ℕ) (before after : List ℕ) : Type 0 where
-  pub rising : AllPairs (λ a b. a < b) after
-  pub among : (s : ℕ) → Contains after s → Contains before s × (s ≤ place)
-  pub kept : (s : ℕ) → Contains before s → s ≤ place → Contains after s
+-- the starts up to a place are so many
+pub record IsCut (place : ℕ) (starts : List ℕ) (count : ℕ) : Type 0 where
+  pub within : count ≤ length starts
+  pub kept : (k : ℕ) → k < count → get_or starts k 0 ≤ place
+  pub others : (k : ℕ) → count ≤ k → k < length starts → place < get_or starts k 0
 
 -- the nodes of a group, which lead to each other, lead back to themselves
 abbrev pub leads_back : List (List ℕ) → List ℕ → Bool
@@ -83,8 +83,8 @@ mark_of_group g group = cond (leads_back g group) OnCircle OffCircle
 -- these nodes have the mark, and all others theirs
 pub record IsMarked (nodes : List ℕ) (mark : Mark) (before after : List Mark) : Type 0 where
   pub long : length after ≡ length before
-  pub these : (i : ℕ) → Contains nodes i → get_or after i OffCircle ≡ mark
-  pub others : (i : ℕ) → ¬ Contains nodes i → get_or after i OffCircle ≡ get_or before i OffCircle
+  pub these : (k : ℕ) → k < length nodes → get_or after (get_or nodes k 0) OffCircle ≡ mark
+  pub others : (i : ℕ) → ((k : ℕ) → k < length nodes → get_or nodes k 0 ≢ i) → get_or after i OffCircle ≡ get_or before i OffCircle
 
 -- what is new afterwards was new before
 abbrev pub Kept : List Mark → List Mark → Type 0

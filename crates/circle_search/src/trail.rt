@@ -1,5 +1,5 @@
 //! The trail: the nodes that were reached and not left, in groups, and the targets that wait to be looked at.
-ghost use Rattle.std.specs.Prelude.{◌≡◌, ◌+◌, ◌<◌, ◌≤◌, [], ◌∷◌, ◌++◌, length, slice_set, MatchOption, OnOk};
+ghost use Rattle.std.specs.Prelude.{◌≡◌, ◌+◌, ◌<◌, ◌≤◌, [], ◌∷◌, ◌++◌, length, take, slice_set, MatchOption, OnOk};
 ghost use Rattle.std.specs.List.{All, AllPairs};
 ghost use Rattle.circle_search.specs.Graph.{targets};
 ghost use Rattle.circle_search.specs.Search.{edges, IsCut};
@@ -73,7 +73,8 @@ pub(crate) fn next_edge(waiting: &mut Vec<Edge>, start: usize) -> Option<Edge>
 /// Joins the groups behind this place with the one in which it stands.
 pub(crate) fn join_groups(starts: &mut Vec<usize>, place: usize)
     requires { AllPairs (λ a b. a < b) starts.old.items }
-    ensures { IsCut place starts.old.items starts.new.items }
+    ensures cut { IsCut place starts.old.items (length starts.new.items) }
+    ensures front { starts.new.items ≡ take (length starts.new.items) starts.old.items }
 {
     while let Some(start) = starts.last() {
         if *start <= place {

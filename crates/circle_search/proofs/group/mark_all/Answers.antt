@@ -1,4 +1,4 @@
-use Rattle.circle_search.proofs.Marking.{marked_more}
+use Rattle.circle_search.proofs.Parts.{marked_more}
 use Rattle.circle_search.proofs.group.mark_all.Goals as goal
 
 pub loop-node-preserved : goal.loop-node-preserved

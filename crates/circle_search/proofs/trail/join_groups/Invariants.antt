@@ -1,13 +1,12 @@
-use Rattle.std.proofs.Common.{ℕ, ◌<◌, ◌≤◌, length, Contains}
-use Rattle.std.specs.List.{AllPairs}
+use Rattle.std.proofs.Common.{◌≡◌, ℕ, ◌<◌, ◌≤◌, length, get_or, take}
 use Rattle.circle_search.proofs.trail.join_groups.Given as goal
 
 -- no start up to the place was taken off
 abbrev pub invariant-loop-start : goal.invariant-loop-start
 invariant-loop-start l = record {
-  rising : AllPairs (λ a b. a < b) l.starts.items;
-  among : (s : ℕ) → Contains l.starts.items s → Contains l.fn.starts.items s;
-  kept : (s : ℕ) → Contains l.fn.starts.items s → s ≤ l.place → Contains l.starts.items s;
+  within : length l.starts.items ≤ length l.fn.starts.items;
+  front : l.starts.items ≡ take (length l.starts.items) l.fn.starts.items;
+  others : (k : ℕ) → length l.starts.items ≤ k → k < length l.fn.starts.items → l.place < get_or l.fn.starts.items k 0;
 }
 
 abbrev pub decreases-loop-start : goal.decreases-loop-start

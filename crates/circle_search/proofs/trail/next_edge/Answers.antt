@@ -1,5 +1,5 @@
 use Rattle.std.proofs.Common.{sym}
-use Rattle.circle_search.proofs.Places.{all_before}
+use Rattle.circle_search.proofs.Parts.{all_before}
 use Rattle.circle_search.proofs.trail.next_edge.Goals as goal
 
 pub returns-then-edge-start-clause-none : goal.returns-then-edge-start-clause-none
