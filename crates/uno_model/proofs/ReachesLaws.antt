@@ -43,7 +43,7 @@ passes p (y ∷ ys) x has is =
     elim (contains_cases y ys x has) [ inl here ↦ rw (ap p here ∙ is) refl | inr behind ↦ second_passed (p y) (list_any p ys) (passes p ys x behind is) ]
 
 -- a base of what a name stands on is a base of the name
-base_of_base : (reg : List Entity) (to from next : List ℕ) → Contains (stands_on reg from) next → IsBaseOf reg to next → IsBaseOf reg to from
+pub base_of_base : (reg : List Entity) (to from next : List ℕ) → Contains (stands_on reg from) next → IsBaseOf reg to next → IsBaseOf reg to from
 base_of_base reg to from next has (inl same) = inr (step from to (subst (Contains (stands_on reg from)) same has))
 base_of_base reg to from next has (inr way) = inr (on from next to has way)
 
