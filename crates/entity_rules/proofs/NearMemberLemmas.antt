@@ -8,7 +8,7 @@ use Rattle.uno_model.specs.Entities.{Entity, Body, interface, struct, exception,
 use Rattle.uno_model.specs.Registry.{IsRising, find_entity, leads_to, leads_to_body, own_members, member_bases, members_within}
 use Rattle.uno_model.specs.Sound.{is_there, is_some_list, has_member}
 use Rattle.uno_model.proofs.CircleLaws.{all_at, all_from, none_ends_at_once, next_ends}
-use Rattle.uno_model.proofs.FindLaws.{found_at}
+use Rattle.uno_model.proofs.BuiltInLaws.{contained_found}
 use Rattle.uno_model.proofs.MemberLaws.{base_leads, all_ways_end}
 use Rattle.uno_model.proofs.PlaceLaws.{at_slice, contains_head, contains_behind}
 use Rattle.uno_model.proofs.ReachLaws.{found_place}
@@ -87,9 +87,6 @@ there_entity reg wanted name (Some e) is there = (e, is, sym (there_is reg wante
 
 found_contained : (reg : List Entity) (name : List ℕ) (e : Entity) → find_entity name reg ≡ Some e → Contains reg e
 found_contained reg name e is = let place = found_place name reg e is in let at = at_slice reg place.0 e e place.1 in (place.0, at.0, at.1)
-
-contained_found : (reg : List Entity) (e : Entity) → IsRising reg → Contains reg e → find_entity e.name reg ≡ Some e
-contained_found reg e rising (k, within, is) = found_at e.name reg k e rising within (ap (λ (x : Entity). x.name) is) ∙ ap (λ x. Some x) is
 
 -- ---- members
 

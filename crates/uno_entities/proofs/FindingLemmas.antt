@@ -10,6 +10,8 @@ use Rattle.std.proofs.lemmas.Cmp.{nat_list_cmp_total}
 use Rattle.std.proofs.lemmas.List.{get_or-map, length-map, get_or_default, map-append, take-map, drop-map, take-append-drop}
 use Rattle.std.proofs.lemmas.List.Sorted.{searchable_from_sorted}
 use Rattle.std.proofs.lemmas.Option.{slice_get-get_or}
+use Rattle.uno_model.specs.BuiltIn.{HasBuiltIn}
+use Rattle.uno_model.proofs.BuiltInLaws.{built_in_beside}
 use Rattle.uno_model.specs.Entities as plain
 use Rattle.uno_model.specs.Registry.{IsRising, find_entity, Adds}
 use Rattle.uno_model.proofs.FindLaws.{name_cmp, equal_names, found_at, absent_at, rising_at, rising_with}
@@ -106,6 +108,16 @@ pub rising_insert : (es shown : List Entity) (e : Entity) (i : ℕ) (name : List
 rising_insert es shown e i name same is rising gap =
     let here : IsGapOf e.name (entities_of es) i = subst (λ n. IsGapOf n (entities_of es) i) is (subst (λ s. IsGapOf name (entities_of s) i) same gap) in
     subst IsRising (sym (entities_of-insert es i e)) (rising_with (entities_of es) i (entity_of e) rising here.within here.before here.after)
+
+-- and what is built in where it is
+pub built_in_insert : (es shown : List Entity) (e : Entity) (i : ℕ) (name : List ℕ) → shown ≡ es → name ≡ e.name → IsGapOf name (entities_of shown) i
+    → HasBuiltIn (entities_of es)
+    → HasBuiltIn (entities_of (insert es i e))
+built_in_insert es shown e i name same is gap has =
+    let here : IsGapOf e.name (entities_of es) i = subst (λ n. IsGapOf n (entities_of es) i) is (subst (λ s. IsGapOf name (entities_of s) i) same gap) in
+    let whole = sym (take-append-drop i (entities_of es)) in
+    subst HasBuiltIn (sym (entities_of-insert es i e))
+    (built_in_beside (take i (entities_of es)) (drop i (entities_of es)) (entity_of e) (subst (λ r. find_entity e.name r ≡ None) whole here.absent) (subst HasBuiltIn whole has))
 
 pub adds_insert : (es : List Entity) (e : Entity) (i : ℕ) → Adds (entities_of es) (entities_of (insert es i e)) (entity_of e)
 adds_insert es e i =

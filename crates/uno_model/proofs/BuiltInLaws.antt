@@ -1,80 +1,44 @@
--- The built-in entities rise by their names, and nothing leads back to itself among them.
-use Rattle.std.proofs.Common.{◌≡◌, ℕ, ◌≤◌, zero, suc, Bool, true, false, List, [], ◌∷◌, length, Option, None, Some, refl, subst, arith, if◌then◌else◌}
+-- The built-in entities rise, and are found in a registry that they are put into and in one that has more.
+use Rattle.std.proofs.Common.{◌≡◌, ℕ, Bool, true, false, List, [], ◌∷◌, ◌++◌, Option, None, Some, refl, sym, ap, subst, ◌∙◌}
+use Rattle.std.specs.Prelude.{Contains}
 use Rattle.std.specs.List.Sorted.{IsStrictlySortedBy}
-use Rattle.std.specs.List.{list_all}
 use Rattle.std.specs.Str.{bytes_eq}
-use Rattle.uno_model.specs.BuiltIn.{built_in, disposed_exception, factory, base_exception, runtime_exception, x_interface}
-use Rattle.uno_model.specs.Circles.{HasNoCircle, ends_within}
+use Rattle.std.proofs.lemmas.Slice.Eq.{bytes_eq-Decides}
+use Rattle.uno_model.specs.BuiltIn.{built_in, HasBuiltIn}
 use Rattle.uno_model.specs.Entities.{Entity}
-use Rattle.uno_model.specs.Functions.{functions_of, is_met, visit_all, met_within}
-use Rattle.uno_model.specs.Names.{parts_of}
-use Rattle.uno_model.specs.Registry.{IsRising, find_entity, leads_to, leads_to_body, members_within}
-use Rattle.uno_model.specs.Sound.{IsSound, HasFewFunctions, all_differ}
-use Rattle.uno_model.proofs.CircleLaws.{ends_no_circle}
+use Rattle.uno_model.specs.Registry.{IsRising, find_entity}
+use Rattle.uno_model.proofs.FindLaws.{found_at}
 
 pub built_in_rising : IsRising built_in
 unfolding IsStrictlySortedBy
 built_in_rising = ((refl, (refl, (refl, (refl, tt)))), ((refl, (refl, (refl, tt))), ((refl, (refl, tt)), ((refl, tt), (tt, tt)))))
 
--- each way from a name ends within four steps: from DisposedException over RuntimeException to Exception
-abbrev EndsFrom : Option Entity → Type 0
-EndsFrom o = list_all (ends_within (leads_to built_in) 4) (leads_to_body o) ≡ true
+-- each entity of a registry is found under its name
+pub contained_found : (reg : List Entity) (e : Entity) → IsRising reg → Contains reg e → find_entity e.name reg ≡ Some e
+contained_found reg e rising (k, within, is) = found_at e.name reg k e rising within (ap (λ (x : Entity). x.name) is) ∙ ap (λ x. Some x) is
 
-ends_from_each : (name : List ℕ) → EndsFrom (find_entity name built_in)
-unfolding find_entity ends_within
-ends_from_each name = first (bytes_eq name disposed_exception.name)
+pub built_in_alone : HasBuiltIn built_in
+built_in_alone = record { found = λ e has. contained_found built_in e built_in_rising has }
+
+-- what is found is found beside one more entity, whose name was not there
+found_beside : (front back : List Entity) (added x : Entity) (name : List ℕ) → find_entity added.name (front ++ back) ≡ None
+    → find_entity name (front ++ back) ≡ Some x → find_entity name (front ++ added ∷ back) ≡ Some x
+unfolding find_entity
+found_beside [] back added x name absent found = by_test (bytes_eq name added.name) refl
   where
-    fifth : (t : Bool) → EndsFrom (if t then Some x_interface else None)
-    fifth true = refl
-    fifth false = refl
+    by_test : (test : Bool) → bytes_eq name added.name ≡ test → find_entity name (added ∷ back) ≡ Some x
+    by_test false other = rw other found
+    by_test true same =
+        let is = (bytes_eq-Decides name added.name).0 same in
+        let bad : None ≡ Some x = sym absent ∙ ap (λ n. find_entity n back) (sym is) ∙ found in
+        absurd cc
+found_beside (f ∷ front) back added x name absent found = by_tests (found_beside front back added x name) (bytes_eq name f.name) (bytes_eq added.name f.name) refl refl
+  where
+    by_tests : (find_entity added.name (front ++ back) ≡ None → find_entity name (front ++ back) ≡ Some x → find_entity name (front ++ added ∷ back) ≡ Some x) → (here its : Bool) → bytes_eq name f.name ≡ here → bytes_eq added.name f.name ≡ its → find_entity name (f ∷ (front ++ added ∷ back)) ≡ Some x
+    by_tests more here true is_here is = let bad : Some f ≡ None = rw is at absent in absurd cc
+    by_tests more true false is_here is = rw is_here (rw is_here at found)
+    by_tests more false false is_here is = rw is_here (more (rw is at absent) (rw is_here at found))
 
-    fourth : (t : Bool) → EndsFrom (if t then Some runtime_exception else find_entity name (x_interface ∷ []))
-    fourth true = refl
-    fourth false = fifth (bytes_eq name x_interface.name)
-
-    third : (t : Bool) → EndsFrom (if t then Some base_exception else find_entity name (runtime_exception ∷ (x_interface ∷ [])))
-    third true = refl
-    third false = fourth (bytes_eq name runtime_exception.name)
-
-    second : (t : Bool) → EndsFrom (if t then Some factory else find_entity name (base_exception ∷ (runtime_exception ∷ (x_interface ∷ []))))
-    second true = refl
-    second false = third (bytes_eq name base_exception.name)
-
-    first : (t : Bool) → EndsFrom (if t then Some disposed_exception else find_entity name (factory ∷ (base_exception ∷ (runtime_exception ∷ (x_interface ∷ [])))))
-    first true = refl
-    first false = second (bytes_eq name factory.name)
-
-pub built_in_no_circle : HasNoCircle (leads_to built_in)
-unfolding ends_within
-built_in_no_circle name way = ends_no_circle (leads_to built_in) 5 name (ends_from_each name) way
-
-few : (d e : Entity) → d ≡ e → length (functions_of built_in d.name) ≤ 65536 → length (functions_of built_in e.name) ≤ 65536
-few d e same is = subst (λ x. length (functions_of built_in x.name) ≤ 65536) same is
-
--- none has more than six functions
-built_in_few : HasFewFunctions built_in
-unfolding met_within visit_all is_met find_entity
-built_in_few e (zero, low, is) = few disposed_exception e is (omega arith)
-built_in_few e (suc zero, low, is) = few factory e is (omega arith)
-built_in_few e (suc (suc zero), low, is) = few base_exception e is (omega arith)
-built_in_few e (suc (suc (suc zero)), low, is) = few runtime_exception e is (omega arith)
-built_in_few e (suc (suc (suc (suc zero))), low, is) = few x_interface e is (omega arith)
-built_in_few e (suc (suc (suc (suc (suc k)))), low, is) = absurd (omega (arith, low))
-
-pub built_in_sound : IsSound built_in
-unfolding all_differ find_entity members_within parts_of
-built_in_sound =
-    record {
-      named = refl;
-      differ = refl;
-      bases = refl;
-      raises = refl;
-      services = refl;
-      types = refl;
-      allowed = refl;
-      complete = refl;
-      members = refl;
-      limits = refl;
-      functions = built_in_few;
-      no_circle = built_in_no_circle;
-    }
+pub built_in_beside : (front back : List Entity) (added : Entity) → find_entity added.name (front ++ back) ≡ None → HasBuiltIn (front ++ back)
+    → HasBuiltIn (front ++ added ∷ back)
+built_in_beside front back added absent has = record { found = λ e in'. found_beside front back added e e.name absent (has.found e in') }

@@ -1,6 +1,7 @@
 pub mod AllLaws
 pub mod AssignableLaws
 pub mod BuiltInLaws
+pub mod BuiltInSoundLaws
 pub mod CircleLaws
 pub mod CodeLaws
 pub mod DefaultLaws

@@ -1,7 +1,8 @@
 -- The entities that are in every registry (Developer's Guide, Professional UNO: XInterface, exceptions, the service manager).
-use Rattle.std.specs.Prelude.{ℕ, true, false, List, [], ◌∷◌, None, Some, codes}
+use Rattle.std.specs.Prelude.{◌≡◌, ℕ, true, false, List, [], ◌∷◌, None, Some, Contains, codes}
 use Rattle.uno_model.specs.Kinds as kd
 use Rattle.uno_model.specs.Entities.{Entity, Field, Method, method, interface, exception}
+use Rattle.uno_model.specs.Registry.{find_entity}
 use Rattle.uno_model.specs.declared.way.Way.TheVariants.{Into}
 
 -- their names
@@ -86,3 +87,7 @@ factory =
 -- all of them, in rising order of their names
 abbrev pub built_in : List Entity
 built_in = disposed_exception ∷ (factory ∷ (base_exception ∷ (runtime_exception ∷ (x_interface ∷ []))))
+
+-- each of them is found under its name, and is itself
+pub record HasBuiltIn (reg : List Entity) : Type 0 where
+  pub found : (e : Entity) → Contains built_in e → find_entity e.name reg ≡ Some e

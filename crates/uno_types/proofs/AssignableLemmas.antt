@@ -35,10 +35,6 @@ one_level (suc levels) reg to from some =
 
 pub ruleset levels = (last_level, one_level)
 
--- what does not hold is answered by no
-pub stands_for_none : (P : Type 0) → (P → ⊥) → IsTrue false ↔ P
-stands_for_none P fails = (λ bad. let absurdity : false ≡ true = bad in cc, λ holds. absurd (fails holds))
-
 -- both tests passed
 both_passed : (a b : Bool) → (a && b) ≡ true → (a ≡ true) × (b ≡ true)
 both_passed true b e = (refl, e)

@@ -1,4 +1,5 @@
 pub mod AssignableLemmas
 pub mod LevelLemmas
 pub mod MemberLemmas
+pub mod NearLemmas
 pub mod TypeTextLemmas

@@ -1,8 +1,6 @@
 //! Whether a value of one type may stand where another is asked.
-ghost use Rattle.std.specs.Prelude.{◌≡◌, ◌↔◌, ◌<◌, ℕ, List, Some, length, map, IfOk, IsTrue, MatchOption};
+ghost use Rattle.std.specs.Prelude.{◌≡◌, ◌↔◌, ◌<◌, Some, length, map, IfOk, IsTrue};
 ghost use Rattle.std.specs.List.{list_any};
-ghost use Rattle.uno_model.specs.Entities as plain;
-ghost use Rattle.uno_model.specs.Kinds as kd;
 ghost use Rattle.uno_model.specs.Reaches.{reaches_within};
 ghost use Rattle.uno_model.specs.Registry.{IsRising, IsBaseOf, Assignable, stands_on_body, required, at_most_one};
 ghost use Rattle.uno_model.specs.Sound.{IsSound};
@@ -10,7 +8,8 @@ ghost use Rattle.uno_entities.specs.Entities.{entity_of, entities_of, base_of};
 ghost use Rattle.uno_entities.specs.Finding.{IsBaseAt};
 ghost use Rattle.uno_entities.specs.TypeNames.{kind_of};
 
-use crate::{Base, Body, Entity, Name, Registry, TypeName};
+use crate::near_bases::near_base;
+use crate::{Base, Body, Entity, Name, Registry, TypeClass, TypeName};
 use std::alloc::Global;
 use uno_base::NoMemory;
 use uno_entities::{bases_of, place_in};
@@ -34,7 +33,7 @@ impl Registry {
     }
 }
 
-/// Takes a mark for each entity from the allocator; where there is no room for them, the answer is the same, but may take long.
+/// Types of two classes never; two interfaces, structs or exceptions by their bases, and others where they are the same.
 pub(crate) fn is_assignable(
     alloc: Global,
     registry: &Registry,
@@ -44,141 +43,31 @@ pub(crate) fn is_assignable(
     requires { IsSound registry.now }
     ensures { IsTrue result ↔ Assignable registry.now (kind_of to.now) (kind_of from.now) }
 {
-    match to {
-        TypeName::Interface(base) => interface_assignable(alloc, registry, base, from),
-        TypeName::Struct(base) => struct_assignable(alloc, registry, base, from),
-        TypeName::Exception(base) => exception_assignable(alloc, registry, base, from),
-        TypeName::Void
-        | TypeName::Char
-        | TypeName::Boolean
-        | TypeName::Byte
-        | TypeName::Short
-        | TypeName::UnsignedShort
-        | TypeName::Long
-        | TypeName::UnsignedLong
-        | TypeName::Hyper
-        | TypeName::UnsignedHyper
-        | TypeName::Str
-        | TypeName::Kind
-        | TypeName::Any
-        | TypeName::Enum(_)
-        | TypeName::Sequence(_) => from.is(to),
-    }
-}
-
-/// Where an interface is asked, one that stands on it may stand.
-fn interface_assignable(alloc: Global, registry: &Registry, base: &Name, from: &TypeName) -> bool
-    requires { IsSound registry.now }
-    ensures { IsTrue result ↔ Assignable registry.now (kd.interface base.now) (kind_of from.now) }
-{
-    let Some(name) = interface_name(from) else {
+    let class = to.class();
+    if class != from.class() {
         return false;
-    };
-    is_base_of(alloc, registry, base.as_str(), name.as_str())
-}
-
-/// The name of an interface; any other type stands for none.
-fn interface_name(from: &TypeName) -> Option<&Name>
-    ensures { MatchOption result ((reg : List plain.Entity) (base : List ℕ) → Assignable reg (kd.interface base) (kind_of from.now) → ⊥) (λ name. kind_of from.now ≡ kd.interface name.now) }
-{
-    match from {
-        TypeName::Interface(name) => Some(name),
-        TypeName::Void
-        | TypeName::Char
-        | TypeName::Boolean
-        | TypeName::Byte
-        | TypeName::Short
-        | TypeName::UnsignedShort
-        | TypeName::Long
-        | TypeName::UnsignedLong
-        | TypeName::Hyper
-        | TypeName::UnsignedHyper
-        | TypeName::Str
-        | TypeName::Kind
-        | TypeName::Any
-        | TypeName::Enum(_)
-        | TypeName::Struct(_)
-        | TypeName::Exception(_)
-        | TypeName::Sequence(_) => None,
+    }
+    match class {
+        TypeClass::Interface | TypeClass::Struct | TypeClass::Exception => {
+            is_base_of(alloc, registry, to.front(), from.front())
+        }
+        _ => from.is(to),
     }
 }
 
-/// Where a struct is asked, one that stands on it may stand.
-fn struct_assignable(alloc: Global, registry: &Registry, base: &Name, from: &TypeName) -> bool
-    requires { IsSound registry.now }
-    ensures { IsTrue result ↔ Assignable registry.now (kd.struct base.now) (kind_of from.now) }
-{
-    let Some(name) = struct_name(from) else {
-        return false;
-    };
-    is_base_of(alloc, registry, base.as_str(), name.as_str())
-}
-
-/// The name of a struct; any other type stands for none.
-fn struct_name(from: &TypeName) -> Option<&Name>
-    ensures { MatchOption result ((reg : List plain.Entity) (base : List ℕ) → Assignable reg (kd.struct base) (kind_of from.now) → ⊥) (λ name. kind_of from.now ≡ kd.struct name.now) }
-{
-    match from {
-        TypeName::Struct(name) => Some(name),
-        TypeName::Void
-        | TypeName::Char
-        | TypeName::Boolean
-        | TypeName::Byte
-        | TypeName::Short
-        | TypeName::UnsignedShort
-        | TypeName::Long
-        | TypeName::UnsignedLong
-        | TypeName::Hyper
-        | TypeName::UnsignedHyper
-        | TypeName::Str
-        | TypeName::Kind
-        | TypeName::Any
-        | TypeName::Enum(_)
-        | TypeName::Exception(_)
-        | TypeName::Interface(_)
-        | TypeName::Sequence(_) => None,
-    }
-}
-
-/// Where an exception is asked, one that stands on it may stand.
-fn exception_assignable(alloc: Global, registry: &Registry, base: &Name, from: &TypeName) -> bool
-    requires { IsSound registry.now }
-    ensures { IsTrue result ↔ Assignable registry.now (kd.exception base.now) (kind_of from.now) }
-{
-    let Some(name) = exception_name(from) else {
-        return false;
-    };
-    is_base_of(alloc, registry, base.as_str(), name.as_str())
-}
-
-/// The name of an exception; any other type stands for none.
-fn exception_name(from: &TypeName) -> Option<&Name>
-    ensures { MatchOption result ((reg : List plain.Entity) (base : List ℕ) → Assignable reg (kd.exception base) (kind_of from.now) → ⊥) (λ name. kind_of from.now ≡ kd.exception name.now) }
-{
-    match from {
-        TypeName::Exception(name) => Some(name),
-        TypeName::Void
-        | TypeName::Char
-        | TypeName::Boolean
-        | TypeName::Byte
-        | TypeName::Short
-        | TypeName::UnsignedShort
-        | TypeName::Long
-        | TypeName::UnsignedLong
-        | TypeName::Hyper
-        | TypeName::UnsignedHyper
-        | TypeName::Str
-        | TypeName::Kind
-        | TypeName::Any
-        | TypeName::Enum(_)
-        | TypeName::Struct(_)
-        | TypeName::Interface(_)
-        | TypeName::Sequence(_) => None,
-    }
-}
-
-/// By marks at all bases; without room for them, by a walk that takes none. A name that is not there is a base of itself alone.
+/// By a walk near by, which takes no memory, and else by marks. A name that is not there is a base of itself alone.
 fn is_base_of(alloc: Global, registry: &Registry, to: &str, from: &str) -> bool
+    requires { IsSound registry.now }
+    ensures { IsTrue result ↔ IsBaseOf registry.now to.now from.now }
+{
+    match near_base(registry, to, from) {
+        Some(is) => is,
+        None => is_far_base_of(alloc, registry, to, from),
+    }
+}
+
+/// By a mark for each entity; where there is no room for them, by a walk that takes none and may take long.
+fn is_far_base_of(alloc: Global, registry: &Registry, to: &str, from: &str) -> bool
     requires { IsSound registry.now }
     ensures { IsTrue result ↔ IsBaseOf registry.now to.now from.now }
 {
@@ -239,11 +128,7 @@ fn bases_reach(registry: &Registry, to: &str, entity: &Entity, levels: usize) ->
         Body::Struct { base, .. } | Body::Exception { base, .. } => {
             base_reaches(registry, to, base, levels)
         }
-        Body::Enum { .. }
-        | Body::Constants { .. }
-        | Body::Typedef { .. }
-        | Body::Service(_)
-        | Body::Singleton(_) => false,
+        _ => false,
     }
 }
 

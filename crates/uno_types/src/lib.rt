@@ -5,6 +5,7 @@ mod all_members;
 mod assignable;
 mod has_type;
 mod members;
+mod near_bases;
 mod registry;
 mod threads;
 mod types;

@@ -1,6 +1,6 @@
 //! A registry: the entities of a type system, each under its name.
 ghost use Rattle.std.specs.Prelude.{◌≡◌, ◌≢◌, ◌+◌, ◌<◌, ◌≤◌, ◌↔◌, length, take, drop, IfOk, OnOk, OnErr, IfErr, IfSome, IsNone, IsTrue, MatchOption, MatchResult, Some, None, option_map, slice_get, insert};
-ghost use Rattle.uno_model.specs.BuiltIn.{built_in};
+ghost use Rattle.uno_model.specs.BuiltIn.{built_in, HasBuiltIn};
 ghost use Rattle.uno_model.specs.Registry.{find_entity, Adds, IsRising};
 ghost use Rattle.uno_model.specs.Sound.{IsSound};
 ghost use Rattle.uno_entities.specs.Entities.{entity_of, entities_of};
@@ -49,11 +49,12 @@ impl Model for Registry {
     ghost coded = { Prim.hlevel (codes, kind_code) };
 
     ghost use Rattle.uno_entities.specs.Entities.{entities_of};
+    ghost use Rattle.uno_model.specs.BuiltIn.{HasBuiltIn};
     ghost use Rattle.uno_model.specs.Registry.{IsRising};
 
     ghost view = { λ r. entities_of r.entities.items };
 
-    ghost invariant = { λ r. IsRising (entities_of r.entities.items) };
+    ghost invariant = { λ r. IsRising (entities_of r.entities.items) × HasBuiltIn (entities_of r.entities.items) };
 }
 
 impl Registry {
@@ -101,6 +102,7 @@ impl Registry {
     pub fn entities(&self) -> &[Entity]
         ensures all { entities_of result.now ≡ self.now }
         ensures rising { IsRising self.now }
+        ensures built_in { HasBuiltIn self.now }
     {
         self.entities.as_slice()
     }
@@ -129,6 +131,7 @@ fn gap_in(entities: &[Entity], name: &str) -> Option<usize>
 fn insert_in(entities: &mut Vec<Entity>, entity: Entity) -> Result<(), AddError>
     requires { IsRising (entities_of entities.old.items) }
     ensures rising { IsRising (entities_of entities.new.items) }
+    ensures built_in { HasBuiltIn (entities_of entities.old.items) → HasBuiltIn (entities_of entities.new.items) }
     ensures added { OnOk result (Adds (entities_of entities.old.items) (entities_of entities.new.items) (entity_of entity)) }
     ensures twice { (result ≡ Err AddError.Twice) ↔ (find_entity entity.name (entities_of entities.old.items) ≢ None) }
     ensures refused { OnErr result (entities.new.items ≡ entities.old.items) }

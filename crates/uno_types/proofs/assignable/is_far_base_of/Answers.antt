@@ -4,7 +4,7 @@ use Rattle.uno_model.specs.Registry.{find_entity}
 use Rattle.uno_model.proofs.ReachesLaws.{reaches_bases}
 use Rattle.uno_entities.specs.Entities.{entity_of}
 use Rattle.uno_types.proofs.AssignableLemmas.{absent_source, absent_target, by_places}
-use Rattle.uno_types.proofs.assignable.is_base_of.Goals as goal
+use Rattle.uno_types.proofs.assignable.is_far_base_of.Goals as goal
 
 pub returns-in_default : goal.returns-in_default
 returns-in_default c =
