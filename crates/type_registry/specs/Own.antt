@@ -24,6 +24,7 @@ abbrev pub Seeks : List Function → ℕ → Sought → Type 0
 Seeks fs number (sought.Found f) = slice_get fs number ≡ Some (lent_function f)
 Seeks fs number (sought.Past left) = number ≡ length fs + left
 
-abbrev pub one_or_none : Option Function → List Function
+-- what is there, or nothing
+abbrev pub one_or_none : {A : Type 0} → Option A → List A
 one_or_none None = []
 one_or_none (Some f) = f ∷ []

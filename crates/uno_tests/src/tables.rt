@@ -72,19 +72,15 @@ const NUMBERED: &[Row] = &[
     ("demo.XNone", 0, None),
 ];
 
-fn named(found: &Option<Function>) -> Option<&str> {
-    match found {
-        Some(function) => Some(function.name.as_str()),
-        None => None,
-    }
-}
-
 /// Whether the function at the number has that name, or there is none.
 fn is_numbered(alloc: Global, registry: &Registry, row: &Row) -> Result<bool, NoMemory> {
     let (name, number, wanted) = row;
-    let found = function_numbered(alloc, registry, name, *number)?;
-    let right = named(&found) == *wanted;
-    drop(found);
+    let Some(function) = function_numbered(registry, name, *number) else {
+        return Ok(wanted.is_none());
+    };
+    let copy = function.copy(alloc)?;
+    let right = Some(copy.name.as_str()) == *wanted;
+    drop(copy);
     Ok(right)
 }
 
@@ -97,6 +93,15 @@ fn has_long_table(alloc: Global, registry: &Registry, name: &str, count: usize) 
         Some(last) => functions.len() == count && last.owner.as_str() == name,
         None => false,
     }
+}
+
+/// Whether the function at the number is one that the interface declares itself, and there is none behind it.
+fn is_last(registry: &Registry, name: &str, number: u16) -> bool {
+    let Some(function) = function_numbered(registry, name, number) else {
+        return false;
+    };
+    function.owner().as_str() == name
+        && function_numbered(registry, name, number.saturating_add(1)).is_none()
 }
 
 /// Bases come first, and attributes before methods; an exception and an unknown name have no table.
@@ -113,7 +118,8 @@ fn functions_stand_in_order_and_have_their_numbers(rt: HostRuntime) {
     }
     drop(registry);
     let chain = sound(&rt, registry_of(rt.alloc(), CHAIN_UP));
-    let right = has_long_table(rt.alloc(), &chain, "t.X19999", 20_003);
+    let right = has_long_table(rt.alloc(), &chain, "t.X19999", 20_003)
+        && is_last(&chain, "t.X19999", 20_002);
     drop(chain);
     see(&rt, right, "the chain");
 }

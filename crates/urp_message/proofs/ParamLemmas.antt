@@ -1,16 +1,16 @@
 -- The types of parameters, one parameter after the other.
-use Rattle.std.proofs.Common.{◌≡◌, ℕ, ◌+◌, ◌<◌, ◌≤◌, Bool, true, false, List, [], ◌∷◌, ◌++◌, length, drop, get_or, map, if◌then◌else◌, refl, sym, ap, ◌∙◌}
+use Rattle.std.proofs.Common.{◌≡◌, ℕ, zero, suc, ◌+◌, ◌<◌, ◌≤◌, Bool, true, false, List, [], ◌∷◌, ◌++◌, length, drop, if◌then◌else◌, refl, sym, ap, ◌∙◌, arith}
 use Rattle.std.proofs.Common.{append_assoc}
-use Rattle.std.proofs.lemmas.List.{append-nil, at_drop_more, drop_all}
+use Rattle.std.specs.Prelude.{slice_get}
+use Rattle.std.proofs.lemmas.List.{append-nil, drop_all}
 use Rattle.message_model.specs.Calls.{kinds_on}
-use Rattle.uno_model.specs.Entities as plain
+use Rattle.uno_model.specs.Entities.{Param}
 use Rattle.uno_model.specs.Kinds.{Kind}
 use Rattle.uno_model.specs.declared.way.Way.{Way}
-use Rattle.uno_entities.specs.Entities.{param_of}
-use Rattle.uno_entities.specs.declared.entity.Param.{Param}
+use Rattle.type_registry.specs.Own.{one_or_none}
 
 -- the first parameter's type, if it is carried, stands before the others
-kinds_step : (test : Way → Bool) (p : plain.Param) (ps : List plain.Param) → kinds_on test (p ∷ ps) ≡ kinds_on test (p ∷ []) ++ kinds_on test ps
+kinds_step : (test : Way → Bool) (p : Param) (ps : List Param) → kinds_on test (p ∷ ps) ≡ kinds_on test (p ∷ []) ++ kinds_on test ps
 unfolding kinds_on
 kinds_step test p ps = by_test (test p.way)
   where
@@ -18,19 +18,25 @@ kinds_step test p ps = by_test (test p.way)
     by_test true = refl
     by_test false = refl
 
+-- so does that of the parameter at a place before those behind it
+kinds_at_place : (test : Way → Bool) (ps : List Param) (i : ℕ) → i < length ps
+    → kinds_on test (drop i ps) ≡ kinds_on test (one_or_none (slice_get ps i)) ++ kinds_on test (drop (suc i) ps)
+kinds_at_place test [] i within = absurd (omega (arith, within))
+kinds_at_place test (p ∷ ps) zero within = kinds_step test p ps
+kinds_at_place test (p ∷ ps) (suc i) within = kinds_at_place test ps i (omega (arith, within))
+
 module _ (test : Way → Bool) (ps : List Param) (i : ℕ) where
   -- one more parameter is passed
-  pub one_more : (front back whole : List Kind) (p : Param) → i < length ps → p ≡ get_or ps i p → front ++ kinds_on test (map param_of (drop i ps)) ≡ whole
-      → back ≡ front ++ kinds_on test (param_of p ∷ []) → back ++ kinds_on test (map param_of (drop (i + 1) ps)) ≡ whole
-  one_more front back whole p within is before grows =
-      ap (λ z. z ++ kinds_on test (map param_of (drop (i + 1) ps))) grows ∙ append_assoc front (kinds_on test (param_of p ∷ [])) (kinds_on test (map param_of (drop (i + 1) ps)))
-      ∙ ap (λ z. front ++ z) (sym (kinds_step test (param_of p) (map param_of (drop (i + 1) ps))))
-      ∙ ap (λ x. front ++ kinds_on test (param_of x ∷ map param_of (drop (i + 1) ps))) is
-      ∙ ap (λ z. front ++ z) (sym (at_drop_more (λ xs. kinds_on test (map param_of xs)) ps i p within))
-      ∙ before
+  pub one_more : (before after whole : List Kind) → i < length ps → before ++ kinds_on test (drop i ps) ≡ whole
+      → after ≡ before ++ kinds_on test (one_or_none (slice_get ps i)) → after ++ kinds_on test (drop (i + 1) ps) ≡ whole
+  one_more before after whole within all grows =
+      let next : i + 1 ≡ suc i = omega arith in
+      let here = kinds_on test (one_or_none (slice_get ps i)) in
+      let behind = kinds_on test (drop (suc i) ps) in
+      ap (λ n. after ++ kinds_on test (drop n ps)) next ∙ ap (λ z. z ++ behind) grows ∙ append_assoc before here behind
+      ∙ ap (λ z. before ++ z) (sym (kinds_at_place test ps i within)) ∙ all
 
   -- none is left
-  pub none_left : (front whole : List Kind) → length ps ≤ i → front ++ kinds_on test (map param_of (drop i ps)) ≡ whole → front ≡ whole
+  pub none_left : (before whole : List Kind) → length ps ≤ i → before ++ kinds_on test (drop i ps) ≡ whole → before ≡ whole
   unfolding kinds_on
-  none_left front whole past all =
-      sym (append-nil front) ∙ ap (λ xs. front ++ kinds_on test (map param_of xs)) (sym (drop_all i ps past)) ∙ all
+  none_left before whole past all = sym (append-nil before) ∙ ap (λ xs. before ++ kinds_on test xs) (sym (drop_all i ps past)) ∙ all

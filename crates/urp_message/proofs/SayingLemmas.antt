@@ -6,8 +6,8 @@ use Rattle.std.specs.Borrow.{Bor}
 use Rattle.message_model.specs.Calls.{acquire_number, release_number, numbered, may_raise}
 use Rattle.message_model.specs.Messages.{raised}
 use Rattle.message_model.specs.Speaking.{Fill, AnswerFits}
-use Rattle.type_registry.specs.Functions.{function_of}
-use Rattle.type_registry.specs.declared.function.Function.{Function}
+use Rattle.type_registry.specs.Functions.{lent_function}
+use Rattle.type_registry.specs.declared.function.FunctionRef.{FunctionRef}
 use Rattle.uno_model.specs.Entities.{Entity}
 use Rattle.uno_model.specs.Fits.{Fits, FitEach}
 use Rattle.uno_model.specs.Functions.{Function as Called, functions_of}
@@ -25,7 +25,7 @@ use Rattle.urp_message.specs.Saying.{FindsCalled, ExceptionFits}
 -- ---- functions
 
 -- the function that is found is the one that is called, and where none is, none is called
-pub finds : (reg : List Entity) (face name other : List ℕ) (number : ℕ) (found : Option Function) → option_map function_of found ≡ slice_get (functions_of reg name) number
+pub finds : (reg : List Entity) (face name other : List ℕ) (number : ℕ) (found : Option FunctionRef) → option_map lent_function found ≡ slice_get (functions_of reg name) number
     → name ≡ face → true ≡ is_type reg (kd.interface other) → other ≡ face → number ≢ acquire_number → number ≢ release_number → number < 2 ^ 16
     → FindsCalled reg face number found
 unfolding numbered

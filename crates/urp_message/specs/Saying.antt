@@ -3,8 +3,8 @@ use Rattle.std.specs.Prelude.{◌≡◌, ℕ, ◌<◌, true, List, Option, None,
 use Rattle.message_model.specs.Calls.{argument_kinds, may_raise}
 use Rattle.message_model.specs.Messages as plain
 use Rattle.message_model.specs.Speaking.{IsCalled, Fill, AnswerFits}
-use Rattle.type_registry.specs.Functions.{function_of}
-use Rattle.type_registry.specs.declared.function.Function.{Function}
+use Rattle.type_registry.specs.Functions.{lent_function}
+use Rattle.type_registry.specs.declared.function.FunctionRef.{FunctionRef}
 use Rattle.uno_model.specs.Entities.{Entity}
 use Rattle.uno_model.specs.Fits.{Fits}
 use Rattle.uno_model.specs.Functions as called
@@ -21,9 +21,9 @@ abbrev pub ReplyFits : List Entity → List ℕ → ℕ → plain.Answer → Typ
 ReplyFits reg face number answer = (f : called.Function) × IsCalled reg face number f × AnswerFits reg f answer
 
 -- the function that is called like others is found, or there is none
-abbrev pub FindsCalled : List Entity → List ℕ → ℕ → Option Function → Type 0
+abbrev pub FindsCalled : List Entity → List ℕ → ℕ → Option FunctionRef → Type 0
 FindsCalled reg face number None = (f : called.Function) → IsCalled reg face number f → ⊥
-FindsCalled reg face number (Some f) = IsCalled reg face number (function_of f)
+FindsCalled reg face number (Some f) = IsCalled reg face number (lent_function f)
 
 -- an exception that the function may raise, of a type of the registry, nested so deep that an any may hold it
 abbrev pub ExceptionFits : List Entity → called.Function → Kind → Plain → Type 0

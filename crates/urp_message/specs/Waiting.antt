@@ -5,7 +5,7 @@ use Rattle.message_model.specs.Calls.{Waits, waiting, may_raise}
 use Rattle.message_model.specs.Headers.{Heard}
 use Rattle.message_model.specs.Messages.{Message, reply}
 use Rattle.message_model.specs.ReadingMessages.{awaited, answer_at, hearing_tid}
-use Rattle.type_registry.specs.Functions.{function_of}
+use Rattle.type_registry.specs.Functions.{lent_function}
 use Rattle.uno_model.specs.Entities.{Entity}
 use Rattle.uno_model.specs.Functions as plain
 use Rattle.uno_model.specs.Kinds.{Kind}
@@ -18,7 +18,7 @@ use Rattle.urp_message.specs.declared.listener.reply.Awaited.{Awaited}
 
 -- the interface and the number that were called, and the function
 abbrev pub awaited_of : Awaited → call.Waiting × plain.Function
-awaited_of a = (record { face = a.face; function = a.number }, function_of a.function)
+awaited_of a = (record { face = a.face; function = a.number }, lent_function a.function)
 
 -- a reply behind its thread
 abbrev pub answered_at : List Entity → Waits → Heard → List ℕ → Bool → List ℕ → Result (Message × Heard × List ℕ) Fault

@@ -2,12 +2,12 @@
 ghost use Rattle.std.specs.Prelude.{◌≡◌, map};
 ghost use Rattle.std.specs.List.{list_any};
 ghost use Rattle.message_model.specs.Calls.{is_base, runtime_exception, may_raise};
-ghost use Rattle.type_registry.specs.Functions.{function_of};
+ghost use Rattle.type_registry.specs.Functions.{lent_function};
 ghost use Rattle.uno_model.specs.Kinds as kd;
 ghost use Rattle.uno_model.specs.Sound.{IsSound};
 ghost use Rattle.uno_entities.specs.TypeNames.{kind_of};
 
-use type_registry::Function;
+use type_registry::FunctionRef;
 use uno_types::{Name, Registry, TypeName};
 
 /// The exception that every function may raise.
@@ -16,9 +16,9 @@ const RUNTIME_EXCEPTION: &str = "com.sun.star.uno.RuntimeException";
 /// Whether a function may raise an exception of a type: it declares it or a base of it, or the exception derives from the one that
 /// every function may raise.
 #[tactic(auto, unfolding(message_model::specs::Calls::may_raise))]
-pub(crate) fn may_raise(registry: &Registry, function: &Function, kind: &TypeName) -> bool
+pub(crate) fn may_raise(registry: &Registry, function: &FunctionRef, kind: &TypeName) -> bool
     requires { IsSound registry.now }
-    ensures { result ≡ may_raise registry.now (function_of function.now) (kind_of kind.now) }
+    ensures { result ≡ may_raise registry.now (lent_function function.now) (kind_of kind.now) }
 {
     match kind {
         TypeName::Exception(name) => may_raise_named(registry, function, name),
@@ -44,14 +44,14 @@ pub(crate) fn may_raise(registry: &Registry, function: &Function, kind: &TypeNam
 
 /// The same of an exception by its name.
 #[tactic(auto, unfolding(message_model::specs::Calls::may_raise))]
-fn may_raise_named(registry: &Registry, function: &Function, name: &Name) -> bool
+fn may_raise_named(registry: &Registry, function: &FunctionRef, name: &Name) -> bool
     requires { IsSound registry.now }
-    ensures { result ≡ may_raise registry.now (function_of function.now) (kd.exception name.now) }
+    ensures { result ≡ may_raise registry.now (lent_function function.now) (kd.exception name.now) }
 {
     if has_base(registry, RUNTIME_EXCEPTION, name) {
         return true;
     }
-    is_declared(registry, &function.raises, name)
+    is_declared(registry, function.raises(), name)
 }
 
 /// Whether an exception is one of these, or derives from one.

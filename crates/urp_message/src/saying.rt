@@ -2,7 +2,7 @@
 ghost use Rattle.std.specs.Prelude.{◌≡◌, ◌≢◌, ◌↔◌, ◌≤◌, ◌<◌, ◌+◌, ◌-◌, ◌^◌, IsTrue, IfOk, map, min, length};
 ghost use Rattle.message_model.specs.Calls.{kinds_on, numbered, argument_kinds, out_kinds, may_raise, acquire_number, release_number};
 ghost use Rattle.message_model.specs.Speaking.{IsThread, Fill, AnswerFits, MayBeSaid, message_weight, answer_weight, heading_weight, name_weight};
-ghost use Rattle.type_registry.specs.Functions.{function_of};
+ghost use Rattle.type_registry.specs.Functions.{lent_function};
 ghost use Rattle.uno_model.specs.Fits.{Fits, IsIdentity, IsInterface};
 ghost use Rattle.uno_model.specs.Kinds as kd;
 ghost use Rattle.uno_model.specs.Sound.{IsSound};
@@ -20,7 +20,7 @@ use crate::params::{Phase, kinds};
 use crate::raising::may_raise;
 use crate::{Answer, Message};
 use std::alloc::Global;
-use type_registry::{Function, function_numbered};
+use type_registry::{FunctionRef, function_numbered};
 use uno_base::NoMemory;
 use uno_types::{Name, Registry, Text, Tid, TypeName};
 use uno_values::{AnyValue, Value, depth_of, fits};
@@ -111,12 +111,10 @@ fn request_fits(
     requires { IsSound registry.now }
     ensures { IfOk result (λ b. IsTrue b ↔ RequestFits registry.now face.now number (map plain_of args.now)) }
 {
-    let Some(function) = called(alloc, registry, face, number)? else {
+    let Some(function) = called(registry, face, number) else {
         return Ok(false);
     };
-    let fits = values_fit(alloc, registry, Phase::Request, &function, args);
-    drop(function);
-    fits
+    values_fit(alloc, registry, Phase::Request, &function, args)
 }
 
 /// Whether values are those that a request or a reply carries for the parameters of a function.
@@ -124,36 +122,30 @@ fn values_fit(
     alloc: Global,
     registry: &Registry,
     phase: Phase,
-    function: &Function,
+    function: &FunctionRef,
     values: &[Value],
 ) -> Result<bool, NoMemory>
     requires { IsSound registry.now }
-    ensures { IfOk result (λ b. IsTrue b ↔ Fill registry.now (map plain_of values.now) (kinds_on (carries phase) (function_of function.now).params)) }
+    ensures { IfOk result (λ b. IsTrue b ↔ Fill registry.now (map plain_of values.now) (kinds_on (carries phase) (lent_function function.now).params)) }
 {
-    let kinds = kinds(alloc, phase, &function.params)?;
+    let kinds = kinds(alloc, phase, function)?;
     Ok(fill(registry, values, &kinds))
 }
 
 /// The function of an interface at a number, where it is called like others.
-fn called(
-    alloc: Global,
-    registry: &Registry,
-    face: &Name,
-    number: u16,
-) -> Result<Option<Function>, NoMemory>
-    ensures { IfOk result (λ found. FindsCalled registry.now face.now number found) }
+fn called<'a>(registry: &'a Registry, face: &Name, number: u16) -> Option<FunctionRef<'a>>
+    ensures { FindsCalled registry.now face.now number result }
 {
     if number == ACQUIRE {
-        return Ok(None);
+        return None;
     }
     if number == RELEASE {
-        return Ok(None);
+        return None;
     }
     if !registry.has_interface(face.as_str()) {
-        return Ok(None);
+        return None;
     }
-    let function = function_numbered(alloc, registry, face.as_str(), number)?;
-    Ok(function)
+    function_numbered(registry, face.as_str(), number)
 }
 
 /// Whether an answer is one to a function like others.
@@ -167,27 +159,25 @@ fn reply_fits(
     requires { IsSound registry.now }
     ensures { IfOk result (λ b. IsTrue b ↔ ReplyFits registry.now face.now number (answer_of answer.now)) }
 {
-    let Some(function) = called(alloc, registry, face, number)? else {
+    let Some(function) = called(registry, face, number) else {
         return Ok(false);
     };
-    let fits = answer_fits(alloc, registry, &function, answer);
-    drop(function);
-    fits
+    answer_fits(alloc, registry, &function, answer)
 }
 
 /// Whether an answer is one to this function.
 fn answer_fits(
     alloc: Global,
     registry: &Registry,
-    function: &Function,
+    function: &FunctionRef,
     answer: &Answer,
 ) -> Result<bool, NoMemory>
     requires { IsSound registry.now }
-    ensures { IfOk result (λ b. IsTrue b ↔ AnswerFits registry.now (function_of function.now) (answer_of answer.now)) }
+    ensures { IfOk result (λ b. IsTrue b ↔ AnswerFits registry.now (lent_function function.now) (answer_of answer.now)) }
 {
     match answer {
         Answer::Returned { value, outs } => {
-            if !fits_within(registry, value, &function.result) {
+            if !result_fits(registry, function, value) {
                 return Ok(false);
             }
             values_fit(alloc, registry, Phase::Reply, function, outs)
@@ -196,18 +186,29 @@ fn answer_fits(
     }
 }
 
-/// Whether an exception is one that the function may raise. As what an any holds it is one level further in.
-fn exception_fits(registry: &Registry, function: &Function, exception: &AnyValue) -> bool
+/// Whether a value fits the result of this function.
+fn result_fits(registry: &Registry, function: &FunctionRef, value: &Value) -> bool
     requires { IsSound registry.now }
-    ensures { IsTrue result ↔ AnswerFits registry.now (function_of function.now) (raised (kind_of exception.now.kind) (plain_of exception.now.value)) }
+    ensures { IsTrue result ↔ (Fits registry.now (plain_of value.now) (lent_function function.now).result_kind × (depth (plain_of value.now) ≤ 64)) }
+{
+    match function.result() {
+        Some(kind) => fits_within(registry, value, kind),
+        None => fits_within(registry, value, &TypeName::Void),
+    }
+}
+
+/// Whether an exception is one that the function may raise. As what an any holds it is one level further in.
+fn exception_fits(registry: &Registry, function: &FunctionRef, exception: &AnyValue) -> bool
+    requires { IsSound registry.now }
+    ensures { IsTrue result ↔ AnswerFits registry.now (lent_function function.now) (raised (kind_of exception.now.kind) (plain_of exception.now.value)) }
 {
     exception_holds(registry, function, exception)
 }
 
 /// The same, said of the exception itself.
-fn exception_holds(registry: &Registry, function: &Function, exception: &AnyValue) -> bool
+fn exception_holds(registry: &Registry, function: &FunctionRef, exception: &AnyValue) -> bool
     requires { IsSound registry.now }
-    ensures { IsTrue result ↔ ExceptionFits registry.now (function_of function.now) (kind_of exception.now.kind) (plain_of exception.now.value) }
+    ensures { IsTrue result ↔ ExceptionFits registry.now (lent_function function.now) (kind_of exception.now.kind) (plain_of exception.now.value) }
 {
     if !may_raise(registry, function, &exception.kind) {
         return false;

@@ -3,11 +3,13 @@ ghost use Rattle.std.specs.Prelude.{◌≡◌, IfOk, option_map, Some};
 ghost use Rattle.message_model.specs.Calls.{numbered, waiting};
 ghost use Rattle.message_model.specs.Messages as plain;
 ghost use Rattle.message_model.specs.ReadingMessages.{new_or_last_at, returned_at, raised_at, answer_at, awaited, hearing_tid, reply_at};
-ghost use Rattle.type_registry.specs.Functions.{function_of};
+ghost use Rattle.type_registry.specs.Functions.{lent_function};
 ghost use Rattle.uno_model.specs.Sound.{IsSound};
 ghost use Rattle.uno_entities.specs.TypeNames.{kind_of};
+ghost use Rattle.uno_values.specs.Values.{plain_of};
 ghost use Rattle.urp_message.specs.Messages.{message_of, answer_of, heard_of, last_of};
 ghost use Rattle.urp_message.specs.Waiting.{awaited_of, answered_at, misplaced};
+ghost use Rattle.urp_model.specs.Reading.{value_at};
 ghost use Rattle.urp_model.specs.ReadingNames.{tid_at};
 ghost use Rattle.urp_wire.specs.Gives.{Gives, tables_of};
 
@@ -19,19 +21,19 @@ use crate::params::Phase;
 use crate::raising::may_raise;
 use crate::{Answer, Expects, Message};
 use std::alloc::Global;
-use type_registry::{Function, function_numbered};
+use type_registry::{FunctionRef, function_numbered};
 use uno_base::NoMemory;
 use uno_types::{Name, Registry, Tid, TypeName};
-use uno_values::AnyValue;
+use uno_values::{AnyValue, Value};
 use urp_cache::{ReadCache, ReadCaches};
 use urp_wire::{Reason, WireError, read_kind, read_value_within};
 
 /// A call that waits: its interface, its number, and the function that it calls.
 #[derive(Drop)]
-pub(crate) struct Awaited {
+pub(crate) struct Awaited<'a> {
     pub(crate) face: Name,
     pub(crate) number: u16,
-    pub(crate) function: Function,
+    pub(crate) function: FunctionRef<'a>,
 }
 
 /// The answer to a call that waited: its interface and its number.
@@ -144,7 +146,6 @@ fn answer_awaited<'a, E: Expects>(
         &mut heard.caches,
         bytes,
     );
-    drop(function);
     match read {
         Ok((answer, rest)) => Ok((
             Answered {
@@ -163,24 +164,21 @@ fn answer_awaited<'a, E: Expects>(
 
 /// The call for which a thread waits.
 #[tactic(auto, unfolding(message_model::specs::Calls::numbered))]
-fn call_awaited<E: Expects>(
+fn call_awaited<'a, E: Expects>(
     alloc: Global,
-    registry: &Registry,
+    registry: &'a Registry,
     expect: &E,
     tid: &[u8],
-) -> Result<Option<Awaited>, NoMemory>
+) -> Result<Option<Awaited<'a>>, NoMemory>
     ensures { IfOk result (λ found. option_map awaited_of found ≡ awaited registry.now (waiting tid.now (E.calls expect.now))) }
 {
     let Some((face, number)) = expect.waits(tid) else {
         return Ok(None);
     };
-    let Some(function) = function_numbered(alloc, registry, face.as_str(), number)? else {
+    let Some(function) = function_numbered(registry, face.as_str(), number) else {
         return Ok(None);
     };
-    let Ok(face) = face.copy(alloc) else {
-        drop(function);
-        return Err(NoMemory);
-    };
+    let face = face.copy(alloc)?;
     Ok(Some(Awaited {
         face,
         number,
@@ -194,12 +192,12 @@ fn answer<'a>(
     alloc: Global,
     registry: &Registry,
     is_raised: bool,
-    function: &Function,
+    function: &FunctionRef,
     caches: &mut ReadCaches,
     bytes: &'a [u8],
 ) -> Result<(Answer, &'a [u8]), WireError>
     requires { IsSound registry.now }
-    ensures { Gives (λ x. (answer_of x.0, tables_of caches.new, x.1.now)) result (answer_at is_raised registry.now (function_of function.now) (tables_of caches.old) bytes.now) }
+    ensures { Gives (λ x. (answer_of x.0, tables_of caches.new, x.1.now)) result (answer_at is_raised registry.now (lent_function function.now) (tables_of caches.old) bytes.now) }
 {
     if is_raised {
         return raised(alloc, registry, function, caches, bytes);
@@ -212,29 +210,15 @@ fn answer<'a>(
 fn returned<'a>(
     alloc: Global,
     registry: &Registry,
-    function: &Function,
+    function: &FunctionRef,
     caches: &mut ReadCaches,
     bytes: &'a [u8],
 ) -> Result<(Answer, &'a [u8]), WireError>
     requires { IsSound registry.now }
-    ensures { Gives (λ x. (answer_of x.0, tables_of caches.new, x.1.now)) result (returned_at registry.now (function_of function.now) (tables_of caches.old) bytes.now) }
+    ensures { Gives (λ x. (answer_of x.0, tables_of caches.new, x.1.now)) result (returned_at registry.now (lent_function function.now) (tables_of caches.old) bytes.now) }
 {
-    let (value, rest) = read_value_within(
-        alloc,
-        registry,
-        caches,
-        &function.result,
-        MOST_LEVELS,
-        bytes,
-    )?;
-    match carried(
-        alloc,
-        registry,
-        Phase::Reply,
-        &function.params,
-        caches,
-        rest,
-    ) {
+    let (value, rest) = result_value(alloc, registry, function, caches, bytes)?;
+    match carried(alloc, registry, Phase::Reply, function, caches, rest) {
         Ok((outs, rest)) => Ok((Answer::Returned { value, outs }, rest)),
         Err(error) => {
             drop(value);
@@ -243,17 +227,34 @@ fn returned<'a>(
     }
 }
 
+/// A value of the type that the function returns.
+fn result_value<'a>(
+    alloc: Global,
+    registry: &Registry,
+    function: &FunctionRef,
+    caches: &mut ReadCaches,
+    bytes: &'a [u8],
+) -> Result<(Value, &'a [u8]), WireError>
+    requires { IsSound registry.now }
+    ensures { Gives (λ x. (plain_of x.0, tables_of caches.new, x.1.now)) result (value_at 64 registry.now (lent_function function.now).result_kind (tables_of caches.old) bytes.now) }
+{
+    match function.result() {
+        Some(kind) => read_value_within(alloc, registry, caches, kind, MOST_LEVELS, bytes),
+        None => read_value_within(alloc, registry, caches, &TypeName::Void, MOST_LEVELS, bytes),
+    }
+}
+
 /// An exception in an any, one level further in. Its type is judged before its value is read.
 #[tactic(auto, unfolding(message_model::specs::ReadingMessages::raised_at))]
 fn raised<'a>(
     alloc: Global,
     registry: &Registry,
-    function: &Function,
+    function: &FunctionRef,
     caches: &mut ReadCaches,
     bytes: &'a [u8],
 ) -> Result<(Answer, &'a [u8]), WireError>
     requires { IsSound registry.now }
-    ensures { Gives (λ x. (answer_of x.0, tables_of caches.new, x.1.now)) result (raised_at registry.now (function_of function.now) (tables_of caches.old) bytes.now) }
+    ensures { Gives (λ x. (answer_of x.0, tables_of caches.new, x.1.now)) result (raised_at registry.now (lent_function function.now) (tables_of caches.old) bytes.now) }
 {
     let (kind, rest) = read_kind(alloc, registry, &mut caches.types, bytes)?;
     if let Some(reason) = misplaced(registry, function, &kind) {
@@ -270,9 +271,9 @@ fn raised<'a>(
 }
 
 /// Why a type is none of an exception that the function may raise. An any holds no any, and that is judged first.
-fn misplaced(registry: &Registry, function: &Function, kind: &TypeName) -> Option<Reason>
+fn misplaced(registry: &Registry, function: &FunctionRef, kind: &TypeName) -> Option<Reason>
     requires { IsSound registry.now }
-    ensures { result ≡ misplaced registry.now (function_of function.now) (kind_of kind.now) }
+    ensures { result ≡ misplaced registry.now (lent_function function.now) (kind_of kind.now) }
 {
     if matches!(kind, TypeName::Any) {
         return Some(Reason::BadAny);

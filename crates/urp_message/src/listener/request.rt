@@ -3,6 +3,7 @@ ghost use Rattle.std.specs.Prelude.{◌≡◌, ◌&&◌, not, map, IfOk};
 ghost use Rattle.message_model.specs.Headers as header;
 ghost use Rattle.message_model.specs.Messages.{request};
 ghost use Rattle.message_model.specs.ReadingMessages.{face_of, release_at, call_at, asked_at, request_at};
+ghost use Rattle.type_registry.specs.Functions.{lent_function};
 ghost use Rattle.uno_model.specs.Sound.{IsSound};
 ghost use Rattle.uno_entities.specs.TypeNames.{kind_of};
 ghost use Rattle.uno_values.specs.Values.{plain_of};
@@ -19,7 +20,7 @@ use crate::Message;
 use crate::last::Heard;
 use crate::params::Phase;
 use std::alloc::Global;
-use type_registry::{Function, function_numbered};
+use type_registry::{FunctionRef, function_numbered};
 use uno_types::{Name, Registry, Text, Tid, TypeName};
 use uno_values::Value;
 use urp_wire::{Reason, WireError};
@@ -153,29 +154,26 @@ fn arguments<'a>(
     ensures { (target : header.Target) → Gives (λ x. (request target.tid target.oid face.now opening.now.function (map plain_of x.0.items), heard_of heard.new, x.1.now)) result
         (call_at registry.now (opening_of opening.now) face.now target (heard_of heard.old) bytes.now) }
 {
-    let Some(function) = function_numbered(alloc, registry, face.as_str(), opening.function)? else {
+    let Some(function) = function_numbered(registry, face.as_str(), opening.function) else {
         return Err(WireError::Bad(Reason::UnknownFunction));
     };
     if lacks_answer(&function, opening) {
-        drop(function);
         return Err(WireError::Bad(Reason::OneWay));
     }
-    let read = carried(
+    let (args, rest) = carried(
         alloc,
         registry,
         Phase::Request,
-        &function.params,
+        &function,
         &mut heard.caches,
         bytes,
-    );
-    drop(function);
-    let (args, rest) = read?;
+    )?;
     Ok((args, rest))
 }
 
 /// Whether a function is one-way and its call is not sent as one that has an answer.
-fn lacks_answer(function: &Function, opening: &Opening) -> bool
-    ensures { result ≡ function.now.oneway && not opening.now.answered }
+fn lacks_answer(function: &FunctionRef, opening: &Opening) -> bool
+    ensures { result ≡ (lent_function function.now).oneway && not opening.now.answered }
 {
-    function.oneway && !opening.answered
+    function.is_oneway() && !opening.answered
 }

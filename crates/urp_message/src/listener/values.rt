@@ -2,7 +2,7 @@
 ghost use Rattle.std.specs.Prelude.{◌≡◌, map};
 ghost use Rattle.message_model.specs.Calls.{kinds_on};
 ghost use Rattle.uno_model.specs.Sound.{IsSound};
-ghost use Rattle.uno_entities.specs.Entities.{param_of};
+ghost use Rattle.type_registry.specs.Functions.{lent_function};
 ghost use Rattle.uno_values.specs.Values.{plain_of};
 ghost use Rattle.urp_message.specs.Params.{carries, kinds_at};
 ghost use Rattle.urp_model.specs.Reading.{members_at, value_at};
@@ -10,7 +10,8 @@ ghost use Rattle.urp_wire.specs.Gives.{Gives, tables_of};
 
 use crate::params::{Phase, kinds};
 use std::alloc::Global;
-use uno_types::{Param, Registry, TypeName};
+use type_registry::FunctionRef;
+use uno_types::{Registry, TypeName};
 use uno_values::Value;
 use urp_cache::ReadCaches;
 use urp_wire::{WireError, read_value_within};
@@ -18,20 +19,20 @@ use urp_wire::{WireError, read_value_within};
 /// How many levels of a value may stand in one another.
 pub(crate) const MOST_LEVELS: u32 = 64;
 
-/// The values that a request or a reply carries for these parameters, in order.
+/// The values that a request or a reply carries for the parameters of a function, in order.
 pub(crate) fn carried<'a>(
     alloc: Global,
     registry: &Registry,
     phase: Phase,
-    params: &[Param],
+    function: &FunctionRef,
     caches: &mut ReadCaches,
     bytes: &'a [u8],
 ) -> Result<(Vec<Value>, &'a [u8]), WireError>
     requires { IsSound registry.now }
     ensures { Gives (λ x. (map plain_of x.0.items, tables_of caches.new, x.1.now)) result
-        (members_at (value_at 64 registry.now) (kinds_on (carries phase) (map param_of params.now)) (tables_of caches.old) bytes.now) }
+        (members_at (value_at 64 registry.now) (kinds_on (carries phase) (lent_function function.now).params) (tables_of caches.old) bytes.now) }
 {
-    let kinds = kinds(alloc, phase, params)?;
+    let kinds = kinds(alloc, phase, function)?;
     values(alloc, registry, caches, &kinds, bytes)
 }
 

@@ -3,7 +3,7 @@ ghost use Rattle.std.specs.Prelude.{◌≡◌, ◌≤◌, ◌<◌, ◌^◌, ◌+
 ghost use Rattle.message_model.specs.Calls.{numbered, is_oneway};
 ghost use Rattle.message_model.specs.Speaking.{MessageSpellable};
 ghost use Rattle.message_model.specs.WritingMessages.{message_spelling, after_message};
-ghost use Rattle.type_registry.specs.Functions.{function_of};
+ghost use Rattle.type_registry.specs.Functions.{lent_function};
 ghost use Rattle.urp_message.specs.Messages.{message_of, spoken_of};
 ghost use Rattle.urp_message.specs.Speaking.{MessageWritable};
 ghost use Rattle.urp_model.specs.Blocks.{spell_block};
@@ -45,7 +45,7 @@ pub(crate) fn put_message(
         } => {
             let heading = Heading {
                 function: *function,
-                answered: is_oneway(alloc, registry, face, *function)?,
+                answered: is_oneway(registry, face, *function),
                 tid,
                 oid,
                 face,
@@ -73,20 +73,13 @@ pub(crate) fn put_message(
 
 /// Whether a function is one-way, where it is there.
 #[tactic(auto, unfolding(message_model::specs::Calls::numbered))]
-fn is_oneway(
-    alloc: Global,
-    registry: &Registry,
-    face: &Name,
-    function: u16,
-) -> Result<bool, NoMemory>
-    ensures { IfOk result (λ b. b ≡ is_oneway (numbered registry.now face.now function)) }
+fn is_oneway(registry: &Registry, face: &Name, function: u16) -> bool
+    ensures { result ≡ is_oneway (numbered registry.now face.now function) }
 {
-    let Some(function) = function_numbered(alloc, registry, face.as_str(), function)? else {
-        return Ok(false);
-    };
-    let oneway = function.oneway;
-    drop(function);
-    Ok(oneway)
+    match function_numbered(registry, face.as_str(), function) {
+        Some(function) => function.is_oneway(),
+        None => false,
+    }
 }
 
 /// One message as a block of its own: the size of its body, the count of 1, and the body (URP specification, blocks).

@@ -1,10 +1,10 @@
-use Rattle.std.specs.Prelude.{◌≡◌, ◌++◌, map, drop}
+use Rattle.std.specs.Prelude.{◌≡◌, ◌++◌, drop}
 use Rattle.message_model.specs.Calls.{kinds_on}
-use Rattle.uno_entities.specs.Entities.{param_of}
+use Rattle.type_registry.specs.Functions.{lent_function}
 use Rattle.urp_message.specs.Params.{carries, kinds_at}
 use Rattle.urp_message.proofs.params.kinds.Given as goal
 
 -- the types so far, before those of the parameters that are left, are all of them
-abbrev pub invariant-loop-param : goal.invariant-loop-param
-invariant-loop-param l =
-    kinds_at l.kinds.items ++ kinds_on (carries l.phase) (map param_of (drop l.param-index l.params)) ≡ kinds_on (carries l.phase) (map param_of l.params)
+abbrev pub invariant-loop-place : goal.invariant-loop-place
+invariant-loop-place l =
+    kinds_at l.kinds.items ++ kinds_on (carries l.phase) (drop l.place (lent_function l.function).params) ≡ kinds_on (carries l.phase) (lent_function l.function).params
