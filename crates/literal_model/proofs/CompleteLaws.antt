@@ -11,7 +11,6 @@ use Rattle.std.specs.Int.{Width, w8, w16, w32, w64, cast_signed}
 use Rattle.std.specs.Ordering.{int_eq}
 use Rattle.std.specs.List.{list_all, list_any}
 use Rattle.std.specs.Str.{bytes_eq}
-use Rattle.literal_model.proofs.SpellLaws.{append_none}
 use Rattle.literal_model.proofs.TypedLaws.{bare, listed, listed_plains, listed_bytes, Each, byte_token, any_tokens}
 use Rattle.uno_model.specs.Defaults.{items_of}
 use Rattle.uno_model.specs.Entities.{Entity, Item, Body}
@@ -19,18 +18,22 @@ use Rattle.uno_model.specs.Entities as plain
 use Rattle.uno_model.specs.Fits.{Fits, FitEach, FitAll, RefFits, IsTupleKind, member_kinds}
 use Rattle.uno_model.specs.Kinds.{Kind}
 use Rattle.uno_model.specs.Kinds as kd
-use Rattle.literal_model.specs.Literals.{first_item}
+use Rattle.literal_model.specs.Literals.{first_item, object, ref_token, Token, opens, closes, comma, number, word, string, named, cast, square, curly, tokens_of, tokens_in, byte_tokens, comma_tokens}
+use Rattle.literal_model.specs.Literals.{item_token}
 use Rattle.literal_model.specs.Readings.{Fault, deep, Reads, left_at, unsigned_of, signed_of, number_named, item_in, some_as, single, of_token, only_token}
 use Rattle.literal_model.specs.Readings.{cast_in, is_comma, opens_square, opens_curly, closes_square, closes_curly, expect, elements_on, elements_in}
 use Rattle.literal_model.specs.Readings.{sequence_of, comma_at, members_on, tuple_of, is_void, any_of, byte_in, value_step, value_within}
 use Rattle.uno_model.specs.Registry.{find_entity}
-use Rattle.literal_model.specs.Shapes.{Token, opens, closes, comma, number, word, string, named, cast, square, curly, Placed, on_ok}
+use Rattle.literal_model.specs.Shapes.{Placed, on_ok}
 use Rattle.uno_model.specs.Sound.{all_differ, items_differ}
-use Rattle.literal_model.specs.Tokens.{tokens_of, tokens_in, byte_tokens, comma_tokens, item_token}
 use Rattle.uno_model.specs.Spellable.{AreBytes, IsSpellable, AreSpellable}
 use Rattle.uno_model.specs.Types.{is_type}
 use Rattle.uno_model.specs.Values.{Ref, null, own, peer, Plain, Plains, plains, none, more, refs, refs_in, held}
 use Rattle.uno_model.specs.Values as v
+
+pub append_none : {A : Type 0} (xs ys : List A) → xs ++ ys ≡ [] → (xs ≡ []) × (ys ≡ [])
+append_none [] ys e = (refl, e)
+append_none (x ∷ xs) ys e = let bad : ⊥ = cc in absurd bad
 
 -- what is read is this, with these tokens behind it, unless it is nested too deep
 abbrev pub Comes : {X : Type 0} → Result (X × List Placed) Fault → X → List Token → Type 0
@@ -384,7 +387,9 @@ value_begins reg (v.enum name n) = item_begins (first_item (items_of (find_entit
 value_begins reg (v.tuple name vs) = (opens curly, tokens_in reg true vs ++ closes curly ∷ [], refl, refl)
 value_begins reg (v.list t vs) = (opens square, tokens_in reg true vs ++ closes square ∷ [], refl, refl)
 value_begins reg (v.bytes b) = (opens square, byte_tokens true b ++ closes square ∷ [], refl, refl)
-value_begins reg (v.ref r) = (word (codes "null"), [], refl, refl)
+value_begins reg (v.ref null) = (word (codes "null"), [], refl, refl)
+value_begins reg (v.ref (own oid face)) = (object oid face, [], refl, refl)
+value_begins reg (v.ref (peer oid face)) = (object oid face, [], refl, refl)
 
 -- bytes
 abbrev pub IsByte : ℕ → Type 0
@@ -510,7 +515,7 @@ any_comes reg read t x ps ts all fits closed spellable e = by_void (is_void t) r
         valued at.0 at.1 at.2 at.3 other (all t x at.1 ts fits closed spellable at.4)
 
 null_comes : (reg : List Entity) (read : Kind → Reads Plain) (r : Ref) (k : Kind) (ps : List Placed) (ts : List Token) → RefFits reg k r → held r ≡ []
-    → bare ps ≡ word (codes "null") ∷ ts
+    → bare ps ≡ ref_token r ∷ ts
     → Comes (value_step reg read k ps) (v.ref r) ts
 unfolding value_step
 null_comes reg read null (kd.interface name) ps ts fits closed e = single_comes reg (kd.interface name) (v.ref null) (word (codes "null")) ps ts e refl

@@ -2,7 +2,6 @@ pub mod CompleteLaws
 pub mod ScanBackLaws
 pub mod ScanLaws
 pub mod ShapeLaws
-pub mod SpellLaws
 pub mod TypeTextLaws
 pub mod TypedLaws
 pub mod VerdictLaws

@@ -11,9 +11,9 @@ use Rattle.std.specs.Str.{all_ascii_digits}
 use Rattle.literal_model.proofs.TypeTextLaws.{read_name}
 use Rattle.uno_model.specs.Entities.{Entity}
 use Rattle.uno_model.specs.Kinds.{Kind, name_of}
-use Rattle.literal_model.specs.Literals.{escaped}
+use Rattle.literal_model.specs.Literals.{escaped, number, word}
 use Rattle.uno_model.specs.Names.{begins_identifier, goes_on_identifier}
-use Rattle.literal_model.specs.Shapes.{number, word, largest, lowest, is_known_word, is_word, front, rest, digits_on}
+use Rattle.literal_model.specs.Shapes.{largest, lowest, is_known_word, is_word, front, rest, digits_on}
 use Rattle.literal_model.specs.Shapes.{digits_at, string_at, is_name_byte, type_at, word_at, value_at}
 use Rattle.uno_model.specs.Sound.{is_named}
 use Rattle.uno_model.specs.Types.{is_type}

@@ -11,10 +11,10 @@ use Rattle.literal_model.proofs.TypedLaws.{HasType, Typed, bare}
 use Rattle.uno_model.specs.Entities.{Entity}
 use Rattle.uno_model.specs.Kinds.{Kind, name_of}
 use Rattle.uno_model.specs.Kinds as kd
-use Rattle.literal_model.specs.Literals.{escaped}
+use Rattle.literal_model.specs.Literals.{escaped, Bracket, square, curly, Token, opens, closes, comma, number, word, string, named, cast, spell, spells}
 use Rattle.uno_model.specs.NamedTypes.{IsNamed, type_of_text}
 use Rattle.uno_model.specs.Names.{begins_identifier, goes_on_identifier}
-use Rattle.literal_model.specs.Shapes.{Bracket, square, curly, Token, opens, closes, comma, number, word, string, named, cast, spell, spells, largest, lowest, is_known_word, front, rest}
+use Rattle.literal_model.specs.Shapes.{largest, lowest, is_known_word, front, rest}
 use Rattle.literal_model.specs.Shapes.{digits_on, digits_at, on_ok, with_byte, escape_of, string_at, is_name_byte, name_stop, type_at, cast_of, word_at, negative_of, number_at, value_at, Awaited}
 use Rattle.literal_model.specs.Shapes.{value, element, separator, behind, opened, closing, separator_at, element_at, token_at, Placed, with_token, is_whole, tokens_at}
 use Rattle.uno_model.specs.Sound.{is_named}

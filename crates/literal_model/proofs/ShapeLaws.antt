@@ -11,10 +11,9 @@ use Rattle.std.specs.Int.{Width, w8, w16, w32, w64, cast_signed}
 use Rattle.std.specs.List.{list_all, list_any, flat_map}
 use Rattle.std.specs.Ordering.{int_eq}
 use Rattle.std.specs.Str.{bytes_eq}
-use Rattle.literal_model.proofs.CompleteLaws.{Begins, value_begins, void_fits, signed_range}
+use Rattle.literal_model.proofs.CompleteLaws.{append_none, Begins, value_begins, void_fits, signed_range}
 use Rattle.uno_model.proofs.NameLaws.{there_named}
 use Rattle.literal_model.proofs.ScanBackLaws.{NumberFits, ends_run, number_back, word_back, string_back, type_back}
-use Rattle.literal_model.proofs.SpellLaws.{spells_print}
 use Rattle.literal_model.proofs.TypedLaws.{bare, any_tokens}
 use Rattle.uno_model.specs.Defaults.{items_of}
 use Rattle.uno_model.specs.Entities.{Entity, Item, Body}
@@ -22,17 +21,17 @@ use Rattle.uno_model.specs.Entities as plain
 use Rattle.uno_model.specs.Fits.{Fits, FitEach, FitAll, IsTupleKind, member_kinds}
 use Rattle.uno_model.specs.Kinds.{Kind, name_of}
 use Rattle.uno_model.specs.Kinds as kd
-use Rattle.literal_model.specs.Literals.{first_item, escaped, print}
+use Rattle.literal_model.specs.Literals.{first_item, escaped, print, object, Bracket, square, curly, Token, opens, closes, comma, number, word, string, named, cast, spell, spells, tokens_of}
+use Rattle.literal_model.specs.Literals.{tokens_in, byte_tokens, comma_tokens, item_token}
 use Rattle.uno_model.specs.Names.{is_identifier, is_entity_name, parts_of, begins_identifier, goes_on_identifier}
 use Rattle.literal_model.specs.Readings.{is_void}
 use Rattle.uno_model.specs.Registry.{find_entity, all_members}
-use Rattle.literal_model.specs.Shapes.{Bracket, square, curly, Token, opens, closes, comma, number, word, string, named, cast, spell, spells, is_some_name}
+use Rattle.literal_model.specs.Shapes.{is_some_name}
 use Rattle.literal_model.specs.Shapes.{is_first_name, is_own_word, is_known_word, is_word, on_ok, is_name_byte, type_at, cast_of, string_at, value_at, Awaited, value}
 use Rattle.literal_model.specs.Shapes.{element, separator, behind_cast, behind, opened, separator_at, element_at, token_at, Placed, is_whole, tokens_at, judge}
 use Rattle.uno_model.specs.Sound.{IsSound, is_named, is_there, is_enum, is_struct, is_exception}
 use Rattle.uno_model.specs.Uses.{inner_names}
 use Rattle.uno_model.specs.Sound.{is_interface, kind_known, elements_plain, is_namable, is_some_list, has_member}
-use Rattle.literal_model.specs.Tokens.{tokens_of, tokens_in, byte_tokens, comma_tokens, item_token}
 use Rattle.uno_model.specs.Spellable.{AreBytes, IsSpellable, AreSpellable}
 use Rattle.uno_model.specs.Types.{is_formed, is_type}
 use Rattle.uno_model.specs.Values.{Ref, null, own, peer, Plain, Plains, none, more, refs, refs_in, held}
@@ -107,6 +106,7 @@ IsToken reg (number z) = NumberFits z
 IsToken reg (word w) = IsTrue (is_word w) × IsTrue (is_known_word reg w)
 IsToken reg (named k) = IsTrue (is_type reg k)
 IsToken reg (cast k) = IsTrue (is_type reg k) × (k ≢ kd.any)
+IsToken reg (object oid face) = ⊥
 IsToken reg _ = Unit
 
 abbrev pub AreTokensOf : List Entity → List Token → Type 0
@@ -148,6 +148,7 @@ front_back reg (named k) r named_all is good follows =
     let text : (name_of k ++ 62 ∷ []) ++ r ≡ name_of k ++ 62 ∷ r = append_assoc (name_of k) (62 ∷ []) r in
     let reads : type_at reg 62 ((name_of k ++ 62 ∷ []) ++ r) ≡ Ok (k, r) = ap (type_at reg 62) text ∙ type_back reg 62 k r named_all good (kind_bytes reg k named_all (known_of reg k good)) refl in
     ap (λ m. on_ok {B = Token × List ℕ} m (λ x. Ok (named x.0, x.1))) reads
+front_back reg (object oid face) r named_all is good follows = absurd good
 front_back reg (cast k) r named_all is good follows =
     let text : (name_of k ++ 41 ∷ []) ++ r ≡ name_of k ++ 41 ∷ r = append_assoc (name_of k) (41 ∷ []) r in
     let reads : type_at reg 41 ((name_of k ++ 41 ∷ []) ++ r) ≡ Ok (k, r) = ap (type_at reg 41) text ∙ type_back reg 41 k r named_all good.0 (kind_bytes reg k named_all (known_of reg k good.0)) refl in
@@ -183,12 +184,7 @@ separator_ends [] (t ∷ ts) order = let bad : ⊥ = cc in absurd bad
 separator_ends (b ∷ outer) (comma ∷ ts) order = refl
 separator_ends (b ∷ outer) (closes square ∷ ts) order = refl
 separator_ends (b ∷ outer) (closes curly ∷ ts) order = refl
-separator_ends (b ∷ outer) (opens c ∷ ts) order = let bad : ⊥ = cc in absurd bad
-separator_ends (b ∷ outer) (number n ∷ ts) order = let bad : ⊥ = cc in absurd bad
-separator_ends (b ∷ outer) (word w ∷ ts) order = let bad : ⊥ = cc in absurd bad
-separator_ends (b ∷ outer) (string s ∷ ts) order = let bad : ⊥ = cc in absurd bad
-separator_ends (b ∷ outer) (named k ∷ ts) order = let bad : ⊥ = cc in absurd bad
-separator_ends (b ∷ outer) (cast k ∷ ts) order = let bad : ⊥ = cc in absurd bad
+separator_ends (b ∷ outer) (_ ∷ ts) order = let bad : ⊥ = cc in absurd bad
 
 follows_on : (t : Token) (outer : List Bracket) (ts : List Token) → ordered (behind t) (opened t outer) ts ≡ true → Follows t (spells ts)
 follows_on (number n) outer ts order = separator_ends outer ts order
@@ -233,26 +229,11 @@ token_back : (reg : List Entity) (awaited : Awaited) (outer : List Bracket) (t :
 token_back reg value outer t r named_all is good follows = front_back reg t r named_all is good follows
 token_back reg element outer (closes square) r named_all is good follows = refl
 token_back reg element outer (closes curly) r named_all is good follows = let bad : ⊥ = cc in absurd bad
-token_back reg element outer (opens b) r named_all is good follows = let reads = front_back reg (opens b) r named_all is good follows in
-    element_front reg (spell (opens b) ++ r) (opens b) r reads ∙ reads
-token_back reg element outer comma r named_all is good follows = let bad : ⊥ = cc in absurd bad
-token_back reg element outer (number z) r named_all is good follows = let reads = front_back reg (number z) r named_all is good follows in
-    element_front reg (spell (number z) ++ r) (number z) r reads ∙ reads
-token_back reg element outer (word w) r named_all is good follows = let reads = front_back reg (word w) r named_all is good follows in element_front reg (w ++ r) (word w) r reads ∙ reads
-token_back reg element outer (string s) r named_all is good follows = let reads = front_back reg (string s) r named_all is good follows in
-    element_front reg (spell (string s) ++ r) (string s) r reads ∙ reads
-token_back reg element outer (named k) r named_all is good follows = let reads = front_back reg (named k) r named_all is good follows in
-    element_front reg (spell (named k) ++ r) (named k) r reads ∙ reads
-token_back reg element outer (cast k) r named_all is good follows = let reads = front_back reg (cast k) r named_all is good follows in element_front reg (spell (cast k) ++ r) (cast k) r reads ∙ reads
+token_back reg element outer t r named_all is good follows = let reads = front_back reg t r named_all is good follows in element_front reg (spell t ++ r) t r reads ∙ reads
 token_back reg separator [] t r named_all is good follows = let bad : ⊥ = cc in absurd bad
 token_back reg separator (b ∷ outer) comma r named_all is good follows = refl
 token_back reg separator (b ∷ outer) (closes c) r named_all is good follows = closes_back b c outer r is
-token_back reg separator (b ∷ outer) (opens c) r named_all is good follows = let bad : ⊥ = cc in absurd bad
-token_back reg separator (b ∷ outer) (number n) r named_all is good follows = let bad : ⊥ = cc in absurd bad
-token_back reg separator (b ∷ outer) (word w) r named_all is good follows = let bad : ⊥ = cc in absurd bad
-token_back reg separator (b ∷ outer) (string s) r named_all is good follows = let bad : ⊥ = cc in absurd bad
-token_back reg separator (b ∷ outer) (named k) r named_all is good follows = let bad : ⊥ = cc in absurd bad
-token_back reg separator (b ∷ outer) (cast k) r named_all is good follows = let bad : ⊥ = cc in absurd bad
+token_back reg separator (b ∷ outer) _ r named_all is good follows = let bad : ⊥ = cc in absurd bad
 
 not_whole : (awaited : Awaited) (outer : List Bracket) (t : Token) (bytes : List ℕ) → may awaited outer t ≡ true → is_whole awaited outer bytes ≡ false
 not_whole value outer t bytes is = refl
@@ -365,7 +346,9 @@ mutual
       rw (append_assoc (tokens_in reg true vs) (closes curly ∷ []) ts) (members_order reg outer vs (member_kinds reg name) some.0 some.1 ts have some.2 fits.2 order)
   value_order reg outer (v.list t vs) k ts have fits order = rw (append_assoc (tokens_in reg true vs) (closes square ∷ []) ts) (elements_order reg outer vs t ts have fits.3 order)
   value_order reg outer (v.bytes b) k ts have fits order = rw (append_assoc (byte_tokens true b) (closes square ∷ []) ts) (all_bytes_order outer b ts order)
-  value_order reg outer (v.ref r) k ts have fits order = order
+  value_order reg outer (v.ref null) k ts have fits order = order
+  value_order reg outer (v.ref (own oid face)) k ts have fits order = order
+  value_order reg outer (v.ref (peer oid face)) k ts have fits order = order
 
   members_order : (reg : List Entity) (outer : List Bracket) (vs : Plains) (ks : List Kind) (f : Kind) (gs : List Kind) (ts : List Token)
       → HaveMembers reg → ks ≡ f ∷ gs → FitEach reg vs ks → ordered separator outer ts ≡ true
@@ -561,49 +544,53 @@ any_good reg t x true is other type fits inner =
 any_good reg t x false some other type fits inner = subst (AreTokensOf reg) (sym (any_tokens reg t x fits some)) ((type, other), inner)
 
 mutual
-  unfolding tokens_of tokens_in Fits FitEach FitAll IsSpellable AreSpellable
+  unfolding tokens_of tokens_in Fits FitEach FitAll IsSpellable AreSpellable refs refs_in
 
-  value_good : (reg : List Entity) (x : Plain) (k : Kind) → list_all is_named reg ≡ true → Fits reg x k → IsSpellable x → AreTokensOf reg (tokens_of reg x)
-  value_good reg v.void k named_all fits spellable = ((refl, refl), tt)
-  value_good reg (v.char n) k named_all fits spellable = (omega (arith, spellable), tt)
-  value_good reg (v.boolean true) k named_all fits spellable = ((refl, refl), tt)
-  value_good reg (v.boolean false) k named_all fits spellable = ((refl, refl), tt)
-  value_good reg (v.byte n) k named_all fits spellable = (range_fits w8 n (omega arith) spellable, tt)
-  value_good reg (v.short n) k named_all fits spellable = (range_fits w16 n (omega arith) spellable, tt)
-  value_good reg (v.unsigned_short n) k named_all fits spellable = (omega (arith, spellable), tt)
-  value_good reg (v.long n) k named_all fits spellable = (range_fits w32 n (omega arith) spellable, tt)
-  value_good reg (v.unsigned_long n) k named_all fits spellable = (omega (arith, spellable), tt)
-  value_good reg (v.hyper n) k named_all fits spellable = (range_fits w64 n (omega arith) spellable, tt)
-  value_good reg (v.unsigned_hyper n) k named_all fits spellable = (omega (arith, spellable), tt)
-  value_good reg (v.str s) k named_all fits spellable = (tt, tt)
-  value_good reg (v.kind t) k named_all fits spellable = (fits.1, tt)
-  value_good reg (v.any t x) k named_all fits spellable = any_good reg t x (is_void t) refl fits.1 fits.2 fits.3 (value_good reg x t named_all fits.3 spellable)
-  value_good reg (v.enum name n) k named_all fits spellable = (item_good reg name n named_all spellable, tt)
-  value_good reg (v.tuple name vs) k named_all fits spellable = (
+  value_good : (reg : List Entity) (x : Plain) (k : Kind) → list_all is_named reg ≡ true → Fits reg x k → refs x ≡ [] → IsSpellable x → AreTokensOf reg (tokens_of reg x)
+  value_good reg v.void k named_all fits closed spellable = ((refl, refl), tt)
+  value_good reg (v.char n) k named_all fits closed spellable = (omega (arith, spellable), tt)
+  value_good reg (v.boolean true) k named_all fits closed spellable = ((refl, refl), tt)
+  value_good reg (v.boolean false) k named_all fits closed spellable = ((refl, refl), tt)
+  value_good reg (v.byte n) k named_all fits closed spellable = (range_fits w8 n (omega arith) spellable, tt)
+  value_good reg (v.short n) k named_all fits closed spellable = (range_fits w16 n (omega arith) spellable, tt)
+  value_good reg (v.unsigned_short n) k named_all fits closed spellable = (omega (arith, spellable), tt)
+  value_good reg (v.long n) k named_all fits closed spellable = (range_fits w32 n (omega arith) spellable, tt)
+  value_good reg (v.unsigned_long n) k named_all fits closed spellable = (omega (arith, spellable), tt)
+  value_good reg (v.hyper n) k named_all fits closed spellable = (range_fits w64 n (omega arith) spellable, tt)
+  value_good reg (v.unsigned_hyper n) k named_all fits closed spellable = (omega (arith, spellable), tt)
+  value_good reg (v.str s) k named_all fits closed spellable = (tt, tt)
+  value_good reg (v.kind t) k named_all fits closed spellable = (fits.1, tt)
+  value_good reg (v.any t x) k named_all fits closed spellable = any_good reg t x (is_void t) refl fits.1 fits.2 fits.3 (value_good reg x t named_all fits.3 closed spellable)
+  value_good reg (v.enum name n) k named_all fits closed spellable = (item_good reg name n named_all spellable, tt)
+  value_good reg (v.tuple name vs) k named_all fits closed spellable = (
     tt,
-    tokens_append reg (tokens_in reg true vs) (closes curly ∷ []) (members_good reg true vs (member_kinds reg name) named_all fits.2 spellable)
+    tokens_append reg (tokens_in reg true vs) (closes curly ∷ []) (members_good reg true vs (member_kinds reg name) named_all fits.2 closed spellable)
         (tt, tt),
   )
-  value_good reg (v.list t vs) k named_all fits spellable = (tt, tokens_append reg (tokens_in reg true vs) (closes square ∷ []) (elements_good reg true vs t named_all fits.3 spellable) (tt, tt))
-  value_good reg (v.bytes b) k named_all fits spellable = (tt, tokens_append reg (byte_tokens true b) (closes square ∷ []) (bytes_good reg true b spellable) (tt, tt))
-  value_good reg (v.ref r) k named_all fits spellable = ((refl, refl), tt)
+  value_good reg (v.list t vs) k named_all fits closed spellable = (tt, tokens_append reg (tokens_in reg true vs) (closes square ∷ []) (elements_good reg true vs t named_all fits.3 closed spellable) (tt, tt))
+  value_good reg (v.bytes b) k named_all fits closed spellable = (tt, tokens_append reg (byte_tokens true b) (closes square ∷ []) (bytes_good reg true b spellable) (tt, tt))
+  value_good reg (v.ref null) k named_all fits closed spellable = ((refl, refl), tt)
+  value_good reg (v.ref (own oid face)) k named_all fits closed spellable = let bad : ⊥ = cc in absurd bad
+  value_good reg (v.ref (peer oid face)) k named_all fits closed spellable = let bad : ⊥ = cc in absurd bad
 
-  members_good : (reg : List Entity) (is_first : Bool) (vs : Plains) (ks : List Kind) → list_all is_named reg ≡ true → FitEach reg vs ks → AreSpellable vs
+  members_good : (reg : List Entity) (is_first : Bool) (vs : Plains) (ks : List Kind) → list_all is_named reg ≡ true → FitEach reg vs ks → refs_in vs ≡ [] → AreSpellable vs
       → AreTokensOf reg (tokens_in reg is_first vs)
-  members_good reg is_first none ks named_all fits spellable = tt
-  members_good reg is_first (more x vs) [] named_all fits spellable = absurd fits
-  members_good reg is_first (more x vs) (k ∷ ks) named_all fits spellable =
+  members_good reg is_first none ks named_all fits closed spellable = tt
+  members_good reg is_first (more x vs) [] named_all fits closed spellable = absurd fits
+  members_good reg is_first (more x vs) (k ∷ ks) named_all fits closed spellable =
+      let parts = append_none (refs x) (refs_in vs) closed in
       tokens_append reg (comma_tokens is_first) _ (comma_good reg is_first)
-      (tokens_append reg (tokens_of reg x) _ (value_good reg x k named_all fits.0 spellable.0)
-      (members_good reg false vs ks named_all fits.1 spellable.1))
+      (tokens_append reg (tokens_of reg x) _ (value_good reg x k named_all fits.0 parts.0 spellable.0)
+      (members_good reg false vs ks named_all fits.1 parts.1 spellable.1))
 
-  elements_good : (reg : List Entity) (is_first : Bool) (vs : Plains) (k : Kind) → list_all is_named reg ≡ true → FitAll reg vs k → AreSpellable vs
+  elements_good : (reg : List Entity) (is_first : Bool) (vs : Plains) (k : Kind) → list_all is_named reg ≡ true → FitAll reg vs k → refs_in vs ≡ [] → AreSpellable vs
       → AreTokensOf reg (tokens_in reg is_first vs)
-  elements_good reg is_first none k named_all fits spellable = tt
-  elements_good reg is_first (more x vs) k named_all fits spellable =
+  elements_good reg is_first none k named_all fits closed spellable = tt
+  elements_good reg is_first (more x vs) k named_all fits closed spellable =
+      let parts = append_none (refs x) (refs_in vs) closed in
       tokens_append reg (comma_tokens is_first) _ (comma_good reg is_first)
-      (tokens_append reg (tokens_of reg x) _ (value_good reg x k named_all fits.0 spellable.0)
-      (elements_good reg false vs k named_all fits.1 spellable.1))
+      (tokens_append reg (tokens_of reg x) _ (value_good reg x k named_all fits.0 parts.0 spellable.0)
+      (elements_good reg false vs k named_all fits.1 parts.1 spellable.1))
 
 -- ---- the whole text
 
@@ -620,6 +607,7 @@ token_spelled reg (word (c ∷ cs)) good = omega arith
 token_spelled reg (string s) good = omega arith
 token_spelled reg (named k) good = omega arith
 token_spelled reg (cast k) good = omega arith
+token_spelled reg (object oid face) good = absurd good
 
 no_more_tokens : (reg : List Entity) (ts : List Token) → AreTokensOf reg ts → length ts ≤ length (spells ts)
 no_more_tokens reg [] good = omega arith
@@ -634,8 +622,8 @@ pub literal_tokens : (reg : List Entity) (x : Plain) (k : Kind) → IsSound reg 
     → (ps : List Placed) × (bare ps ≡ tokens_of reg x) × (judge reg (print reg x) ≡ Ok ps)
 unfolding ordered
 literal_tokens reg x k sound fits closed spellable =
-    let good = value_good reg x k sound.named fits spellable in
+    let good = value_good reg x k sound.named fits closed spellable in
     let order : ordered value [] (tokens_of reg x) ≡ true = subst (λ us. ordered value [] us ≡ true) (append-nil (tokens_of reg x)) (value_order reg [] x k [] (sound_members reg sound) fits refl) in
     let few = no_more_tokens reg (tokens_of reg x) good in
     let at = tokens_back (suc (length (spells (tokens_of reg x)))) reg value [] (tokens_of reg x) sound.named (omega (arith, few)) order good in
-    (at.0, at.1, ap (judge reg) (sym (spells_print reg x closed)) ∙ at.2)
+    at

@@ -13,13 +13,13 @@ use Rattle.uno_model.specs.Entities.{Entity, Item}
 use Rattle.uno_model.specs.Fits.{Fits, FitEach, FitAll, IsTupleKind, member_kinds}
 use Rattle.uno_model.specs.Kinds.{Kind}
 use Rattle.uno_model.specs.Kinds as kd
-use Rattle.literal_model.specs.Literals.{first_item}
+use Rattle.literal_model.specs.Literals.{first_item, Token, opens, closes, comma, number, word, string, named, cast, square, curly, tokens_of, tokens_in, byte_tokens, comma_tokens}
+use Rattle.literal_model.specs.Literals.{item_token}
 use Rattle.literal_model.specs.Readings.{Fault, deep, misfit, Reads, left_at, number_in, word_in, string_in, named_in, cast_in, and_then, unsigned_of, signed_of, truth_of, word_as, number_named}
 use Rattle.literal_model.specs.Readings.{item_in, none_of_number, some_as, single, only_token, is_comma, opens_square, opens_curly, closes_square, closes_curly, expect, with_first, behind_element}
 use Rattle.literal_model.specs.Readings.{elements_on, elements_in, sequence_of, comma_at, members_on, tuple_of, is_void, any_of, bits_of, map_option, byte_in, value_step, value_within}
 use Rattle.uno_model.specs.Registry.{find_entity}
-use Rattle.literal_model.specs.Shapes.{Token, opens, closes, comma, number, word, string, named, cast, square, curly, Placed, on_ok, is_some_name}
-use Rattle.literal_model.specs.Tokens.{tokens_of, tokens_in, byte_tokens, comma_tokens, item_token}
+use Rattle.literal_model.specs.Shapes.{Placed, on_ok, is_some_name}
 use Rattle.uno_model.specs.Types.{is_type}
 use Rattle.uno_model.specs.Values.{null, Plain, Plains, plains, none, more, refs, refs_in}
 use Rattle.uno_model.specs.Values as v

@@ -5,15 +5,13 @@ use Rattle.std.specs.List.{list_all}
 use Rattle.literal_model.proofs.ScanLaws.{AreTokens, tokens_sound}
 use Rattle.literal_model.proofs.CompleteLaws.{Comes, within_comes}
 use Rattle.literal_model.proofs.ShapeLaws.{literal_tokens}
-use Rattle.literal_model.proofs.SpellLaws.{spells_print}
 use Rattle.literal_model.proofs.TypedLaws.{bare, within_sound}
 use Rattle.uno_model.specs.Entities.{Entity}
 use Rattle.uno_model.specs.Kinds.{Kind}
-use Rattle.literal_model.specs.Literals.{IsLiteral, print}
+use Rattle.literal_model.specs.Literals.{IsLiteral, print, spells, tokens_of}
 use Rattle.literal_model.specs.Readings.{Fault, deep, misfit, value_within}
-use Rattle.literal_model.specs.Shapes.{Placed, value, judge, spells}
+use Rattle.literal_model.specs.Shapes.{Placed, value, judge}
 use Rattle.uno_model.specs.Sound.{IsSound, is_named}
-use Rattle.literal_model.specs.Tokens.{tokens_of}
 use Rattle.uno_model.specs.Spellable.{IsSpellable}
 use Rattle.uno_model.specs.Values.{Plain}
 use Rattle.literal_model.specs.Verdicts.{Wrong, too_deep, bad, wrong_type, deepest, whole_verdict, of_reading, verdict}
@@ -29,7 +27,7 @@ found_is_literal reg k text v named_all e = by_judgement (judge reg text) refl
     by_rest ps x [] are read says =
         let same : x ≡ v = cc in
         let is = within_sound deepest reg k ps [] x are.typed read in
-        let whole : text ≡ print reg x = are.spelled ∙ ap spells (is.spelled ∙ append-nil (tokens_of reg x)) ∙ spells_print reg x is.closed in
+        let whole : text ≡ print reg x = are.spelled ∙ ap spells (is.spelled ∙ append-nil (tokens_of reg x)) in
         subst (λ y. IsLiteral reg k text y) same (record { fits = is.fits; closed = is.closed; printed = whole })
     by_rest ps x (p ∷ rest) are read says = absurd (wrong_or_right (wrong_type (length text - p.left)) v says)
 

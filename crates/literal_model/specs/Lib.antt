@@ -1,5 +1,4 @@
 pub mod Literals
 pub mod Readings
 pub mod Shapes
-pub mod Tokens
 pub mod Verdicts

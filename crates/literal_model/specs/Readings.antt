@@ -8,9 +8,9 @@ use Rattle.uno_model.specs.Entities.{Entity, Item}
 use Rattle.uno_model.specs.Fits.{member_kinds}
 use Rattle.uno_model.specs.Kinds.{Kind}
 use Rattle.uno_model.specs.Kinds as kd
-use Rattle.literal_model.specs.Literals.{first_item}
+use Rattle.literal_model.specs.Literals.{first_item, Token, opens, closes, comma, number, word, string, named, cast, square, curly}
 use Rattle.uno_model.specs.Registry.{find_entity}
-use Rattle.literal_model.specs.Shapes.{Token, opens, closes, comma, number, word, string, named, cast, square, curly, Placed, on_ok, is_some_name}
+use Rattle.literal_model.specs.Shapes.{Placed, on_ok, is_some_name}
 use Rattle.uno_model.specs.Types.{is_type}
 use Rattle.uno_model.specs.Values.{null, Plain, Plains, plains}
 use Rattle.uno_model.specs.Values as v

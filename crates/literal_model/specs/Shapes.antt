@@ -1,48 +1,15 @@
 -- The tokens of a literal's text, the order in which they stand, and the verdict on a text before its type is asked.
 use Rattle.std.specs.Prelude.{ℕ, zero, suc, ◌+◌, ◌-◌, ◌*◌, ◌^◌, ℤ, pos, negsuc, Bool, true, false, ◌==◌, ◌&&◌, ◌||◌, nat_le}
-use Rattle.std.specs.Prelude.{List, [], ◌∷◌, ◌++◌, length, take, drop, slice_index, is_none, Option, None, Some, Result, Ok, Err, codes, if◌then◌else◌}
-use Rattle.std.specs.Fmt.{signed_decimal}
-use Rattle.std.specs.List.{list_all, list_any, flat_map}
+use Rattle.std.specs.Prelude.{List, [], ◌∷◌, length, take, drop, slice_index, is_none, Option, None, Some, Result, Ok, Err, codes, if◌then◌else◌}
+use Rattle.std.specs.List.{list_all, list_any}
 use Rattle.std.specs.Str.{bytes_eq}
 use Rattle.uno_model.specs.Defaults.{items_of}
 use Rattle.uno_model.specs.Entities.{Entity, Item}
 use Rattle.uno_model.specs.Kinds.{Kind, name_of}
 use Rattle.uno_model.specs.Kinds as kd
-use Rattle.literal_model.specs.Literals.{quoted, first_item}
+use Rattle.literal_model.specs.Literals.{Bracket, square, curly, Token, opens, closes, comma, number, word, string, named, cast, object, first_item}
 use Rattle.uno_model.specs.NamedTypes.{type_of_text}
 use Rattle.uno_model.specs.Names.{begins_identifier, goes_on_identifier}
-
--- ---- tokens and their spelling
-
-pub data Bracket : Type 0 where
-  square : Bracket
-  curly : Bracket
-
--- a bracket, a comma, a number, a word, a quoted text, a type, or a type that stands before a value of it
-pub data Token : Type 0 where
-  opens : Bracket → Token
-  closes : Bracket → Token
-  comma : Token
-  number : ℤ → Token
-  word : List ℕ → Token
-  string : List ℕ → Token
-  named : Kind → Token
-  cast : Kind → Token
-
-abbrev pub spell : Token → List ℕ
-spell (opens square) = codes "["
-spell (opens curly) = codes "{"
-spell (closes square) = codes "]"
-spell (closes curly) = codes "}"
-spell comma = codes ","
-spell (number n) = signed_decimal n
-spell (word w) = w
-spell (string s) = quoted s
-spell (named k) = codes "<" ++ (name_of k ++ codes ">")
-spell (cast k) = codes "(" ++ (name_of k ++ codes ")")
-
-abbrev pub spells : List Token → List ℕ
-spells ts = flat_map spell ts
 
 -- ---- which tokens there are in a registry
 
@@ -233,6 +200,7 @@ behind (word w) = separator
 behind (string s) = separator
 behind (named k) = separator
 behind (cast k) = behind_cast k
+behind (object oid face) = separator
 
 -- the brackets that are open behind a token, the innermost first
 abbrev pub opened : Token → List Bracket → List Bracket

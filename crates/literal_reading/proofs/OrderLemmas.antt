@@ -3,7 +3,8 @@ use Rattle.std.proofs.Common.{◌≡◌, ℕ, zero, suc, ◌<◌, ◌-◌, true,
 use Rattle.std.specs.Result.{IsErrAnd}
 use Rattle.std.proofs.lemmas.List.{append_assoc, append-nil}
 use Rattle.uno_model.specs.Entities.{Entity}
-use Rattle.literal_model.specs.Shapes.{Awaited, Bracket, Token, Placed, token_at, tokens_at, with_token, is_whole, behind, opened}
+use Rattle.literal_model.specs.Literals.{Bracket, Token}
+use Rattle.literal_model.specs.Shapes.{Awaited, Placed, token_at, tokens_at, with_token, is_whole, behind, opened}
 use Rattle.literal_reading.specs.Scanning.{StoppedBy, Scans, with_tokens}
 use Rattle.literal_reading.specs.declared.stop.Stop.{Stop}
 use Rattle.literal_reading.specs.declared.stop.Stop.TheVariants as stop

@@ -1,7 +1,8 @@
 -- Tokens as plain data, and what a scan gives: what the verdict gives, unless memory ran out.
 use Rattle.std.specs.Prelude.{◌≡◌, ℕ, ◌++◌, Bool, List, map, reverse, Result, Ok, Err}
 use Rattle.uno_model.specs.Names.{goes_on_identifier}
-use Rattle.literal_model.specs.Shapes as plain
+use Rattle.literal_model.specs.Literals as plain
+use Rattle.literal_model.specs.Shapes as shape
 use Rattle.uno_entities.specs.TypeNames.{kind_of}
 use Rattle.literal_reading.specs.declared.stop.Stop.{Stop}
 use Rattle.literal_reading.specs.declared.stop.Stop.TheVariants as stop
@@ -29,16 +30,16 @@ token_of (token.String s) = plain.string s
 token_of (token.Named k) = plain.named (kind_of k)
 token_of (token.Cast k) = plain.cast (kind_of k)
 
-abbrev pub placed_of : Placed → plain.Placed
+abbrev pub placed_of : Placed → shape.Placed
 placed_of p = record { left = p.left; token = token_of p.token }
 
-abbrev pub all_placed : List Placed → List plain.Placed
+abbrev pub all_placed : List Placed → List shape.Placed
 all_placed = map placed_of
 
-abbrev pub awaited_of : Awaited → plain.Awaited
-awaited_of awaited.Value = plain.value
-awaited_of awaited.Element = plain.element
-awaited_of awaited.Separator = plain.separator
+abbrev pub awaited_of : Awaited → shape.Awaited
+awaited_of awaited.Value = shape.value
+awaited_of awaited.Element = shape.element
+awaited_of awaited.Separator = shape.separator
 
 -- brackets with the innermost last, as a list with the innermost first
 abbrev pub outer_of : List Bracket → List plain.Bracket
@@ -47,10 +48,10 @@ outer_of outer = map bracket_of (reverse outer)
 -- the bytes of a run
 abbrev pub test_of : Run → ℕ → Bool
 test_of run.Word = goes_on_identifier
-test_of run.Name = plain.is_name_byte
+test_of run.Name = shape.is_name_byte
 
 -- tokens in front of those that are read
-abbrev pub with_tokens : List plain.Placed → Result (List plain.Placed) ℕ → Result (List plain.Placed) ℕ
+abbrev pub with_tokens : List shape.Placed → Result (List shape.Placed) ℕ → Result (List shape.Placed) ℕ
 with_tokens xs (Ok ps) = Ok (xs ++ ps)
 with_tokens xs (Err left) = Err left
 

@@ -6,7 +6,8 @@ use Rattle.uno_model.specs.Kinds.{Kind}
 use Rattle.uno_model.specs.Kinds as kd
 use Rattle.literal_model.specs.Readings.{Fault, misfit, some_as, and_then, number_in, unsigned_of, signed_of}
 use Rattle.literal_model.specs.Readings.{is_comma, opens_square, closes_square, opens_curly, closes_curly}
-use Rattle.literal_model.specs.Shapes.{Token, Placed}
+use Rattle.literal_model.specs.Literals.{Token}
+use Rattle.literal_model.specs.Shapes.{Placed}
 use Rattle.uno_model.specs.Values.{Plain}
 use Rattle.uno_model.specs.Values as v
 use Rattle.uno_types.specs.Members.{fields_at}

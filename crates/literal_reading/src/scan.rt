@@ -1,7 +1,8 @@
 //! The front of a value in a text: a token, and the text behind it.
 ghost use Rattle.std.specs.Prelude.{◌≡◌, ◌≤◌, ◌^◌, length};
 ghost use Rattle.uno_model.specs.Names.{begins_identifier};
-ghost use Rattle.literal_model.specs.Shapes.{value_at, number_at, word_at, type_at, string_at, cast_of, is_known_word, on_ok, string, named, cast};
+ghost use Rattle.literal_model.specs.Literals.{string, named, cast};
+ghost use Rattle.literal_model.specs.Shapes.{value_at, number_at, word_at, type_at, string_at, cast_of, is_known_word, on_ok};
 ghost use Rattle.uno_model.specs.Sound.{IsSound};
 ghost use Rattle.uno_entities.specs.TypeNames.{kind_of};
 ghost use Rattle.literal_reading.specs.Scanning.{Scans, token_of, test_of};

@@ -1,49 +1,31 @@
--- Texts joined by commas, one after the other.
-use Rattle.std.proofs.Common.{◌≡◌, ◌≢◌, suc, arith, ◌<◌, ◌≤◌, ◌+◌, length, drop, get_or, Bool, true, false, List, [], ◌∷◌, ◌++◌, ℕ, refl, sym, ap, ◌∙◌, codes}
+-- Tokens that are spelled one after the other, and characters that are escaped.
+use Rattle.std.proofs.Common.{◌≡◌, ◌≢◌, ◌<◌, ◌≤◌, ◌+◌, ℕ, suc, length, drop, get_or, Bool, false, List, [], ◌∷◌, ◌++◌, refl, sym, ap, ◌∙◌, arith}
 use Rattle.std.proofs.lemmas.Bool.{ne_eqb}
+use Rattle.std.proofs.lemmas.List.{append-nil, append_assoc, drop_more, drop_all}
 use Rattle.std.proofs.lemmas.Str.{inside_one}
 use Rattle.std.specs.Char.{encode_utf8}
 use Rattle.std.specs.List.{flat_map}
-use Rattle.std.proofs.lemmas.List.{append-nil, append_assoc, drop_more, drop_all}
-use Rattle.literal_model.specs.Literals.{escaped, joined}
-use Rattle.value_text.specs.Printing.{comma_before}
+use Rattle.literal_model.specs.Literals.{Token, comma_tokens, escaped, spell, spells}
 
--- what is left of texts that are joined, where the next is the first or another
-unfoldable pub joined_on : Bool → List (List ℕ) → List ℕ
-joined_on is_first [] = []
-joined_on is_first (t ∷ ts) = comma_before is_first ++ (t ++ joined_on false ts)
+pub spells_append : (xs ys : List Token) → spells (xs ++ ys) ≡ spells xs ++ spells ys
+spells_append [] ys = refl
+spells_append (x ∷ xs) ys = ap (λ t. spell x ++ t) (spells_append xs ys) ∙ sym (append_assoc (spell x) (spells xs) (spells ys))
 
-pub joined_on_all : (ts : List (List ℕ)) → joined_on true ts ≡ joined ts
-unfolding joined joined_on
-joined_on_all [] = refl
-joined_on_all (t ∷ ts) = first t ts
-  where
-    first : (t : List ℕ) (us : List (List ℕ)) → t ++ joined_on false us ≡ joined (t ∷ us)
-    first t [] = append-nil t
-    first t (u ∷ us) = rw (append_assoc t (codes ",")) (ap (λ rest. t ++ 44 ∷ rest) (first u us))
+-- the tokens of a list, from an element on: f gives those of elements, and g those of one
+module _ {X : Type 0} (f : Bool → List X → List Token) (g : X → List Token) (xs : List X) (i : ℕ) (is_first : Bool) where
+  -- one more is written
+  pub one_written : (x : X) (a b c d : List ℕ) → ((b : Bool) (y : X) (ys : List X) → f b (y ∷ ys) ≡ comma_tokens b ++ (g y ++ f false ys)) → i < length xs → x ≡ get_or xs i x
+      → a ++ spells (f is_first (drop i xs)) ≡ d → b ≡ a ++ spells (comma_tokens is_first) → c ≡ b ++ spells (g x) → c ++ spells (f false (drop (i + 1) xs)) ≡ d
+  one_written x a b c d more within read all comma text =
+      let left : drop i xs ≡ x ∷ drop (i + 1) xs = drop_more xs i x within ∙ ap (λ y. y ∷ drop (i + 1) xs) (sym read) in
+      let tokens : f is_first (drop i xs) ≡ comma_tokens is_first ++ (g x ++ f false (drop (i + 1) xs)) = ap (f is_first) left ∙ more is_first x (drop (i + 1) xs) in
+      let spelled : spells (f is_first (drop i xs)) ≡ spells (comma_tokens is_first) ++ (spells (g x) ++ spells (f false (drop (i + 1) xs))) =
+      ap spells tokens ∙ spells_append (comma_tokens is_first) (g x ++ f false (drop (i + 1) xs)) ∙ ap (λ t. spells (comma_tokens is_first) ++ t) (spells_append (g x) (f false (drop (i + 1) xs))) in
+      rw (text, comma, append_assoc (a ++ spells (comma_tokens is_first)) (spells (g x)) (spells (f false (drop (i + 1) xs))))
+      (append_assoc a (spells (comma_tokens is_first)) _ ∙ ap (λ t. a ++ t) (sym spelled) ∙ all)
 
-pub joined_on_none : (is_first : Bool) → joined_on is_first [] ≡ []
-unfolding joined_on
-joined_on_none is_first = refl
-
--- one more is written
-pub joins_on : (is_first : Bool) (t : List ℕ) (ts : List (List ℕ)) (a b c d : List ℕ) → a ++ joined_on is_first (t ∷ ts) ≡ d
-    → b ≡ a ++ comma_before is_first → c ≡ b ++ t → c ++ joined_on false ts ≡ d
-unfolding joined_on
-joins_on is_first t ts a b c d all comma text = rw (text, comma, append_assoc (a ++ comma_before is_first) t (joined_on false ts), append_assoc a (comma_before is_first) (t ++ joined_on false ts)) all
-
--- the same over what is left of a list
-pub joins_next : {X : Type 0} (f : List X → List (List ℕ)) (g : X → List ℕ) (xs : List X) (i : ℕ) (x : X) (is_first : Bool) (a b c d : List ℕ)
-    → ((y : X) (ys : List X) → f (y ∷ ys) ≡ g y ∷ f ys)
-    → i < length xs → x ≡ get_or xs i x → a ++ joined_on is_first (f (drop i xs)) ≡ d → b ≡ a ++ comma_before is_first → c ≡ b ++ g x → c ++ joined_on false (f (drop (i + 1) xs)) ≡ d
-joins_next f g xs i x is_first a b c d more within read all comma text =
-    let left : drop i xs ≡ x ∷ drop (i + 1) xs = drop_more xs i x within ∙ ap (λ y. y ∷ drop (i + 1) xs) (sym read) in
-    let next : a ++ joined_on is_first (g x ∷ f (drop (i + 1) xs)) ≡ d = rw (left, more x (drop (i + 1) xs)) at all in
-    joins_on is_first (g x) (f (drop (i + 1) xs)) a b c d next comma text
-
-pub joins_all : {X : Type 0} (f : List X → List (List ℕ)) (xs : List X) (i : ℕ) (is_first : Bool) (a d : List ℕ) → f [] ≡ [] → length xs ≤ i
-    → a ++ joined_on is_first (f (drop i xs)) ≡ d → a ≡ d
-joins_all f xs i is_first a d none past all = sym (append-nil a) ∙ ap (λ t. a ++ t) (sym (joined_on_none is_first)) ∙ ap (λ ts. a ++ joined_on is_first ts) (sym none) ∙ ap (λ ys. a ++ joined_on is_first (f ys)) (sym (drop_all i xs past)) ∙ all
+  pub all_written : (a d : List ℕ) → f is_first [] ≡ [] → length xs ≤ i → a ++ spells (f is_first (drop i xs)) ≡ d → a ≡ d
+  all_written a d none past all = sym (append-nil a) ∙ ap (λ ts. a ++ spells ts) (sym none ∙ ap (f is_first) (sym (drop_all i xs past))) ∙ all
 
 -- bytes of which none is escaped
 unescaped : (bs : List ℕ) → ((k : ℕ) → k < length bs → (get_or bs k 0 ≢ 34) × (get_or bs k 0 ≢ 92) × (get_or bs k 0 ≢ 10)) → flat_map escaped bs ≡ bs

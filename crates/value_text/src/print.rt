@@ -1,5 +1,5 @@
 //! The text of a value.
-ghost use Rattle.std.specs.Prelude.{◌≡◌, ◌++◌, map, IfOk, OnOk, codes};
+ghost use Rattle.std.specs.Prelude.{◌≡◌, ◌++◌, true, IfOk, OnOk, codes};
 ghost use Rattle.std.specs.List.{flat_map};
 ghost use Rattle.std.specs.Char.{encode_utf8};
 ghost use Rattle.std.specs.Fmt.{decimal, signed_decimal};
@@ -7,13 +7,12 @@ ghost use Rattle.std.specs.Str.{IsUtf8};
 ghost use Rattle.std.specs.String.{string_bytes};
 ghost use Rattle.uno_model.specs.Defaults.{items_of};
 ghost use Rattle.uno_model.specs.Kinds.{name_of};
-ghost use Rattle.literal_model.specs.Literals.{print, print_each, joined, quoted, escaped, first_item, item_text, byte_text, ref_text};
+ghost use Rattle.literal_model.specs.Literals.{print, spell, spells, tokens_of, tokens_in, byte_tokens, comma_tokens, ref_token, item_token, quoted, escaped, first_item};
 ghost use Rattle.uno_model.specs.Registry.{find_entity};
 ghost use Rattle.uno_model.specs.Values as plain;
 ghost use Rattle.uno_entities.specs.TypeNames.{kind_of};
 ghost use Rattle.uno_values.specs.References.{ref_of};
 ghost use Rattle.uno_values.specs.Values.{plain_of, plains_of, any_of};
-ghost use Rattle.value_text.specs.Printing.{comma_before};
 
 use literal_reading::{first_item, items_of};
 use std::alloc::Global;
@@ -33,7 +32,7 @@ pub fn print_value(alloc: Global, registry: &Registry, value: &Value) -> Result<
 
 /// As deep as the value is nested.
 #[cycle(print)]
-#[tactic(auto, unfolding(literal_model::specs::Literals::print))]
+#[tactic(auto, using(crate::proofs::PrintLemmas::spells_append), unfolding(literal_model::specs::Literals::tokens_of))]
 fn push_value(
     alloc: Global,
     text: &mut String,
@@ -67,7 +66,7 @@ fn push_value(
 
 /// The type in brackets, and behind it the value; void has none.
 #[cycle(print)]
-#[tactic(auto, unfolding(literal_model::specs::Literals::print))]
+#[tactic(auto, using(crate::proofs::PrintLemmas::spells_append), unfolding(literal_model::specs::Literals::tokens_of))]
 fn push_any(
     alloc: Global,
     text: &mut String,
@@ -93,7 +92,7 @@ fn push_list(
     front: &str,
     back: &str,
 ) -> Result<(), NoMemory>
-    ensures { OnOk result (string_bytes text.new ≡ string_bytes text.old ++ (front.now ++ (joined (print_each registry.now (plains_of values.now)) ++ back.now))) }
+    ensures { OnOk result (string_bytes text.new ≡ string_bytes text.old ++ (front.now ++ (spells (tokens_in registry.now true (plains_of values.now)) ++ back.now))) }
 {
     push_text(text, front)?;
     push_all(alloc, text, registry, values)?;
@@ -107,7 +106,7 @@ fn push_all(
     registry: &Registry,
     values: &[Value],
 ) -> Result<(), NoMemory>
-    ensures { OnOk result (string_bytes text.new ≡ string_bytes text.old ++ joined (print_each registry.now (plains_of values.now))) }
+    ensures { OnOk result (string_bytes text.new ≡ string_bytes text.old ++ spells (tokens_in registry.now true (plains_of values.now))) }
 {
     let mut is_first = true;
     for value in values {
@@ -120,7 +119,7 @@ fn push_all(
 
 /// The comma before a value that is not the first.
 fn push_comma(text: &mut String, is_first: bool) -> Result<(), NoMemory>
-    ensures { OnOk result (string_bytes text.new ≡ string_bytes text.old ++ comma_before is_first) }
+    ensures { OnOk result (string_bytes text.new ≡ string_bytes text.old ++ spells (comma_tokens is_first)) }
 {
     if is_first {
         return Ok(());
@@ -211,7 +210,7 @@ fn push_item(
     name: &str,
     number: i32,
 ) -> Result<(), NoMemory>
-    ensures { OnOk result (string_bytes text.new ≡ string_bytes text.old ++ item_text (first_item (items_of (find_entity name.now registry.now)) number) number) }
+    ensures { OnOk result (string_bytes text.new ≡ string_bytes text.old ++ spell (item_token (first_item (items_of (find_entity name.now registry.now)) number) number)) }
 {
     let items = items_of(registry, name);
     match first_item(items, number) {
@@ -222,7 +221,7 @@ fn push_item(
 
 /// The elements of a sequence of bytes, each as a signed number.
 fn push_bytes(alloc: Global, text: &mut String, bytes: &[u8]) -> Result<(), NoMemory>
-    ensures { OnOk result (string_bytes text.new ≡ string_bytes text.old ++ (codes "[" ++ (joined (map byte_text bytes.now) ++ codes "]"))) }
+    ensures { OnOk result (string_bytes text.new ≡ string_bytes text.old ++ (codes "[" ++ (spells (byte_tokens true bytes.now) ++ codes "]"))) }
 {
     push_text(text, "[")?;
     push_numbers(alloc, text, bytes)?;
@@ -230,7 +229,7 @@ fn push_bytes(alloc: Global, text: &mut String, bytes: &[u8]) -> Result<(), NoMe
 }
 
 fn push_numbers(alloc: Global, text: &mut String, bytes: &[u8]) -> Result<(), NoMemory>
-    ensures { OnOk result (string_bytes text.new ≡ string_bytes text.old ++ joined (map byte_text bytes.now)) }
+    ensures { OnOk result (string_bytes text.new ≡ string_bytes text.old ++ spells (byte_tokens true bytes.now)) }
 {
     let mut is_first = true;
     for byte in bytes {
@@ -242,7 +241,7 @@ fn push_numbers(alloc: Global, text: &mut String, bytes: &[u8]) -> Result<(), No
 }
 
 fn push_reference(text: &mut String, reference: &Reference) -> Result<(), NoMemory>
-    ensures { OnOk result (string_bytes text.new ≡ string_bytes text.old ++ ref_text (ref_of reference.now)) }
+    ensures { OnOk result (string_bytes text.new ≡ string_bytes text.old ++ spell (ref_token (ref_of reference.now))) }
 {
     match reference {
         Reference::Null => push_text(text, "null"),
