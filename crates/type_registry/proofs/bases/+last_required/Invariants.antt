@@ -1,5 +1,5 @@
 use Rattle.std.specs.Prelude.{length}
-use Rattle.type_registry.proofs.numbered.+last_required.Given as goal
+use Rattle.type_registry.proofs.bases.+last_required.Given as goal
 
 abbrev pub decreases-last_required : goal.decreases-last_required
 decreases-last_required l = length l.bases.now
