@@ -1,12 +1,12 @@
 -- Tasks that are done from the last to the first.
-use Rattle.std.proofs.Common.{◌≡◌, ℕ, zero, Bool, None, Some, append-nil, suc, ◌+◌, ◌<◌, List, [], ◌∷◌, ◌++◌, length, map, reverse, true, false, refl, ap, sym, ◌∙◌, arith}
+use Rattle.std.proofs.Common.{◌≡◌, ℕ, zero, append-nil, append_assoc, suc, ◌+◌, ◌<◌, List, [], ◌∷◌, ◌++◌, length, map, reverse, true, false, refl, ap, sym, ◌∙◌, arith}
 use Rattle.std.proofs.lemmas.List.{map-append, reverse-append}
-use Rattle.uno_model.specs.Entities.{Entity, Body, interface, struct, exception}
+use Rattle.uno_model.specs.Entities.{Entity}
 use Rattle.uno_model.specs.Functions.{met_within, visit_all, is_met}
-use Rattle.uno_model.specs.Registry.{find_entity, stands_on, stands_on_body}
+use Rattle.uno_model.specs.Registry.{stands_on}
 use Rattle.uno_model.proofs.VisitLaws.{Extends, extends_on, met_extends}
 use Rattle.type_registry.specs.declared.walk.Task.{Task}
-use Rattle.type_registry.specs.Tasks.{tasks_of, doing_of, bases_in, Doing, visit, leave, do_one, done, visits, sum_with, cost_within, cost, costs}
+use Rattle.type_registry.specs.Tasks.{tasks_of, doing_of, Doing, visit, leave, do_one, done, visits, sum_with, cost_within, cost, costs}
 
 -- what stands behind is done first
 pub done_behind : (reg : List Entity) (ts us : List Doing) (met : List (List ℕ)) → done reg (ts ++ us) met ≡ done reg ts (done reg us met)
@@ -32,6 +32,16 @@ costs_last reg ts t = omega (arith, costs_behind reg ts (t ∷ []))
 pub visits_both : (levels : ℕ) (names others : List (List ℕ)) → visits levels (names ++ others) ≡ visits levels others ++ visits levels names
 visits_both levels names others =
     ap reverse (map-append (λ name. visit name levels) names others) ∙ reverse-append (map (λ name. visit name levels) names) (map (λ name. visit name levels) others)
+
+-- the last of the names is a task, and the others are left
+pub one_task_more : (levels : ℕ) (names all : List (List ℕ)) (name : List ℕ) (old new whole : List Doing) → all ≡ names ++ name ∷ [] → new ≡ old ++ visit name levels ∷ []
+    → old ++ visits levels all ≡ whole → new ++ visits levels names ≡ whole
+one_task_more levels names all name old new whole is pushed before =
+    ap (λ ts. ts ++ visits levels names) pushed ∙ append_assoc old (visit name levels ∷ []) (visits levels names)
+    ∙ ap (λ ts. old ++ ts) (sym (ap (visits levels) is ∙ visits_both levels names (name ∷ []))) ∙ before
+
+pub no_task_more : (levels : ℕ) (all : List (List ℕ)) (old whole : List Doing) → all ≡ [] → old ++ visits levels all ≡ whole → old ≡ whole
+no_task_more levels all old whole none before = sym (append-nil old) ∙ ap (λ ns. old ++ visits levels ns) (sym none) ∙ before
 
 -- to do the visits is to visit all, the first name first
 pub done_visits : (reg : List Entity) (levels : ℕ) (names : List (List ℕ)) (met : List (List ℕ)) → done reg (visits levels names) met ≡ visit_all (met_within levels reg) met names
@@ -129,27 +139,10 @@ all_levels reg count levels met n is more = let same : levels ≡ suc (length re
 
 -- ---- what a walk with few tasks at a time finds
 
--- what an entity stands on, by its body
-pub bases_found : (reg : List Entity) (name : List ℕ) (e : Entity) → find_entity name reg ≡ Some e → bases_in e.body ≡ stands_on reg name
-bases_found reg name e found = of_body e.name e.published e.body ∙ sym (ap stands_on_body found)
-  where
-    of_body : (n : List ℕ) (p : Bool) (body : Body) → bases_in body ≡ stands_on_body (Some (record { name = n; published = p; body = body }))
-    of_body n p (interface bases members) = refl
-    of_body n p (struct base members) = refl
-    of_body n p (exception base members) = refl
-    of_body n p body = refl
-
-pub no_bases : (reg : List Entity) (name : List ℕ) → find_entity name reg ≡ None → stands_on reg name ≡ []
-no_bases reg name none = ap stands_on_body none
-
 -- what a visit over one level or more costs
 pub cost_more : (reg : List Entity) (levels less : ℕ) (name : List ℕ) → levels ≡ less + 1 → cost_within levels reg name ≡ 2 + sum_with (cost_within less reg) (stands_on reg name)
 unfolding cost_within
 cost_more reg levels less name is = let next : levels ≡ suc less = omega (arith, is) in ap (λ l. cost_within l reg name) next
-
-pub one_sum : (f : List ℕ → ℕ) (name : List ℕ) (names : List (List ℕ)) → names ≡ name ∷ [] → sum_with f names ≡ 1 + f name + 0
-unfolding sum_with
-one_sum f name names one = ap (sum_with f) one
 
 pub sum_last : (f : List ℕ → ℕ) (names : List (List ℕ)) (name : List ℕ) (all : List (List ℕ)) → all ≡ names ++ name ∷ [] → sum_with f all ≡ sum_with f names + f name + 1
 unfolding sum_with

@@ -1,3 +1,4 @@
+pub mod Bases
 pub mod Frames
 pub mod Functions
 pub mod Met

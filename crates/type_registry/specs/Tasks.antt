@@ -1,8 +1,8 @@
 -- What a walk over bases has left to do.
 use Rattle.std.specs.Prelude.{ℕ, zero, suc, ◌+◌, List, [], ◌∷◌, ◌++◌, map, reverse}
-use Rattle.uno_model.specs.Entities.{Entity, Body, interface, struct, exception}
+use Rattle.uno_model.specs.Entities.{Entity}
 use Rattle.uno_model.specs.Functions.{met_within}
-use Rattle.uno_model.specs.Registry.{required, at_most_one, stands_on}
+use Rattle.uno_model.specs.Registry.{stands_on}
 use Rattle.type_registry.specs.declared.walk.Task.{Task}
 use Rattle.type_registry.specs.declared.walk.Task.TheVariants as task
 
@@ -30,13 +30,6 @@ done reg (t ∷ ts) met = do_one reg t (done reg ts met)
 -- each name to be visited, the first one last
 abbrev pub visits : ℕ → List (List ℕ) → List Doing
 visits levels names = reverse (map (λ name. visit name levels) names)
-
--- what an entity stands on
-abbrev pub bases_in : Body → List (List ℕ)
-bases_in (interface bases members) = required bases
-bases_in (struct base members) = at_most_one base
-bases_in (exception base members) = at_most_one base
-bases_in _ = []
 
 -- how many steps a task takes at most, and one more for each base that is made a task
 unfoldable pub sum_with : (List ℕ → ℕ) → List (List ℕ) → ℕ

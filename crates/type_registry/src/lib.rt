@@ -1,6 +1,7 @@
 //! The functions of interfaces, in the order of their numbers.
 #![tactic(auto)]
 
+mod bases;
 mod frames;
 mod function;
 mod met;

@@ -1,17 +1,17 @@
 //! One function of an interface, looked up without memory of its own.
-ghost use Rattle.std.specs.Prelude.{◌≡◌, ◌++◌, ◌∷◌, [], map, option_map, slice_get, None, Ok, IfOk, IsOk, MatchOption};
+ghost use Rattle.std.specs.Prelude.{◌≡◌, ◌++◌, ◌∷◌, [], option_map, slice_get, None, Ok, IfOk, IsOk};
 ghost use Rattle.uno_model.specs.Functions.{functions_of};
-ghost use Rattle.uno_model.specs.Registry.{required, at_most_one};
-ghost use Rattle.uno_entities.specs.Entities.{base_of, entity_of};
+ghost use Rattle.type_registry.specs.Bases.{names_left};
 ghost use Rattle.type_registry.specs.Frames.{names_in, tasks_in, Walked};
 ghost use Rattle.type_registry.specs.Functions.{lent_function};
-ghost use Rattle.type_registry.specs.Tasks.{visit, leave, visits, bases_in, doing_of};
+ghost use Rattle.type_registry.specs.Tasks.{visit, leave, visits, doing_of};
 
 use crate::FunctionRef;
+use crate::bases::{Bases, bases_of, last_of};
 use crate::frames::{Names, Todo, has};
 use crate::own::{Sought, seek_named, seek_owners};
 use crate::walk::{Task, interfaces_of};
-use uno_types::{Base, Body, Entity, Name, Registry};
+use uno_types::Registry;
 
 /// How many tasks a look-up does in the frames of the stack, before it asks for memory.
 const MOST_STEPS: u32 = 256;
@@ -146,89 +146,28 @@ fn visit<'a>(
         return walk(registry, before, met, number, steps);
     }
     let todo = Todo::More(Task::Leave(&*name), &*before);
-    match registry.find(name) {
-        Some(entity) => visit_bases(registry, entity, levels, &todo, met, number, steps),
-        None => walk(registry, &todo, met, number, steps),
-    }
+    let bases = bases_of(registry, name);
+    visit_all(registry, bases, levels, &todo, met, number, steps)
 }
 
-/// What an entity stands on is visited before all else.
+/// The names are visited before all else, the first one on top.
 #[cycle(walk)]
-fn visit_bases<'a>(
+fn visit_all<'a>(
     registry: &'a Registry,
-    entity: &Entity,
+    bases: Bases<'_>,
     levels: u128,
     todo: &Todo,
     met: &Names,
     number: usize,
     steps: Option<u32>,
 ) -> Result<Option<FunctionRef<'a>>, TooFar>
-    ensures found { Walked registry.now (tasks_in todo.now ++ visits levels (bases_in (entity_of entity.now).body)) (names_in met.now) number result }
+    ensures found { Walked registry.now (tasks_in todo.now ++ visits levels (names_left bases.entry)) (names_in met.now) number result }
     ensures ends { steps ≡ None → IsOk result }
 {
-    match &entity.body {
-        Body::Interface { bases, .. } => {
-            visit_required(registry, bases, levels, todo, met, number, steps)
-        }
-        Body::Struct { base, .. } | Body::Exception { base, .. } => {
-            visit_base(registry, base, levels, todo, met, number, steps)
-        }
-        _ => walk(registry, todo, met, number, steps),
-    }
-}
-
-#[cycle(walk)]
-fn visit_base<'a>(
-    registry: &'a Registry,
-    base: &Option<Name>,
-    levels: u128,
-    todo: &Todo,
-    met: &Names,
-    number: usize,
-    steps: Option<u32>,
-) -> Result<Option<FunctionRef<'a>>, TooFar>
-    ensures found { Walked registry.now (tasks_in todo.now ++ visits levels (at_most_one base.now)) (names_in met.now) number result }
-    ensures ends { steps ≡ None → IsOk result }
-{
-    let Some(base) = base else {
-        return walk(registry, todo, met, number, steps);
-    };
-    let todo = Todo::More(Task::Visit(base.as_str(), levels), &*todo);
-    walk(registry, &todo, met, number, steps)
-}
-
-/// The bases that are not optional, the first one on top.
-#[cycle(walk)]
-fn visit_required<'a>(
-    registry: &'a Registry,
-    bases: &[Base],
-    levels: u128,
-    todo: &Todo,
-    met: &Names,
-    number: usize,
-    steps: Option<u32>,
-) -> Result<Option<FunctionRef<'a>>, TooFar>
-    ensures found { Walked registry.now (tasks_in todo.now ++ visits levels (required (map base_of bases.now))) (names_in met.now) number result }
-    ensures ends { steps ≡ None → IsOk result }
-{
-    let Some((name, others)) = last_required(bases) else {
+    let Some((name, others)) = last_of(bases) else {
         return walk(registry, todo, met, number, steps);
     };
     let steps = one_fewer(steps)?;
     let todo = Todo::More(Task::Visit(name, levels), &*todo);
-    visit_required(registry, others, levels, &todo, met, number, steps)
-}
-
-/// The last base that is not optional, and the bases before it.
-fn last_required(bases: &[Base]) -> Option<(&str, &[Base])>
-    ensures { MatchOption result (required (map base_of bases.now) ≡ []) (λ x. required (map base_of bases.now) ≡ required (map base_of x.1.now) ++ x.0.now ∷ []) }
-{
-    let mut rest = bases;
-    while let Some((last, others)) = rest.split_last() {
-        if !last.optional {
-            return Some((last.name.as_str(), others));
-        }
-        rest = others;
-    }
-    None
+    visit_all(registry, others, levels, &todo, met, number, steps)
 }

@@ -1,14 +1,14 @@
 //! The interfaces whose functions an interface has, without recursion over its bases.
-ghost use Rattle.std.specs.Prelude.{◌≡◌, ◌∷◌, ◌++◌, [], ◌+◌, ◌<◌, map, IfOk, OnOk};
+ghost use Rattle.std.specs.Prelude.{◌≡◌, ◌++◌, ◌+◌, ◌<◌, IfOk, OnOk};
 ghost use Rattle.uno_model.specs.Functions.{interfaces_of, met_within};
-ghost use Rattle.uno_model.specs.Registry.{required, at_most_one, stands_on};
-ghost use Rattle.uno_entities.specs.Entities.{base_of, body_of};
-ghost use Rattle.type_registry.specs.Tasks.{bases_in, visits, do_one, done, cost, cost_within, costs, doing_of, tasks_of};
+ghost use Rattle.uno_model.specs.Registry.{stands_on};
+ghost use Rattle.type_registry.specs.Tasks.{visits, do_one, done, cost, cost_within, costs, doing_of, tasks_of};
 
+use crate::bases::{bases_of, last_of};
 use crate::met::Met;
 use std::alloc::Global;
 use uno_base::NoMemory;
-use uno_types::{Base, Body, Name, Registry};
+use uno_types::Registry;
 
 /// What is left to do.
 #[derive(Clone, Copy)]
@@ -83,65 +83,10 @@ fn push_visits<'a>(
 ) -> Result<(), NoMemory>
     ensures { OnOk result (tasks_of tasks.new.items ≡ tasks_of tasks.old.items ++ visits levels (stands_on registry.now name.now)) }
 {
-    let Some(entity) = registry.find(name) else {
-        return Ok(())
-    };
-    push_bases(tasks, &entity.body, levels)
-}
-
-fn push_bases<'a>(tasks: &mut Vec<Task<'a>>, body: &'a Body, levels: u128) -> Result<(), NoMemory>
-    ensures { OnOk result (tasks_of tasks.new.items ≡ tasks_of tasks.old.items ++ visits levels (bases_in (body_of body.now))) }
-{
-    match body {
-        Body::Interface { bases, members: _ } => push_required(tasks, bases, levels),
-        Body::Struct { base, members: _ } => push_base(tasks, base, levels),
-        Body::Exception { base, members: _ } => push_base(tasks, base, levels),
-        Body::Enum { .. }
-        | Body::Constants { .. }
-        | Body::Typedef { .. }
-        | Body::Service(_)
-        | Body::Singleton(_) => Ok(()),
+    let mut left = bases_of(registry, name);
+    while let Some((base, others)) = last_of(left) {
+        tasks.push(Task::Visit(base, levels))?;
+        left = others;
     }
-}
-
-/// From the last base to the first.
-fn push_required<'a>(
-    tasks: &mut Vec<Task<'a>>,
-    bases: &'a [Base],
-    levels: u128,
-) -> Result<(), NoMemory>
-    ensures { OnOk result (tasks_of tasks.new.items ≡ tasks_of tasks.old.items ++ visits levels (required (map base_of bases.now))) }
-{
-    let mut left = bases.len();
-    while left > 0 {
-        left -= 1;
-        push_unless_optional(tasks, &bases[left], levels)?;
-    }
-    Ok(())
-}
-
-fn push_unless_optional<'a>(
-    tasks: &mut Vec<Task<'a>>,
-    base: &'a Base,
-    levels: u128,
-) -> Result<(), NoMemory>
-    ensures { OnOk result (tasks_of tasks.new.items ≡ tasks_of tasks.old.items ++ visits levels (required (base_of base.now ∷ []))) }
-{
-    if base.optional {
-        return Ok(());
-    }
-    tasks.push(Task::Visit(base.name.as_str(), levels))?;
-    Ok(())
-}
-
-fn push_base<'a>(
-    tasks: &mut Vec<Task<'a>>,
-    base: &'a Option<Name>,
-    levels: u128,
-) -> Result<(), NoMemory>
-    ensures { OnOk result (tasks_of tasks.new.items ≡ tasks_of tasks.old.items ++ visits levels (at_most_one base.now)) }
-{
-    let Some(base) = base else { return Ok(()) };
-    tasks.push(Task::Visit(base.as_str(), levels))?;
     Ok(())
 }

@@ -1,10 +1,9 @@
-use Rattle.std.proofs.Common.{◌+◌, map, [], ◌∷◌, ◌++◌, sym, ap, ◌∙◌, refl, arith}
-use Rattle.uno_model.specs.Registry.{stands_on, required, at_most_one}
-use Rattle.uno_entities.specs.Entities.{entity_of, base_of}
+use Rattle.std.proofs.Common.{◌+◌, [], ◌∷◌, ◌++◌, sym, ap, ◌∙◌, refl, arith}
+use Rattle.type_registry.specs.Bases.{names_left}
 use Rattle.type_registry.specs.Frames.{tasks_in}
 use Rattle.type_registry.specs.Tasks.{visit, leave, doing_of, cost, costs, cost_within, sum_with}
-use Rattle.type_registry.proofs.TaskLemmas.{over_none, was_met, some_cost, task_cost, costs_last, cost_more, one_sum, sum_last, bases_found, no_bases}
-use Rattle.type_registry.proofs.WalkLemmas.{nothing_left, no_visit, visits_nothing, visits_bases, found_here, found_further}
+use Rattle.type_registry.proofs.TaskLemmas.{over_none, was_met, some_cost, task_cost, costs_last, cost_more, sum_last}
+use Rattle.type_registry.proofs.WalkLemmas.{nothing_left, one_visit, visits_nothing, visits_bases, found_here, found_further}
 use Rattle.type_registry.proofs.numbered.+walk.Goals as goal
 
 pub do_task-visit-requires : goal.do_task-visit-requires
@@ -30,50 +29,30 @@ pub visit-returns-then-has-clause-found : goal.visit-returns-then-has-clause-fou
 visit-returns-then-has-clause-found t c =
     visits_nothing _ _ _ _ _ _ _ (was_met _ _ _ _ (omega (arith, c.in-Some.ensures.0)) (sym c.has.ensures ∙ c.if-has.true)) c.walk-then-has.ensures.found
 
-pub visit-visit_bases-requires : goal.visit-visit_bases-requires
-visit-visit_bases-requires t c =
+pub visit-visit_all-requires : goal.visit-visit_all-requires
+visit-visit_all-requires t c =
     omega (
       arith,
       costs_last c.args.registry.now (tasks_in c.args.before.now) (leave c.args.name.now),
       cost_more c.args.registry.now c.args.levels c.in-Some.levels c.args.name.now (omega (arith, c.in-Some.ensures.0, c.in-Some.ensures.1)),
-      ap (sum_with (cost_within c.in-Some.levels c.args.registry.now)) (bases_found c.args.registry.now c.args.name.now (entity_of c.in-Some-find.entity.now) c.in-Some-find.ensures.found),
+      ap (sum_with (cost_within c.in-Some.levels c.args.registry.now)) c.bases_of-bases.ensures,
     )
 
-pub visit-walk-requires-in-None : goal.visit-walk-requires-in-None
-visit-walk-requires-in-None t c =
-    omega (
-      arith,
-      costs_last c.args.registry.now (tasks_in c.args.before.now) (leave c.args.name.now),
-      cost_more c.args.registry.now c.args.levels c.in-Some.levels c.args.name.now (omega (arith, c.in-Some.ensures.0, c.in-Some.ensures.1)),
-    )
-
-pub visit-returns-in-Some-find-clause-found : goal.visit-returns-in-Some-find-clause-found
-visit-returns-in-Some-find-clause-found t c =
+pub visit-returns-clause-found : goal.visit-returns-clause-found
+visit-returns-clause-found t c =
     visits_bases _ _ _ _ c.in-Some.levels _ _ _ _ (omega (arith, c.in-Some.ensures.0, c.in-Some.ensures.1)) (sym c.has.ensures ∙ c.if-has.false)
-    (bases_found _ _ (entity_of c.in-Some-find.entity.now) c.in-Some-find.ensures.found) c.visit_bases.ensures.found
+    c.bases_of-bases.ensures c.visit_all.ensures.found
 
-pub visit-returns-in-None-clause-found : goal.visit-returns-in-None-clause-found
-visit-returns-in-None-clause-found t c =
-    visits_bases _ (tasks_in c.args.before.now) _ _ c.in-Some.levels [] _ _ _ (omega (arith, c.in-Some.ensures.0, c.in-Some.ensures.1)) (sym c.has.ensures ∙ c.if-has.false)
-    (sym (no_bases c.args.registry.now c.args.name.now (c.in-None.ensures.absent.0 refl)))
-    (no_visit _ (tasks_in c.args.before.now ++ leave c.args.name.now ∷ []) c.in-Some.levels [] _ _ _ refl c.walk-in-None.ensures.found)
-
-pub visit_base-walk-requires-2 : goal.visit_base-walk-requires-2
-visit_base-walk-requires-2 t c =
-    omega (
-      arith,
-      costs_last c.args.registry.now (tasks_in c.args.todo.now) (visit c.as_str.result.now c.args.levels),
-      one_sum (cost_within c.args.levels c.args.registry.now) c.as_str.result.now (at_most_one c.args.base.now)
-          (ap at_most_one c.in-Some.is ∙ ap (λ n. n ∷ []) (sym c.as_str.ensures)),
-    )
-
-pub visit_required-visit_required-requires : goal.visit_required-visit_required-requires
-visit_required-visit_required-requires t c =
+pub visit_all-visit_all-requires : goal.visit_all-visit_all-requires
+visit_all-visit_all-requires t c =
     omega (
       arith,
       costs_last c.args.registry.now (tasks_in c.args.todo.now) (visit c.in-Some.name.now c.args.levels),
-      sum_last (cost_within c.args.levels c.args.registry.now) (required (map base_of c.in-Some.others.now)) c.in-Some.name.now (required (map base_of c.args.bases.now)) c.in-Some.ensures,
+      sum_last (cost_within c.args.levels c.args.registry.now) (names_left c.in-Some.others) c.in-Some.name.now (names_left c.args.bases) c.in-Some.ensures,
     )
+
+pub visit_all-returns-clause-found : goal.visit_all-returns-clause-found
+visit_all-returns-clause-found t c = one_visit _ _ _ _ _ _ _ _ _ c.in-Some.ensures c.visit_all.ensures.found
 
 pub walk-do_task-requires : goal.walk-do_task-requires
 walk-do_task-requires t c =

@@ -1,8 +1,7 @@
-use Rattle.std.specs.Prelude.{◌+◌, ◌*◌, ◌-◌, length, map}
-use Rattle.uno_model.specs.Registry.{required, at_most_one}
-use Rattle.uno_entities.specs.Entities.{base_of, entity_of}
+use Rattle.std.specs.Prelude.{◌+◌, ◌*◌, ◌-◌}
+use Rattle.type_registry.specs.Bases.{names_left}
 use Rattle.type_registry.specs.Frames.{tasks_in}
-use Rattle.type_registry.specs.Tasks.{doing_of, cost, cost_within, sum_with, costs, bases_in}
+use Rattle.type_registry.specs.Tasks.{doing_of, cost, cost_within, sum_with, costs}
 use Rattle.type_registry.proofs.numbered.+walk.Given as goal
 
 abbrev pub decreases-walk : goal.decreases-walk
@@ -17,11 +16,5 @@ decreases-visit l = 8 * (costs l.registry.now (tasks_in l.before.now) + cost_wit
 abbrev pub decreases-do_task : goal.decreases-do_task
 decreases-do_task l = 8 * (costs l.registry.now (tasks_in l.before.now) + cost l.registry.now (doing_of l.task.now)) - 1
 
-abbrev pub decreases-visit_base : goal.decreases-visit_base
-decreases-visit_base l = 8 * (costs l.registry.now (tasks_in l.todo.now) + sum_with (cost_within l.levels l.registry.now) (at_most_one l.base.now)) + 2
-
-abbrev pub decreases-visit_bases : goal.decreases-visit_bases
-decreases-visit_bases l = 8 * (costs l.registry.now (tasks_in l.todo.now) + sum_with (cost_within l.levels l.registry.now) (bases_in (entity_of l.entity.now).body)) + 3
-
-abbrev pub decreases-visit_required : goal.decreases-visit_required
-decreases-visit_required l = 8 * (costs l.registry.now (tasks_in l.todo.now) + sum_with (cost_within l.levels l.registry.now) (required (map base_of l.bases.now))) + 2
+abbrev pub decreases-visit_all : goal.decreases-visit_all
+decreases-visit_all l = 8 * (costs l.registry.now (tasks_in l.todo.now) + sum_with (cost_within l.levels l.registry.now) (names_left l.bases)) + 2

@@ -1,7 +1,7 @@
 use Rattle.std.specs.Prelude.{◌≡◌, length, map}
 use Rattle.uno_model.specs.Registry.{required}
 use Rattle.uno_entities.specs.Entities.{base_of}
-use Rattle.type_registry.proofs.numbered.last_required.Given as goal
+use Rattle.type_registry.proofs.bases.last_required.Given as goal
 
 abbrev pub invariant-loop-last : goal.invariant-loop-last
 invariant-loop-last l = required (map base_of l.rest) ≡ required (map base_of l.bases)
