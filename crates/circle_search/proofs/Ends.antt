@@ -64,12 +64,3 @@ all_told g marks nodes starts waiting f none reached = record {
     told_off i (Open p) is other = let at = f.of_marks.opened i p is in let bad : ⊥ = omega (arith, ap length none, at.0) in absurd bad
     told_off i OffCircle is other = f.of_marks.off i is
     told_off i OnCircle is other = absurd (other is)
-
--- one node more was reached
-pub reached_more : (before after : List Mark) (n : ℕ) → Kept before after → ((i : ℕ) → i < n → get_or before i OffCircle ≢ New) → get_or after n OffCircle ≢ New
-    → (i : ℕ) → i < n + 1 → get_or after i OffCircle ≢ New
-reached_more before after n kept reached own i low new = let old = kept i new in let here = reached i in grind arith
-
--- a list that was written back over one of its length
-pub written_back : {X : Type 0} (xs ys : List X) (n : ℕ) → length xs ≡ length ys → n ≡ length ys → take n (xs ++ drop (length xs) ys) ≡ xs
-written_back xs ys n same long = take_at xs (drop (length xs) ys) n (same ∙ sym long)

@@ -8,10 +8,6 @@ use Rattle.circle_search.specs.declared.mark.Mark.{Mark}
 use Rattle.circle_search.specs.declared.trail.Edge.{Edge}
 use Rattle.circle_search.specs.Search.{IsMarked, MarksHold}
 
--- what the last of a list is
-pub last_of : (xs : List ℕ) (y : ℕ) → slice_get xs (length xs - 1) ≡ Some y → (0 < length xs) × (get_or xs (length xs - 1) 0 ≡ y)
-last_of xs y last = (let low = slice_get_within xs (length xs - 1) y last in omega arith, get_or_from_slice_get xs (length xs - 1) y 0 last)
-
 -- where the last edge is from before a place, all are
 pub all_before : (w : List Edge) (e : Edge) (start : ℕ) → AllPairs (λ a b. a.place ≤ b.place) w → slice_get w (length w - 1) ≡ Some e → e.place < start
     → All (λ x. x.place < start) w
