@@ -1,13 +1,13 @@
 -- Where the search and a trail begin, and what all marks say once the search has ended.
-use Rattle.std.proofs.Common.{true, false, ◌≡◌, ◌≢◌, ℕ, ◌+◌, ◌<◌, ◌≤◌, inl, inr, List, [], ◌∷◌, ◌++◌, length, get_or, set, take, drop, replicate, refl, sym, ◌∙◌, ap, arith, Contains}
+use Rattle.std.proofs.Common.{◌≡◌, ◌≢◌, ℕ, ◌<◌, ◌≤◌, inl, inr, List, [], ◌∷◌, ◌++◌, length, get_or, set, replicate, refl, ap, arith, Contains}
 use Rattle.std.proofs.lemmas.Bool.{cases_lt}
-use Rattle.std.proofs.lemmas.List.{places, take_at, get_or_past, get_or-replicate, get_or-set_same, get_or-set_other, length-replicate}
+use Rattle.std.proofs.lemmas.List.{places, get_or_past, get_or-replicate, get_or-set_same, get_or-set_other, length-replicate}
 use Rattle.uno_model.specs.Circles.{Leads, step, on}
 use Rattle.circle_search.specs.declared.mark.Mark.{Mark}
 use Rattle.circle_search.specs.declared.mark.Mark.TheVariants.{New, Open, OffCircle, OnCircle}
 use Rattle.circle_search.specs.declared.trail.Edge.{Edge}
 use Rattle.circle_search.specs.Graph.{targets}
-use Rattle.circle_search.specs.Search.{edges, is_left, Kept, MarksHold, AllTold, Fine}
+use Rattle.circle_search.specs.Search.{edges, MarksHold, AllTold, Fine}
 use Rattle.circle_search.proofs.Entering.{known_low, entered_fine}
 
 -- what is no node leads nowhere

@@ -1,5 +1,5 @@
 -- The last group is left, of whose targets none waits: what marks and trail say stays so.
-use Rattle.std.proofs.Common.{true, false, ◌≡◌, ◌≢◌, ℕ, zero, suc, ◌+◌, ◌-◌, ◌<◌, ◌≤◌, ◌⊎◌, inl, inr, Bool, List, [], ◌∷◌, length, get_or, take, drop, All, refl, sym, ◌∙◌, ap, arith, Contains}
+use Rattle.std.proofs.Common.{true, false, ◌≡◌, ℕ, ◌+◌, ◌-◌, ◌<◌, ◌≤◌, ◌⊎◌, inl, inr, Bool, List, length, get_or, take, drop, All, refl, sym, ◌∙◌, ap, arith, Contains}
 use Rattle.std.specs.Prelude.{nat_lt, nat_eq, cond, ◌||◌}
 use Rattle.std.proofs.lemmas.List.Folds.{Any-from_list_any, list_any_at}
 use Rattle.std.proofs.lemmas.Bool.{cases_lt, or_parts, le-ltb, ltb-false, eqb-true, eq-eqb}

@@ -1,8 +1,8 @@
 -- What single steps do to lists: the last of a list, marks that are given, edges that come late.
-use Rattle.std.proofs.Common.{Some, All, ◌≡◌, ℕ, ◌+◌, ◌-◌, ◌<◌, ◌≤◌, List, length, get_or, set, take, refl, ◌∙◌, arith}
+use Rattle.std.proofs.Common.{Some, All, ◌≡◌, ℕ, ◌+◌, ◌-◌, ◌<◌, ◌≤◌, List, length, get_or, set, take, ◌∙◌, arith}
 use Rattle.std.specs.List.{AllPairs, slice_get}
 use Rattle.std.proofs.lemmas.Bool.{cases_eq}
-use Rattle.std.proofs.lemmas.Option.{get_or_from_slice_get, slice_get_within}
+use Rattle.std.proofs.lemmas.Option.{get_or_from_slice_get}
 use Rattle.std.proofs.lemmas.List.{places, get_or_default, get_or-set_same, get_or-set_other, length-set}
 use Rattle.circle_search.specs.declared.mark.Mark.{Mark}
 use Rattle.circle_search.specs.declared.trail.Edge.{Edge}

@@ -1,5 +1,5 @@
 -- How far a search has come: what marks and trail say of the graph, and what is left to do.
-use Rattle.std.specs.Prelude.{◌≡◌, ◌≢◌, ℕ, zero, suc, ◌+◌, ◌-◌, ◌<◌, ◌≤◌, ◌⊎◌, Bool, true, false, ◌||◌, cond, nat_eq, nat_lt, List, [], ◌∷◌, length, map, get_or, take, All, Contains}
+use Rattle.std.specs.Prelude.{◌≡◌, ◌≢◌, ℕ, ◌+◌, ◌<◌, ◌≤◌, ◌⊎◌, Bool, true, false, ◌||◌, cond, nat_eq, nat_lt, List, [], ◌∷◌, length, map, get_or, All, Contains}
 use Rattle.std.specs.List.{AllPairs, list_any}
 use Rattle.uno_model.specs.Circles.{Leads}
 use Rattle.circle_search.specs.declared.mark.Mark.{Mark}
