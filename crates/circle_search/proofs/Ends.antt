@@ -1,13 +1,13 @@
 -- Where the search and a trail begin, and what all marks say once the search has ended.
-use Rattle.std.proofs.Common.{true, false, ◌≡◌, ◌≢◌, ℕ, ◌+◌, ◌<◌, ◌≤◌, inl, inr, List, [], ◌∷◌, ◌++◌, length, get_or, set, take, drop, replicate, refl, sym, ◌∙◌, ap, arith, Contains}
+use Rattle.std.proofs.Common.{◌≡◌, ◌≢◌, ℕ, ◌<◌, ◌≤◌, inl, inr, List, [], ◌∷◌, ◌++◌, length, get_or, set, replicate, refl, ap, arith, Contains}
 use Rattle.std.proofs.lemmas.Bool.{cases_lt}
-use Rattle.std.proofs.lemmas.List.{places, take_at, get_or_past, get_or-replicate, get_or-set_same, get_or-set_other, length-replicate}
+use Rattle.std.proofs.lemmas.List.{places, get_or_past, get_or-replicate, get_or-set_same, get_or-set_other, length-replicate}
 use Rattle.uno_model.specs.Circles.{Leads, step, on}
 use Rattle.circle_search.specs.declared.mark.Mark.{Mark}
 use Rattle.circle_search.specs.declared.mark.Mark.TheVariants.{New, Open, OffCircle, OnCircle}
 use Rattle.circle_search.specs.declared.trail.Edge.{Edge}
 use Rattle.circle_search.specs.Graph.{targets}
-use Rattle.circle_search.specs.Search.{edges, is_left, Kept, MarksHold, AllTold, Fine}
+use Rattle.circle_search.specs.Search.{edges, MarksHold, AllTold, Fine}
 use Rattle.circle_search.proofs.Entering.{known_low, entered_fine}
 
 -- what is no node leads nowhere
@@ -64,12 +64,3 @@ all_told g marks nodes starts waiting f none reached = record {
     told_off i (Open p) is other = let at = f.of_marks.opened i p is in let bad : ⊥ = omega (arith, ap length none, at.0) in absurd bad
     told_off i OffCircle is other = f.of_marks.off i is
     told_off i OnCircle is other = absurd (other is)
-
--- one node more was reached
-pub reached_more : (before after : List Mark) (n : ℕ) → Kept before after → ((i : ℕ) → i < n → get_or before i OffCircle ≢ New) → get_or after n OffCircle ≢ New
-    → (i : ℕ) → i < n + 1 → get_or after i OffCircle ≢ New
-reached_more before after n kept reached own i low new = let old = kept i new in let here = reached i in grind arith
-
--- a list that was written back over one of its length
-pub written_back : {X : Type 0} (xs ys : List X) (n : ℕ) → length xs ≡ length ys → n ≡ length ys → take n (xs ++ drop (length xs) ys) ≡ xs
-written_back xs ys n same long = take_at xs (drop (length xs) ys) n (same ∙ sym long)

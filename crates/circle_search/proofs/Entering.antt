@@ -1,14 +1,14 @@
 -- A new node is opened at the end of the trail: what marks and trail say stays so.
-use Rattle.std.proofs.Common.{true, ◌≡◌, ℕ, ◌+◌, ◌-◌, ◌<◌, ◌≤◌, ◌⊎◌, inl, inr, List, [], ◌∷◌, ◌++◌, length, get_or, set, refl, sym, ap, ◌∙◌, arith, Contains}
+use Rattle.std.proofs.Common.{◌≡◌, ℕ, ◌-◌, ◌<◌, ◌≤◌, ◌⊎◌, inl, inr, List, [], ◌∷◌, ◌++◌, length, get_or, set, refl, sym, ap, ◌∙◌, arith, Contains}
 use Rattle.std.proofs.lemmas.Bool.{cases_lt}
 use Rattle.std.proofs.lemmas.List.{places, get_or_default, get_or_append_left, get_or-append_right, get_or_push, get_or-map, length-append, get_or-set_same, get_or-set_other, length-map, length-set, length_push}
 use Rattle.std.proofs.lemmas.List.Elements.{Contains-get_or, Contains-append_left, Contains-append_right}
 use Rattle.uno_model.specs.Circles.{Leads}
 use Rattle.circle_search.specs.declared.mark.Mark.{Mark}
-use Rattle.circle_search.specs.declared.mark.Mark.TheVariants.{New, Open, OffCircle, OnCircle}
+use Rattle.circle_search.specs.declared.mark.Mark.TheVariants.{New, Open, OffCircle}
 use Rattle.circle_search.specs.declared.trail.Edge.{Edge}
 use Rattle.circle_search.specs.Graph.{targets}
-use Rattle.circle_search.specs.Search.{edges, is_left, IsSeen, MarksHold, GroupsHold, EdgesHold, Fine}
+use Rattle.circle_search.specs.Search.{edges, IsSeen, MarksHold, GroupsHold, EdgesHold, Fine}
 
 pub known_low : (marks : List Mark) (n : ℕ) → get_or marks n OffCircle ≡ New → n < length marks
 known_low marks n is = grind (arith, places)

@@ -1,31 +1,27 @@
 -- The last group is left, of whose targets none waits: what marks and trail say stays so.
-use Rattle.std.proofs.Common.{true, false, ◌≡◌, ◌≢◌, ℕ, zero, suc, ◌+◌, ◌-◌, ◌<◌, ◌≤◌, ◌⊎◌, inl, inr, Bool, List, [], ◌∷◌, length, get_or, take, drop, All, refl, sym, ◌∙◌, ap, arith, Contains}
+use Rattle.std.proofs.Common.{true, false, ◌≡◌, ℕ, ◌+◌, ◌-◌, ◌<◌, ◌≤◌, ◌⊎◌, inl, inr, Bool, List, length, get_or, take, drop, All, refl, sym, ◌∙◌, ap, arith, Contains}
 use Rattle.std.specs.Prelude.{nat_lt, nat_eq, cond, ◌||◌}
-use Rattle.std.specs.List.{list_any}
-use Rattle.std.proofs.lemmas.Bool.{cases_lt, cond_both, or_parts, or_cases, ltb-true, ltb-false, eqb-true, eq-eqb}
-use Rattle.std.proofs.lemmas.List.{places, get_or-take, length-drop, length-take}
+use Rattle.std.proofs.lemmas.List.Folds.{Any-from_list_any, list_any_at}
+use Rattle.std.proofs.lemmas.Bool.{cases_lt, or_parts, le-ltb, ltb-false, eqb-true, eq-eqb}
+use Rattle.std.proofs.lemmas.List.{places, get_or_default, get_or-take, length-drop, length-take}
 use Rattle.std.proofs.lemmas.List.Elements.{All-contains}
 use Rattle.uno_model.specs.Circles.{Leads, step, on}
 use Rattle.circle_search.specs.declared.mark.Mark.{Mark}
 use Rattle.circle_search.specs.declared.mark.Mark.TheVariants.{New, Open, OffCircle, OnCircle}
 use Rattle.circle_search.specs.declared.trail.Edge.{Edge}
 use Rattle.circle_search.specs.Graph.{targets}
-use Rattle.circle_search.specs.Search.{is_left, leads_back, mark_of_group, IsAt, IsNotBefore, IsSeen, IsMarked, Kept, MarksHold, GroupsHold, Fine, new_work}
+use Rattle.circle_search.specs.Search.{is_left, leads_to_itself, mark_of_group, IsAt, IsNotBefore, IsSeen, IsMarked, Kept, MarksHold, GroupsHold, Fine, new_work}
 use Rattle.circle_search.proofs.Work.{kept_work}
 use Rattle.circle_search.proofs.Looking.{leads_through, last_start}
 
--- a test for a number passes at some element exactly where the list contains it
-any_at : (ts : List ℕ) (n : ℕ) → list_any (λ t. nat_eq t n) ts ≡ true → Contains ts n
-any_at [] n is = grind arith
-any_at (t ∷ ts) n is = elim (or_cases (nat_eq t n) (list_any (λ u. nat_eq u n) ts) is) [
-  | inl here ↦ (0, omega arith, eqb-true t n here)
-  | inr there ↦ let rest = any_at ts n there in (suc rest.0, omega (arith, rest.1), rest.2)
-]
+-- a node leads to itself exactly where the test says so
+on_itself : (g : List (List ℕ)) (n : ℕ) → leads_to_itself g n ≡ true → Contains (targets g n) n
+on_itself g n is =
+    let some = Any-from_list_any (λ t. nat_eq t n) (targets g n) is in
+    (some.0, some.2, let here = eqb-true some.1 n some.4 in let at = get_or_default (targets g n) some.0 some.1 n some.2 in grind arith)
 
-none_at : (ts : List ℕ) (n : ℕ) → list_any (λ t. nat_eq t n) ts ≡ false → ¬ Contains ts n
-none_at [] n is (k, low, at) = omega arith
-none_at (t ∷ ts) n is (zero, low, at) = let here = eq-eqb t n at in let none = or_parts (nat_eq t n) (list_any (λ u. nat_eq u n) ts) is in grind arith
-none_at (t ∷ ts) n is (suc k, low, at) = none_at ts n (or_parts (nat_eq t n) (list_any (λ u. nat_eq u n) ts) is).1 (k, omega arith, at)
+not_on_itself : (g : List (List ℕ)) (n : ℕ) → leads_to_itself g n ≡ false → ¬ Contains (targets g n) n
+not_on_itself g n is (k, low, at) = let here = list_any_at (λ t. nat_eq t n) (targets g n) k n low (eq-eqb _ n at) in grind arith
 
 -- from what was left, a way leads to what was left alone
 leads_left : (g : List (List ℕ)) (marks : List Mark) (nodes : List ℕ) (a c : ℕ) → MarksHold g marks nodes → is_left (get_or marks a OffCircle) ≡ true
@@ -64,23 +60,21 @@ module _ (g : List (List ℕ)) (marks : List Mark) (nodes starts : List ℕ) (wa
   alone : length (drop b nodes) ≤ 1 → (p : ℕ) → b ≤ p → p < length nodes → get_or (drop b nodes) 0 0 ≡ get_or nodes p 0
   alone short p high low = grind (arith, places)
 
-  told_on : leads_back g (drop b nodes) ≡ true → (p : ℕ) → b ≤ p → p < length nodes → Leads (targets g) (get_or nodes p 0) (get_or nodes p 0)
+  told_on : (nat_lt 1 (length (drop b nodes)) || leads_to_itself g (get_or (drop b nodes) 0 0)) ≡ true → (p : ℕ) → b ≤ p → p < length nodes
+      → Leads (targets g) (get_or nodes p 0) (get_or nodes p 0)
   told_on back p high low = elim (cases_lt 1 (length (drop b nodes))) [
     | inl more ↦ many_lead p high low (omega (arith, length-drop b nodes))
-    | inr short ↦ elim (or_cases (nat_lt 1 (length (drop b nodes))) (list_any (λ t. nat_eq t (get_or (drop b nodes) 0 0)) (targets g (get_or (drop b nodes) 0 0))) back) [
-      | inl many ↦ let more = ltb-true 1 (length (drop b nodes)) many in let bad : ⊥ = omega arith in absurd bad
-      | inr own ↦
-          let on_itself = any_at (targets g (get_or (drop b nodes) 0 0)) (get_or (drop b nodes) 0 0) own in
-          step (get_or nodes p 0) (get_or nodes p 0) (rw (alone short p high low) at on_itself)
-    ]
+    | inr short ↦
+        let test : leads_to_itself g (get_or (drop b nodes) 0 0) ≡ true = rw (le-ltb 1 (length (drop b nodes)) short) at back in
+        step (get_or nodes p 0) (get_or nodes p 0) (on_itself g (get_or nodes p 0) (rw (alone short p high low) at test))
   ]
 
-  told_off : leads_back g (drop b nodes) ≡ false → (p : ℕ) → b ≤ p → p < length nodes → ¬ Leads (targets g) (get_or nodes p 0) (get_or nodes p 0)
+  told_off : (nat_lt 1 (length (drop b nodes)) || leads_to_itself g (get_or (drop b nodes) 0 0)) ≡ false → (p : ℕ) → b ≤ p → p < length nodes
+      → ¬ Leads (targets g) (get_or nodes p 0) (get_or nodes p 0)
   told_off not_back p high low way =
-      let parts = or_parts (nat_lt 1 (length (drop b nodes))) (list_any (λ t. nat_eq t (get_or (drop b nodes) 0 0)) (targets g (get_or (drop b nodes) 0 0))) not_back in
+      let parts = or_parts (nat_lt 1 (length (drop b nodes))) (leads_to_itself g (get_or (drop b nodes) 0 0)) not_back in
       let short : length (drop b nodes) ≤ 1 = ltb-false 1 (length (drop b nodes)) parts.0 in
-      let none_own : ¬ Contains (targets g (get_or nodes p 0)) (get_or nodes p 0) =
-      rw (alone short p high low) at (none_at (targets g (get_or (drop b nodes) 0 0)) (get_or (drop b nodes) 0 0) parts.1) in
+      let none_own = not_on_itself g (get_or nodes p 0) (rw (alone short p high low) at parts.1) in
       let here = f.of_marks.marked (get_or nodes p 0) p (low, refl) in
       let left = comes_back short none_own way in
       grind arith
@@ -124,9 +118,9 @@ module _ (g : List (List ℕ)) (marks : List Mark) (nodes starts : List ℕ) (wa
         by_mark OnCircle is = other (λ q at. let same = f.of_marks.marked i q at in grind arith)
 
     -- what was left stays so, and what stood in the group is left
-    test : (is_left (mark_of_group g (drop b nodes)) ≡ true) × (mark_of_group g (drop b nodes) ≡ OnCircle → leads_back g (drop b nodes) ≡ true)
-        × (mark_of_group g (drop b nodes) ≡ OffCircle → leads_back g (drop b nodes) ≡ false)
-    test = by_test (leads_back g (drop b nodes))
+    test : (is_left (mark_of_group g (drop b nodes)) ≡ true) × (mark_of_group g (drop b nodes) ≡ OnCircle → (nat_lt 1 (length (drop b nodes)) || leads_to_itself g (get_or (drop b nodes) 0 0)) ≡ true)
+        × (mark_of_group g (drop b nodes) ≡ OffCircle → (nat_lt 1 (length (drop b nodes)) || leads_to_itself g (get_or (drop b nodes) 0 0)) ≡ false)
+    test = by_test (nat_lt 1 (length (drop b nodes)) || leads_to_itself g (get_or (drop b nodes) 0 0))
 
     still : (t : ℕ) → is_left (get_or marks t OffCircle) ≡ true → is_left (get_or after t OffCircle) ≡ true
     still t left = elim (was_left t) [ inl (p, is, high, has) ↦ ap is_left has ∙ test.0 | inr (out, has) ↦ ap is_left has ∙ left ]

@@ -1,16 +1,12 @@
 -- What single steps do to lists: the last of a list, marks that are given, edges that come late.
-use Rattle.std.proofs.Common.{Some, All, ◌≡◌, ℕ, ◌+◌, ◌-◌, ◌<◌, ◌≤◌, List, length, get_or, set, take, refl, ◌∙◌, arith}
+use Rattle.std.proofs.Common.{Some, All, ◌≡◌, ℕ, ◌+◌, ◌-◌, ◌<◌, ◌≤◌, List, length, get_or, set, take, ◌∙◌, arith}
 use Rattle.std.specs.List.{AllPairs, slice_get}
 use Rattle.std.proofs.lemmas.Bool.{cases_eq}
-use Rattle.std.proofs.lemmas.Option.{get_or_from_slice_get, slice_get_within}
+use Rattle.std.proofs.lemmas.Option.{get_or_from_slice_get}
 use Rattle.std.proofs.lemmas.List.{places, get_or_default, get_or-set_same, get_or-set_other, length-set}
 use Rattle.circle_search.specs.declared.mark.Mark.{Mark}
 use Rattle.circle_search.specs.declared.trail.Edge.{Edge}
 use Rattle.circle_search.specs.Search.{IsMarked, MarksHold}
-
--- what the last of a list is
-pub last_of : (xs : List ℕ) (y : ℕ) → slice_get xs (length xs - 1) ≡ Some y → (0 < length xs) × (get_or xs (length xs - 1) 0 ≡ y)
-last_of xs y last = (let low = slice_get_within xs (length xs - 1) y last in omega arith, get_or_from_slice_get xs (length xs - 1) y 0 last)
 
 -- where the last edge is from before a place, all are
 pub all_before : (w : List Edge) (e : Edge) (start : ℕ) → AllPairs (λ a b. a.place ≤ b.place) w → slice_get w (length w - 1) ≡ Some e → e.place < start

@@ -1,5 +1,5 @@
 -- How far a search has come: what marks and trail say of the graph, and what is left to do.
-use Rattle.std.specs.Prelude.{◌≡◌, ◌≢◌, ℕ, zero, suc, ◌+◌, ◌-◌, ◌<◌, ◌≤◌, ◌⊎◌, Bool, true, false, ◌||◌, cond, nat_eq, nat_lt, List, [], ◌∷◌, length, map, get_or, take, All, Contains}
+use Rattle.std.specs.Prelude.{◌≡◌, ◌≢◌, ℕ, ◌+◌, ◌<◌, ◌≤◌, ◌⊎◌, Bool, true, false, ◌||◌, cond, nat_eq, nat_lt, List, [], ◌∷◌, length, map, get_or, All, Contains}
 use Rattle.std.specs.List.{AllPairs, list_any}
 use Rattle.uno_model.specs.Circles.{Leads}
 use Rattle.circle_search.specs.declared.mark.Mark.{Mark}
@@ -64,8 +64,8 @@ pub record Fine (g : List (List ℕ)) (marks : List Mark) (nodes : List ℕ) (st
   pub of_edges : EdgesHold g nodes waiting
   pub seen : (place target : ℕ) → place < length nodes → Contains (targets g (get_or nodes place 0)) target → IsSeen marks nodes starts waiting place target
 
-abbrev pub IsFine : List (List ℕ) → List Mark → Trail → Type 0
-IsFine g marks trail = Fine g marks trail.nodes.items trail.starts.items trail.waiting.items
+abbrev pub IsFine : List (List ℕ) → Trail → Type 0
+IsFine g trail = Fine g trail.marks.items trail.nodes.items trail.starts.items trail.waiting.items
 
 -- the starts up to a place are so many
 pub record IsCut (place : ℕ) (starts : List ℕ) (count : ℕ) : Type 0 where
@@ -73,12 +73,12 @@ pub record IsCut (place : ℕ) (starts : List ℕ) (count : ℕ) : Type 0 where
   pub kept : (k : ℕ) → k < count → get_or starts k 0 ≤ place
   pub others : (k : ℕ) → count ≤ k → k < length starts → place < get_or starts k 0
 
--- the nodes of a group, which lead to each other, lead back to themselves
-abbrev pub leads_back : List (List ℕ) → List ℕ → Bool
-leads_back g group = nat_lt 1 (length group) || list_any (λ t. nat_eq t (get_or group 0 0)) (targets g (get_or group 0 0))
+abbrev pub leads_to_itself : List (List ℕ) → ℕ → Bool
+leads_to_itself g node = list_any (λ t. nat_eq t node) (targets g node)
 
+-- the mark of nodes that lead to each other, or of one node
 abbrev pub mark_of_group : List (List ℕ) → List ℕ → Mark
-mark_of_group g group = cond (leads_back g group) OnCircle OffCircle
+mark_of_group g group = cond (nat_lt 1 (length group) || leads_to_itself g (get_or group 0 0)) OnCircle OffCircle
 
 -- these nodes have the mark, and all others theirs
 pub record IsMarked (nodes : List ℕ) (mark : Mark) (before after : List Mark) : Type 0 where
@@ -108,5 +108,5 @@ new_work (row ∷ g) [] = 0
 new_work (row ∷ g) (m ∷ marks) = mark_work row m + new_work g marks
 
 -- how much there is left to do
-abbrev pub work : List (List ℕ) → List Mark → Trail → ℕ
-work g marks trail = length trail.waiting.items + length trail.nodes.items + new_work g marks
+abbrev pub work : List (List ℕ) → Trail → ℕ
+work g trail = length trail.waiting.items + length trail.nodes.items + new_work g trail.marks.items

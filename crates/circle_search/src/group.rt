@@ -1,8 +1,7 @@
 //! The last group of the trail, whose nodes lead to nothing that is open but each other.
-ghost use Rattle.std.specs.Prelude.{◌≡◌, ◌-◌, ◌<◌, length, nat_eq, take, drop};
-ghost use Rattle.std.specs.List.{All, list_any};
-ghost use Rattle.circle_search.specs.Graph.{targets};
-ghost use Rattle.circle_search.specs.Search.{leads_back, mark_of_group, IsMarked};
+ghost use Rattle.std.specs.Prelude.{◌≡◌, ◌-◌, ◌<◌, length, take, drop};
+ghost use Rattle.std.specs.List.{All};
+ghost use Rattle.circle_search.specs.Search.{leads_to_itself, mark_of_group, IsMarked};
 
 use crate::Graph;
 use crate::mark::Mark;
@@ -10,7 +9,7 @@ use crate::trail::Trail;
 
 /// Whether the node is a target of itself.
 fn leads_to_itself(graph: &Graph, node: usize) -> bool
-    ensures { result ≡ list_any (λ t. nat_eq t node) (targets graph.now node) }
+    ensures { result ≡ leads_to_itself graph.now node }
 {
     graph
         .targets(node)
@@ -18,20 +17,12 @@ fn leads_to_itself(graph: &Graph, node: usize) -> bool
         .any(|target| *target as usize == node)
 }
 
-/// Whether the nodes of the group lead back to themselves.
-fn leads_back(graph: &Graph, group: &[usize]) -> bool
-    requires { 0 < length group.now }
-    ensures { result ≡ leads_back graph.now group.now }
-{
-    group.len() > 1 || leads_to_itself(graph, group[0])
-}
-
-/// The mark that the nodes of the group get as they are left.
+/// The mark that the nodes of the group, which lead to each other, get as they are left.
 fn mark_of_group(graph: &Graph, group: &[usize]) -> Mark
     requires { 0 < length group.now }
     ensures { result ≡ mark_of_group graph.now group.now }
 {
-    if leads_back(graph, group) {
+    if group.len() > 1 || leads_to_itself(graph, group[0]) {
         return Mark::OnCircle;
     }
     Mark::OffCircle
@@ -48,16 +39,16 @@ fn mark_all(marks: &mut [Mark], nodes: &[usize], mark: Mark)
 }
 
 /// Leaves the group that begins at this place, the last one.
-pub(crate) fn leave(graph: &Graph, marks: &mut [Mark], trail: &mut Trail, start: usize)
+pub(crate) fn leave(graph: &Graph, trail: &mut Trail, start: usize)
     requires within { start < length trail.old.nodes.items }
-    requires nodes { All (λ node. node < length marks.old) trail.old.nodes.items }
-    ensures marked { IsMarked (drop start trail.old.nodes.items) (mark_of_group graph.now (drop start trail.old.nodes.items)) marks.old marks.new }
+    requires nodes { All (λ node. node < length trail.old.marks.items) trail.old.nodes.items }
+    ensures marked { IsMarked (drop start trail.old.nodes.items) (mark_of_group graph.now (drop start trail.old.nodes.items)) trail.old.marks.items trail.new.marks.items }
     ensures nodes { trail.new.nodes.items ≡ take start trail.old.nodes.items }
     ensures starts { trail.new.starts.items ≡ take (length trail.old.starts.items - 1) trail.old.starts.items }
     ensures waiting { trail.new.waiting.items ≡ trail.old.waiting.items }
 {
     let (_, group) = trail.nodes.split_at(start);
-    mark_all(marks, group, mark_of_group(graph, group));
+    mark_all(&mut trail.marks, group, mark_of_group(graph, group));
     trail.nodes.truncate(start);
     trail.starts.pop();
 }

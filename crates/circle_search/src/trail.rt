@@ -1,5 +1,5 @@
-//! The trail: the nodes that were reached and not left, in groups, and the targets that wait to be looked at.
-ghost use Rattle.std.specs.Prelude.{◌≡◌, ◌+◌, ◌<◌, ◌≤◌, [], ◌∷◌, ◌++◌, length, take, slice_set, MatchOption, OnOk};
+//! The trail: what is known of each node, the nodes that were reached and not left, in groups, and the targets that wait to be looked at.
+ghost use Rattle.std.specs.Prelude.{◌≡◌, ◌+◌, ◌<◌, ◌≤◌, [], ◌∷◌, ◌++◌, length, get_or, take, slice_set, MatchOption, OnOk};
 ghost use Rattle.std.specs.List.{All, AllPairs};
 ghost use Rattle.circle_search.specs.Graph.{targets};
 ghost use Rattle.circle_search.specs.Search.{edges, IsCut};
@@ -18,9 +18,22 @@ pub(crate) struct Edge {
 /// A group is what stands from its start to the next: nodes that all lead to each other, or one node.
 #[derive(Drop)]
 pub(crate) struct Trail {
+    pub marks: Vec<Mark>,
     pub nodes: Vec<usize>,
     pub starts: Vec<usize>,
     pub waiting: Vec<Edge>,
+}
+
+impl Trail {
+    /// The node's mark. What is no node leads nowhere, so it is on no circle.
+    pub(crate) fn mark(&self, node: usize) -> Mark
+        ensures { result ≡ get_or self.now.marks.items node Mark.OffCircle }
+    {
+        if node < self.marks.len() {
+            return self.marks[node];
+        }
+        Mark::OffCircle
+    }
 }
 
 /// Lets the targets of the node at this place wait.
@@ -37,14 +50,9 @@ fn push_edges(waiting: &mut Vec<Edge>, place: usize, targets: &[u32]) -> Result<
 }
 
 /// Opens the node, as a group of its own at the end of the trail.
-pub(crate) fn enter(
-    graph: &Graph,
-    marks: &mut [Mark],
-    trail: &mut Trail,
-    node: usize,
-) -> Result<(), NoMemory>
-    requires { node < length marks.old }
-    ensures marked { OnOk result (marks.new ≡ slice_set marks.old node (Mark.Open (length trail.old.nodes.items))) }
+pub(crate) fn enter(graph: &Graph, trail: &mut Trail, node: usize) -> Result<(), NoMemory>
+    requires { node < length trail.old.marks.items }
+    ensures marked { OnOk result (trail.new.marks.items ≡ slice_set trail.old.marks.items node (Mark.Open (length trail.old.nodes.items))) }
     ensures nodes { OnOk result (trail.new.nodes.items ≡ trail.old.nodes.items ++ node ∷ []) }
     ensures starts { OnOk result (trail.new.starts.items ≡ trail.old.starts.items ++ length trail.old.nodes.items ∷ []) }
     ensures waiting { OnOk result (trail.new.waiting.items ≡ trail.old.waiting.items ++ edges (length trail.old.nodes.items) (targets graph.now node)) }
@@ -53,7 +61,7 @@ pub(crate) fn enter(
     trail.nodes.push(node)?;
     trail.starts.push(place)?;
     push_edges(&mut trail.waiting, place, graph.targets(node))?;
-    marks[node] = Mark::Open(place);
+    trail.marks[node] = Mark::Open(place);
     Ok(())
 }
 

@@ -1,31 +1,19 @@
-use Rattle.std.proofs.Common.{replicate, sym, ◌∙◌, ap, arith}
+use Rattle.std.proofs.Common.{replicate, ◌∙◌, ap, arith}
 use Rattle.circle_search.specs.declared.mark.Mark.TheVariants.{New}
-use Rattle.circle_search.proofs.Ends.{first_fine, all_told, reached_more, written_back}
+use Rattle.circle_search.proofs.Ends.{first_fine, all_told}
 use Rattle.circle_search.proofs.search.search.Goals as goal
 
 pub loop-node-init : goal.loop-node-init
 loop-node-init c =
-    let all_new = c.in_ok-marks.ensures.items_if_clones_equal (λ y same. same) ∙ ap (λ n. replicate n New) c.len.ensures in
+    let all_new = c.in_ok-vec.ensures.items_if_clones_equal (λ y same. same) ∙ ap (λ n. replicate n New) c.len.ensures in
     record {
-      fine = first_fine c.args.graph.now c.in_ok-marks.marks.items c.new.result.items c.new-2.result.items c.new-3.result.items all_new c.new.ensures.items c.new-2.ensures.items c.new-3.ensures.items;
+      fine = first_fine c.args.graph.now c.in_ok-vec.field-0.items c.new.result.items c.new-2.result.items c.new-3.result.items all_new c.new.ensures.items c.new-2.ensures.items c.new-3.ensures.items;
       empty = c.new.ensures.items;
       reached = λ i low. let bad : ⊥ = omega arith in absurd bad;
     }
 
-pub loop-node-preserved : goal.loop-node-preserved
-loop-node-preserved c =
-    let state = c.loop-node.invariant in
-    let visited = c.in_ok-visit.ensures in
-    let same = written_back c.visit.new.marks c.loop-node.marks.items c.loop-node.marks.len (visited.fine.of_marks.long ∙ sym state.fine.of_marks.long)
-    (sym (rw c.deref_mut.ensures.value at c.deref_mut.ensures.len)) in
-    rw same (record {
-      fine = visited.fine;
-      empty = visited.empty;
-      reached = reached_more c.loop-node.marks.items c.visit.new.marks c.loop-node.node (rw c.deref_mut.ensures.value at visited.kept) state.reached visited.reached;
-    })
-
 pub returns : goal.returns
 returns c =
     let state = c.loop-node.invariant in
-    all_told c.args.graph.now c.loop-node.marks.items c.loop-node.trail.nodes.items c.loop-node.trail.starts.items c.loop-node.trail.waiting.items state.fine state.empty
+    all_told c.args.graph.now c.loop-node.trail.marks.items c.loop-node.trail.nodes.items c.loop-node.trail.starts.items c.loop-node.trail.waiting.items state.fine state.empty
     (λ i low. state.reached i (omega (arith, c.len-node-end.ensures, c.loop-node-test.false)))

@@ -6,7 +6,7 @@ use Rattle.circle_search.proofs.search.search.Given as goal
 -- the nodes so far were reached, and the trail is empty
 abbrev pub invariant-loop-node : goal.invariant-loop-node
 invariant-loop-node l = record {
-  fine : IsFine l.graph l.marks.items l.trail;
+  fine : IsFine l.graph l.trail;
   empty : l.trail.nodes.items ≡ [];
-  reached : (i : ℕ) → i < l.node → get_or l.marks.items i OffCircle ≢ New;
+  reached : (i : ℕ) → i < l.node → get_or l.trail.marks.items i OffCircle ≢ New;
 }
