@@ -128,7 +128,7 @@ standing_named reg name base None is has = absurd (omega (arith, has.1))
 standing_named reg name base (Some e) is has = found_named reg name e is
 
 -- without a circle no way over bases has more steps than there are entities
-bases_end : (reg : List Entity) (name : List ℕ) → HasNoCircle (leads_to reg) → ends_within (stands_on reg) (suc (length reg)) name ≡ true
+pub bases_end : (reg : List Entity) (name : List ℕ) → HasNoCircle (leads_to reg) → ends_within (stands_on reg) (suc (length reg)) name ≡ true
 bases_end reg name none =
     no_circle_ends (stands_on reg) (length reg) (map (λ x. x.name) reg) name (λ a circle. none a (ways_lead reg a a circle)) (length-map reg (λ (x : Entity). x.name))
     (λ b on_way c has. standing_named reg b c (find_entity b reg) refl has)
