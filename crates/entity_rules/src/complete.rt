@@ -4,10 +4,7 @@ ghost use Rattle.std.specs.List.{list_any};
 ghost use Rattle.uno_model.specs.Sound.{is_complete};
 ghost use Rattle.uno_entities.specs.Entities.{entity_of};
 
-use uno_entities::{Base, Body, Entity, Service};
-
-/// The interface on which all others stand.
-const ROOT: &str = "com.sun.star.uno.XInterface";
+use uno_entities::{Base, Body, Entity, Service, X_INTERFACE};
 
 /// Whether it has.
 #[tactic(auto, using(crate::proofs::AllLemmas::any_required))]
@@ -15,7 +12,7 @@ pub fn is_complete(entity: &Entity) -> bool
     ensures { result ≡ is_complete (entity_of entity.now) }
 {
     match &entity.body {
-        Body::Interface { bases, .. } => entity.name.as_str() == ROOT || any_required(bases),
+        Body::Interface { bases, .. } => entity.name.as_str() == X_INTERFACE || any_required(bases),
         Body::Enum { items } => !items.is_empty(),
         Body::Service(Service::New { constructors, .. }) => !constructors.is_empty(),
         _ => true,

@@ -11,7 +11,8 @@ use crate::{Base, Body, Entity, Field, Member, Method, Name, Param, TypeName, Wa
 use std::alloc::Global;
 use uno_base::NoMemory;
 
-const X_INTERFACE: &str = "com.sun.star.uno.XInterface";
+/// The interface on which all others stand.
+pub const X_INTERFACE: &str = "com.sun.star.uno.XInterface";
 
 const EXCEPTION: &str = "com.sun.star.uno.Exception";
 

@@ -19,7 +19,7 @@ mod type_name;
 mod type_rules;
 
 pub use bases::bases_of;
-pub use built_in::built_in_entities;
+pub use built_in::{X_INTERFACE, built_in_entities};
 pub use copies::{copy_names, copy_params};
 pub use entity::{
     Attribute, Base, Body, Constant, Constructor, Entity, Field, Item, Member, Method, Param, Part,

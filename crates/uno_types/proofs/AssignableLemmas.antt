@@ -47,7 +47,7 @@ not_there reg wanted name there none =
     let bad : false ≡ true = sym fails ∙ there in cc
 
 -- the bases of an interface, each of them there
-interfaces_there : (reg : List Entity) (bases : List Base) (name : List ℕ) → list_all (λ b. is_there reg is_interface b.name) bases ≡ true → Contains (map (λ b. b.name) bases) name
+pub interfaces_there : (reg : List Entity) (bases : List Base) (name : List ℕ) → list_all (λ b. is_there reg is_interface b.name) bases ≡ true → Contains (map (λ b. b.name) bases) name
     → is_there reg is_interface name ≡ true
 interfaces_there reg [] name all has = absurd (omega (arith, has.1))
 interfaces_there reg (b ∷ bases) name all has =

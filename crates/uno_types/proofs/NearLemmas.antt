@@ -78,14 +78,11 @@ module _ (reg : List Entity) (to : List ℕ) where
         | inr back ↦ any_back rest (name ∷ []) (inl (into name back))
       ])))
 
-  -- it ends where one of them is the name itself, or none is left
+  -- it ends where one of them is the name itself
   pub walk_finds : (P : Type 0) (name : List ℕ) (rest before : List (List ℕ)) → P ↔ AnyBase reg to before → before ≡ rest ++ name ∷ []
       → bytes_eq name to ≡ true → IsTrue true ↔ P
   walk_finds P name rest before so_far popped same =
       (λ yes. so_far.1 (subst (AnyBase reg to) (sym popped) (any_back rest (name ∷ []) (inl (inl ((bytes_eq-Decides name to).0 same))))), λ p. refl)
-
-  pub walk_ends : (P : Type 0) (before : List (List ℕ)) → P ↔ AnyBase reg to before → before ≡ [] → IsTrue false ↔ P
-  walk_ends P before so_far none = (λ bad. let absurdity : false ≡ true = bad in absurd cc, λ p. absurd (subst (AnyBase reg to) none (so_far.0 p)))
 
 -- ---- the names that are pending
 

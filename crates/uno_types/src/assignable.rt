@@ -1,18 +1,21 @@
 //! Whether a value of one type may stand where another is asked.
-ghost use Rattle.std.specs.Prelude.{◌≡◌, ◌↔◌, ◌<◌, Some, length, map, IfOk, IsTrue};
+ghost use Rattle.std.specs.Prelude.{◌≡◌, ◌↔◌, ◌<◌, ◌&&◌, Some, length, map, IfOk, IsTrue};
 ghost use Rattle.std.specs.List.{list_any};
+ghost use Rattle.std.specs.Str.{bytes_eq};
+ghost use Rattle.uno_model.specs.BuiltIn.{x_interface_name};
 ghost use Rattle.uno_model.specs.Reaches.{reaches_within};
 ghost use Rattle.uno_model.specs.Registry.{IsRising, IsBaseOf, Assignable, stands_on_body, required, at_most_one};
-ghost use Rattle.uno_model.specs.Sound.{IsSound};
+ghost use Rattle.uno_model.specs.Sound.{IsSound, is_interface, is_there};
 ghost use Rattle.uno_entities.specs.Entities.{entity_of, entities_of, base_of};
 ghost use Rattle.uno_entities.specs.Finding.{IsBaseAt};
 ghost use Rattle.uno_entities.specs.TypeNames.{kind_of};
 
 use crate::near_bases::near_base;
 use crate::{Base, Body, Entity, Name, Registry, TypeClass, TypeName};
+use entity_rules::{Wanted, is_there};
 use std::alloc::Global;
 use uno_base::NoMemory;
-use uno_entities::{bases_of, place_in};
+use uno_entities::{X_INTERFACE, bases_of, place_in};
 
 impl Registry {
     /// Whether a value of the one type may stand where the other is asked.
@@ -55,15 +58,25 @@ pub(crate) fn is_assignable(
     }
 }
 
-/// By a walk near by, which takes no memory, and else by marks. A name that is not there is a base of itself alone.
+/// At once for the interface on which all stand, by a walk near by, which takes no memory, and else by marks. A name that is not there is a base of itself alone.
 fn is_base_of(alloc: Global, registry: &Registry, to: &str, from: &str) -> bool
     requires { IsSound registry.now }
     ensures { IsTrue result ↔ IsBaseOf registry.now to.now from.now }
 {
+    if is_root_over(registry, to, from) {
+        return true;
+    }
     match near_base(registry, to, from) {
         Some(is) => is,
         None => is_far_base_of(alloc, registry, to, from),
     }
+}
+
+/// Whether the one is the interface on which all stand, and the other an interface.
+fn is_root_over(registry: &Registry, to: &str, from: &str) -> bool
+    ensures { result ≡ (bytes_eq to.now x_interface_name && is_there registry.now is_interface from.now) }
+{
+    to == X_INTERFACE && is_there(registry.entities(), Wanted::Interface, from)
 }
 
 /// By a mark for each entity; where there is no room for them, by a walk that takes none and may take long.
