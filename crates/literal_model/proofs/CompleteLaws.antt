@@ -114,15 +114,7 @@ found_differ (e ∷ es) name differ = by_name (bytes_eq name e.name) refl (found
   where
     of_entity : (d : Entity) (b : Body) → d.body ≡ b → items_differ d ≡ true → all_differ (map (λ (i : Item). i.name) (items_of (Some d))) ≡ true
     of_entity d (plain.enum items) is it = rw is (rw is at it)
-    of_entity d (plain.interface bases members) is it = rw is refl
-    of_entity d (plain.struct base members) is it = rw is refl
-    of_entity d (plain.exception base members) is it = rw is refl
-    of_entity d (plain.constants cs) is it = rw is refl
-    of_entity d (plain.typedef k) is it = rw is refl
-    of_entity d (plain.new_service base cs) is it = rw is refl
-    of_entity d (plain.old_service parts) is it = rw is refl
-    of_entity d (plain.new_singleton base) is it = rw is refl
-    of_entity d (plain.old_singleton service) is it = rw is refl
+    of_entity d _ is it = rw is refl
 
     by_name : (b : Bool) → bytes_eq name e.name ≡ b → all_differ (map (λ (i : Item). i.name) (items_of (find_entity name es))) ≡ true
         → all_differ (map (λ (i : Item). i.name) (items_of (find_entity name (e ∷ es)))) ≡ true

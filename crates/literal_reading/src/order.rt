@@ -155,8 +155,7 @@ fn behind_of(token: &Token) -> Awaited
         Token::Opens(Bracket::Curly) => Awaited::Value,
         Token::Comma => Awaited::Value,
         Token::Cast(kind) => behind_cast(kind),
-        Token::Closes(_) | Token::Number(_) | Token::Word(_) | Token::String(_) | Token::Named(_) =>
-            Awaited::Separator,
+        _ => Awaited::Separator,
     }
 }
 
@@ -184,11 +183,6 @@ fn open_or_close(outer: &mut Vec<Bracket>, token: &Token) -> Result<(), Stop>
             outer.pop();
             Ok(())
         }
-        Token::Comma
-        | Token::Number(_)
-        | Token::Word(_)
-        | Token::String(_)
-        | Token::Named(_)
-        | Token::Cast(_) => Ok(()),
+        _ => Ok(()),
     }
 }

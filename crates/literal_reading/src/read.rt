@@ -10,7 +10,6 @@ ghost use Rattle.literal_model.specs.Verdicts.{verdict, typed_verdict, whole_ver
 ghost use Rattle.literal_reading.specs.Reading.{Reads};
 ghost use Rattle.literal_reading.specs.Scanning.{all_placed};
 
-use crate::misread::Misread;
 use crate::order::judge;
 use crate::stop::Stop;
 use crate::token::Placed;
@@ -91,8 +90,8 @@ fn value_of(
 {
     match value_within(alloc, registry, LEVELS, kind, tokens) {
         Ok((value, rest)) => whole(length, value, rest),
-        Err(Misread::NoMemory) => Err(TextError::NoMemory),
-        Err(Misread::Misfit(left)) => Err(TextError::WrongType(place_of(length, left))),
+        Err(Stop::NoMemory) => Err(TextError::NoMemory),
+        Err(Stop::Bad(left)) => Err(TextError::WrongType(place_of(length, left))),
     }
 }
 

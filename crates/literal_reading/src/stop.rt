@@ -1,10 +1,10 @@
-//! Why a text is not read further.
+//! Why a text, or its tokens, are not read further.
 ghost use Rattle.std.specs.Prelude.{◌≡◌};
 ghost use Rattle.literal_reading.specs.declared.stop.Stop.TheVariants.{NoMemory};
 
 use std::alloc::{AllocError, AllocFailed};
 
-/// Want of memory, or the bytes that are left from the first bad one on.
+/// Want of memory, or the bytes that are left: from the first bad one on, or from the front of the first value that is none of its type.
 #[derive(Clone, Copy)]
 pub(crate) enum Stop {
     NoMemory,
