@@ -7,7 +7,7 @@ ghost use Rattle.literal_reading.specs.Scanning.{Scans, with_tokens, token_of, a
 ghost use Rattle.literal_reading.specs.declared.stop.Stop.TheVariants.{NoMemory};
 
 use crate::scan::value_at;
-use crate::stop::Stop;
+use crate::stop::{Scan, Stop};
 use crate::token::{Bracket, Placed, Token};
 use std::alloc::Global;
 use uno_types::{Registry, TypeName};
@@ -89,7 +89,7 @@ fn token_at<'a>(
     awaited: Awaited,
     outer: &[Bracket],
     bytes: &'a [u8],
-) -> Result<(Token, &'a [u8]), Stop>
+) -> Scan<'a, Token>
     requires { IsSound registry.now }
     ensures { Scans (λ x. (token_of x.0, x.1.now)) result (token_at registry.now (awaited_of awaited) (outer_of outer.now) bytes.now) }
 {
@@ -101,11 +101,7 @@ fn token_at<'a>(
 }
 
 /// A value, or the end of a sequence without elements.
-fn element_at<'a>(
-    alloc: Global,
-    registry: &Registry,
-    bytes: &'a [u8],
-) -> Result<(Token, &'a [u8]), Stop>
+fn element_at<'a>(alloc: Global, registry: &Registry, bytes: &'a [u8]) -> Scan<'a, Token>
     requires { IsSound registry.now }
     ensures { Scans (λ x. (token_of x.0, x.1.now)) result (element_at registry.now bytes.now) }
 {
@@ -119,7 +115,7 @@ fn element_at<'a>(
 }
 
 /// A comma or the end of what is open; behind the whole value there is neither.
-fn separator_at<'a>(outer: &[Bracket], bytes: &'a [u8]) -> Result<(Token, &'a [u8]), Stop>
+fn separator_at<'a>(outer: &[Bracket], bytes: &'a [u8]) -> Scan<'a, Token>
     ensures { Scans (λ x. (token_of x.0, x.1.now)) result (separator_at (outer_of outer.now) bytes.now) }
 {
     let Some((first, behind)) = bytes.split_first() else {

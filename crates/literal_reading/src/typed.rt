@@ -14,8 +14,8 @@ ghost use Rattle.literal_reading.specs.Typing.{Gives, before, kinds_at, with_fir
 mod bytes;
 mod expect;
 
-use crate::stop::Stop;
 use crate::single::single;
+use crate::stop::{Read, Stop};
 use crate::token::{Placed, Token};
 use bytes::bytes_of;
 use expect::{Mark, comma_at, expect, is_mark, left_at};
@@ -32,7 +32,7 @@ pub(crate) fn value_within<'a>(
     levels: u32,
     kind: &TypeName,
     tokens: &'a [Placed],
-) -> Result<(Value, &'a [Placed]), Stop>
+) -> Read<'a, Value>
     ensures { Gives (λ x. (plain_of x.0, all_placed x.1.now)) result (value_within levels registry.now (kind_of kind.now) (all_placed tokens.now)) }
 {
     if levels == 0 {
@@ -53,7 +53,7 @@ fn value_step<'a>(
     inner: u32,
     kind: &TypeName,
     tokens: &'a [Placed],
-) -> Result<(Value, &'a [Placed]), Stop>
+) -> Read<'a, Value>
     ensures { Gives (λ x. (plain_of x.0, all_placed x.1.now)) result (value_step registry.now (value_within inner registry.now) (kind_of kind.now) (all_placed tokens.now)) }
 {
     match kind {
@@ -72,7 +72,7 @@ fn only_token<'a>(
     registry: &Registry,
     kind: &TypeName,
     tokens: &'a [Placed],
-) -> Result<(Value, &'a [Placed]), Stop>
+) -> Read<'a, Value>
     ensures { Gives (λ x. (plain_of x.0, all_placed x.1.now)) result (only_token (single registry.now (kind_of kind.now)) (all_placed tokens.now)) }
 {
     let Some((first, rest)) = tokens.split_first() else {
@@ -91,7 +91,7 @@ fn any_of<'a>(
     registry: &Registry,
     inner: u32,
     tokens: &'a [Placed],
-) -> Result<(Value, &'a [Placed]), Stop>
+) -> Read<'a, Value>
     ensures { Gives (λ x. (plain_of x.0, all_placed x.1.now)) result (any_of (value_within inner registry.now) (all_placed tokens.now)) }
 {
     let Some((first, rest)) = tokens.split_first() else {
@@ -110,7 +110,7 @@ fn held_by<'a>(
     inner: u32,
     kind: &TypeName,
     tokens: &'a [Placed],
-) -> Result<(Value, &'a [Placed]), Stop>
+) -> Read<'a, Value>
     ensures { Gives (λ x. (plain_of x.0, all_placed x.1.now)) result (held_by (value_within inner registry.now) (kind_of kind.now) (all_placed tokens.now)) }
 {
     if is_void(kind) {
@@ -132,7 +132,7 @@ fn any_before<'a>(
     kind: &TypeName,
     value: Value,
     rest: &'a [Placed],
-) -> Result<(Value, &'a [Placed]), Stop>
+) -> Read<'a, Value>
     ensures { Gives (λ x. (plain_of x.0, all_placed x.1.now)) result (before (plain.any (kind_of kind.now) (plain_of value)) (all_placed rest.now)) }
 {
     let Ok(kind) = kind.copy(alloc) else {
@@ -152,7 +152,7 @@ fn sequence_of<'a>(
     inner: u32,
     element: &TypeName,
     tokens: &'a [Placed],
-) -> Result<(Value, &'a [Placed]), Stop>
+) -> Read<'a, Value>
     ensures { Gives (λ x. (plain_of x.0, all_placed x.1.now)) result (value_step registry.now (value_within inner registry.now) (kd.sequence (kind_of element.now)) (all_placed tokens.now)) }
 {
     if let TypeName::Byte = element {
@@ -169,7 +169,7 @@ fn list_before<'a>(
     element: &TypeName,
     elements: Vec<Value>,
     rest: &'a [Placed],
-) -> Result<(Value, &'a [Placed]), Stop>
+) -> Read<'a, Value>
     ensures { Gives (λ x. (plain_of x.0, all_placed x.1.now)) result (before (plain.list (kind_of element.now) (plains (map plain_of elements.items))) (all_placed rest.now)) }
 {
     let Ok(element) = element.copy(alloc) else {
@@ -186,7 +186,7 @@ fn elements_of<'a>(
     inner: u32,
     element: &TypeName,
     tokens: &'a [Placed],
-) -> Result<(Vec<Value>, &'a [Placed]), Stop>
+) -> Read<'a, Vec<Value>>
     ensures { Gives (λ x. (map plain_of x.0.items, all_placed x.1.now)) result (sequence_of (value_within inner registry.now (kind_of element.now)) (all_placed tokens.now)) }
 {
     let left = left_at(tokens);
@@ -248,7 +248,7 @@ fn tuple_of<'a>(
     inner: u32,
     name: &Name,
     tokens: &'a [Placed],
-) -> Result<(Value, &'a [Placed]), Stop>
+) -> Read<'a, Value>
     ensures { Gives (λ x. (plain_of x.0, all_placed x.1.now)) result (value_step registry.now (value_within inner registry.now) (kd.struct name.now) (all_placed tokens.now)) }
 {
     let left = left_at(tokens);
@@ -272,7 +272,7 @@ fn tuple_before<'a>(
     name: &Name,
     members: Vec<Value>,
     rest: &'a [Placed],
-) -> Result<(Value, &'a [Placed]), Stop>
+) -> Read<'a, Value>
     ensures { Gives (λ x. (plain_of x.0, all_placed x.1.now)) result (before (plain.tuple name.now (plains (map plain_of members.items))) (all_placed rest.now)) }
 {
     let Ok(name) = name.copy(alloc) else {

@@ -5,13 +5,13 @@ ghost use Rattle.literal_reading.specs.Scanning.{all_placed};
 ghost use Rattle.literal_reading.specs.Typing.{Gives, with_firsts};
 
 use super::expect::{Mark, expect, is_mark, left_at};
-use crate::stop::Stop;
 use crate::single::bits_in;
+use crate::stop::{Read, Stop};
 use crate::token::Placed;
 use std::alloc::Global;
 
 /// Bytes in square brackets.
-pub(crate) fn bytes_of(alloc: Global, tokens: &[Placed]) -> Result<(Vec<u8>, &[Placed]), Stop>
+pub(crate) fn bytes_of(alloc: Global, tokens: &[Placed]) -> Read<'_, Vec<u8>>
     ensures { Gives (λ x. (x.0.items, all_placed x.1.now)) result (sequence_of (only_token byte_in) (all_placed tokens.now)) }
 {
     let left = left_at(tokens);
@@ -19,7 +19,7 @@ pub(crate) fn bytes_of(alloc: Global, tokens: &[Placed]) -> Result<(Vec<u8>, &[P
     bytes_in(alloc, left, rest)
 }
 
-fn bytes_in(alloc: Global, left: usize, tokens: &[Placed]) -> Result<(Vec<u8>, &[Placed]), Stop>
+fn bytes_in(alloc: Global, left: usize, tokens: &[Placed]) -> Read<'_, Vec<u8>>
     ensures { Gives (λ x. (x.0.items, all_placed x.1.now)) result (elements_in left (only_token byte_in) (all_placed tokens.now)) }
 {
     let Some((first, rest)) = tokens.split_first() else {
@@ -38,7 +38,7 @@ fn bytes_in(alloc: Global, left: usize, tokens: &[Placed]) -> Result<(Vec<u8>, &
     }
 }
 
-fn byte_at(tokens: &[Placed]) -> Result<(u8, &[Placed]), Stop>
+fn byte_at(tokens: &[Placed]) -> Read<'_, u8>
     ensures { Gives (λ x. (x.0, all_placed x.1.now)) result (only_token byte_in (all_placed tokens.now)) }
 {
     let Some((first, rest)) = tokens.split_first() else {
