@@ -14,9 +14,9 @@ use Rattle.uno_model.specs.Kinds as kd
 use Rattle.literal_model.specs.Literals.{escaped, Bracket, square, curly, Token, opens, closes, comma, number, word, string, named, cast, spell, spells}
 use Rattle.uno_model.specs.NamedTypes.{IsNamed, type_of_text}
 use Rattle.uno_model.specs.Names.{begins_identifier, goes_on_identifier}
-use Rattle.literal_model.specs.Shapes.{largest, lowest, is_known_word, front, rest}
+use Rattle.literal_model.specs.Shapes.{largest, lowest, is_known_word, run_of, behind_run}
 use Rattle.literal_model.specs.Shapes.{digits_on, digits_at, on_ok, with_byte, escape_of, string_at, is_name_byte, name_stop, type_at, cast_of, word_at, negative_of, number_at, value_at, Awaited}
-use Rattle.literal_model.specs.Shapes.{value, element, separator, behind, opened, closing, separator_at, element_at, token_at, Placed, with_token, is_whole, tokens_at}
+use Rattle.literal_model.specs.Shapes.{value, element, separator, behind, opened, closing, separator_at, element_at, token_at, Placed, with_token, is_at_end, tokens_at}
 use Rattle.uno_model.specs.Sound.{is_named}
 use Rattle.uno_model.specs.Types.{is_type}
 
@@ -27,12 +27,12 @@ pub not_ok : {Y : Type 0} (left : ℕ) (y : Y) → Err left ≡ Ok y → ⊥
 not_ok left y e = cc
 
 -- a run and what is behind it are the whole
-pub front_rest : (test : ℕ → Bool) (bytes : List ℕ) → bytes ≡ front test bytes ++ rest test bytes
-unfolding front rest
+pub front_rest : (test : ℕ → Bool) (bytes : List ℕ) → bytes ≡ run_of test bytes ++ behind_run test bytes
+unfolding run_of behind_run
 front_rest test [] = refl
 front_rest test (c ∷ cs) = by_test (test c) refl (front_rest test cs)
   where
-    by_test : (b : Bool) → test c ≡ b → cs ≡ front test cs ++ rest test cs → c ∷ cs ≡ front test (c ∷ cs) ++ rest test (c ∷ cs)
+    by_test : (b : Bool) → test c ≡ b → cs ≡ run_of test cs ++ behind_run test cs → c ∷ cs ≡ run_of test (c ∷ cs) ++ behind_run test (c ∷ cs)
     by_test true passes inner = rw (passes) (ap (λ xs. c ∷ xs) inner)
     by_test false fails inner = rw (fails) refl
 
@@ -164,25 +164,25 @@ pub record IsTypeAt (reg : List Entity) (mark : ℕ) (bytes : List ℕ) (k : Kin
 
 type_sound : (reg : List Entity) (mark : ℕ) (bytes : List ℕ) (k : Kind) (r : List ℕ) → list_all is_named reg ≡ true
     → type_at reg mark bytes ≡ Ok (k, r) → IsTypeAt reg mark bytes k r
-type_sound reg mark bytes k r named_all e = by_rest (rest is_name_byte bytes) refl
+type_sound reg mark bytes k r named_all e = by_rest (behind_run is_name_byte bytes) refl
   where
-    by_type : (c : ℕ) (cs : List ℕ) (o : Option Kind) → rest is_name_byte bytes ≡ c ∷ cs → (c == mark) ≡ true
-        → type_of_text reg (front is_name_byte bytes) ≡ o
-        → MatchOption o ((j : Kind) → IsNamed reg (front is_name_byte bytes) j → ⊥) (IsNamed reg (front is_name_byte bytes))
+    by_type : (c : ℕ) (cs : List ℕ) (o : Option Kind) → behind_run is_name_byte bytes ≡ c ∷ cs → (c == mark) ≡ true
+        → type_of_text reg (run_of is_name_byte bytes) ≡ o
+        → MatchOption o ((j : Kind) → IsNamed reg (run_of is_name_byte bytes) j → ⊥) (IsNamed reg (run_of is_name_byte bytes))
         → IsTypeAt reg mark bytes k r
     by_type c cs (Some j) behind_it marked found is =
         ok_holds (IsTypeAt reg mark bytes) j k cs r (rw (behind_it, marked, found) at e)
         (record {
-          spelled = front_rest is_name_byte bytes ∙ ap (λ x. front is_name_byte bytes ++ x) (behind_it ∙ ap (λ x. x ∷ cs) (eqb-true c mark marked)) ∙ ap (λ x. x ++ mark ∷ cs) (sym is.named);
+          spelled = front_rest is_name_byte bytes ∙ ap (λ x. run_of is_name_byte bytes ++ x) (behind_it ∙ ap (λ x. x ∷ cs) (eqb-true c mark marked)) ∙ ap (λ x. x ++ mark ∷ cs) (sym is.named);
           type = is.is;
         })
     by_type c cs None behind_it marked found is = absurd (not_ok (length bytes) (k, r) (rw (behind_it, marked, found) at e))
 
-    by_mark : (c : ℕ) (cs : List ℕ) (b : Bool) → rest is_name_byte bytes ≡ c ∷ cs → (c == mark) ≡ b → IsTypeAt reg mark bytes k r
-    by_mark c cs true behind_it marked = by_type c cs (type_of_text reg (front is_name_byte bytes)) behind_it marked refl (text_finds reg (front is_name_byte bytes) named_all)
+    by_mark : (c : ℕ) (cs : List ℕ) (b : Bool) → behind_run is_name_byte bytes ≡ c ∷ cs → (c == mark) ≡ b → IsTypeAt reg mark bytes k r
+    by_mark c cs true behind_it marked = by_type c cs (type_of_text reg (run_of is_name_byte bytes)) behind_it marked refl (text_finds reg (run_of is_name_byte bytes) named_all)
     by_mark c cs false behind_it other = absurd (not_ok (name_stop reg bytes) (k, r) (rw (behind_it, other) at e))
 
-    by_rest : (xs : List ℕ) → rest is_name_byte bytes ≡ xs → IsTypeAt reg mark bytes k r
+    by_rest : (xs : List ℕ) → behind_run is_name_byte bytes ≡ xs → IsTypeAt reg mark bytes k r
     by_rest [] none = absurd (not_ok (name_stop reg bytes) (k, r) (rw none at e))
     by_rest (c ∷ cs) behind_it = by_mark c cs (c == mark) behind_it refl
 
@@ -199,11 +199,11 @@ cast_sound reg left bytes k cs t r is e =
     (record { spelled = ap (λ x. 40 ∷ x) (is.spelled ∙ sym (append_assoc (name_of k) (41 ∷ []) cs)); typed = ((λ same. let bad : ⊥ = cc in bad), is.type) })
 
 word_sound : (reg : List Entity) (bytes : List ℕ) (t : Token) (r : List ℕ) → word_at reg bytes ≡ Ok (t, r) → IsTokenAt reg bytes t r
-word_sound reg bytes t r e = by_known (is_known_word reg (front goes_on_identifier bytes)) refl
+word_sound reg bytes t r e = by_known (is_known_word reg (run_of goes_on_identifier bytes)) refl
   where
-    by_known : (b : Bool) → is_known_word reg (front goes_on_identifier bytes) ≡ b → IsTokenAt reg bytes t r
+    by_known : (b : Bool) → is_known_word reg (run_of goes_on_identifier bytes) ≡ b → IsTokenAt reg bytes t r
     by_known true known =
-        ok_holds (IsTokenAt reg bytes) (word (front goes_on_identifier bytes)) t (rest goes_on_identifier bytes) r (rw known at e)
+        ok_holds (IsTokenAt reg bytes) (word (run_of goes_on_identifier bytes)) t (behind_run goes_on_identifier bytes) r (rw known at e)
         (record { spelled = front_rest goes_on_identifier bytes; typed = tt })
     by_known false unknown = absurd (not_ok (length bytes) (t, r) (rw unknown at e))
 
@@ -331,7 +331,7 @@ list_parts : (p : Placed) (m : Result (List Placed) ℕ) (ps : List Placed) → 
 list_parts p (Ok qs) ps e = let is : p ∷ qs ≡ ps = cc in (qs, refl, sym is)
 list_parts p (Err left) ps e = absurd (not_ok left ps e)
 
-whole_is_empty : (awaited : Awaited) (outer : List Bracket) (bytes : List ℕ) → is_whole awaited outer bytes ≡ true → bytes ≡ []
+whole_is_empty : (awaited : Awaited) (outer : List Bracket) (bytes : List ℕ) → is_at_end awaited outer bytes ≡ true → bytes ≡ []
 whole_is_empty separator [] [] e = refl
 whole_is_empty separator [] (c ∷ cs) e = let bad : ⊥ = cc in absurd bad
 whole_is_empty separator (b ∷ outer) bytes e = let bad : ⊥ = cc in absurd bad
@@ -342,12 +342,12 @@ pub tokens_sound : (n : ℕ) (reg : List Entity) (awaited : Awaited) (outer : Li
     → list_all is_named reg ≡ true → tokens_at n reg awaited outer bytes ≡ Ok ps → AreTokens reg bytes ps
 unfolding tokens_at
 tokens_sound zero reg awaited outer bytes ps named_all e = absurd (not_ok 0 ps e)
-tokens_sound (suc n) reg awaited outer bytes ps named_all e = by_whole (is_whole awaited outer bytes) refl (λ t r qs f. tokens_sound n reg (behind t) (opened t outer) r qs named_all f)
+tokens_sound (suc n) reg awaited outer bytes ps named_all e = by_whole (is_at_end awaited outer bytes) refl (λ t r qs f. tokens_sound n reg (behind t) (opened t outer) r qs named_all f)
   where
     Inner : Type 0
     Inner = (t : Token) (r : List ℕ) (qs : List Placed) → tokens_at n reg (behind t) (opened t outer) r ≡ Ok qs → AreTokens reg r qs
 
-    by_token : (m : Result (Token × List ℕ) ℕ) → is_whole awaited outer bytes ≡ false → token_at reg awaited outer bytes ≡ m → Inner → AreTokens reg bytes ps
+    by_token : (m : Result (Token × List ℕ) ℕ) → is_at_end awaited outer bytes ≡ false → token_at reg awaited outer bytes ≡ m → Inner → AreTokens reg bytes ps
     by_token (Ok x) going read inner =
         let parts = list_parts (record { left = length bytes; token = x.0 }) (tokens_at n reg (behind x.0) (opened x.0 outer) x.1) ps (rw (going, read) at e) in
         let one = token_sound reg awaited outer bytes x.0 x.1 named_all read in
@@ -357,7 +357,7 @@ tokens_sound (suc n) reg awaited outer bytes ps named_all e = by_whole (is_whole
         subst (AreTokens reg bytes) (sym parts.2) all
     by_token (Err left) going read inner = absurd (not_ok left ps (rw (going, read) at e))
 
-    by_whole : (b : Bool) → is_whole awaited outer bytes ≡ b → Inner → AreTokens reg bytes ps
+    by_whole : (b : Bool) → is_at_end awaited outer bytes ≡ b → Inner → AreTokens reg bytes ps
     by_whole true whole inner =
         let none : Ok [] ≡ Ok ps = rw whole at e in
         let is : [] ≡ ps = cc in

@@ -28,7 +28,7 @@ use Rattle.literal_model.specs.Readings.{is_void}
 use Rattle.uno_model.specs.Registry.{find_entity, all_members}
 use Rattle.literal_model.specs.Shapes.{is_some_name}
 use Rattle.literal_model.specs.Shapes.{is_first_name, is_own_word, is_known_word, is_word, on_ok, is_name_byte, type_at, cast_of, string_at, value_at, Awaited, value}
-use Rattle.literal_model.specs.Shapes.{element, separator, behind_cast, behind, opened, separator_at, element_at, token_at, Placed, is_whole, tokens_at, judge}
+use Rattle.literal_model.specs.Shapes.{element, separator, behind_cast, behind, opened, separator_at, element_at, token_at, Placed, is_at_end, tokens_at, judge}
 use Rattle.uno_model.specs.Sound.{IsSound, is_named, inner_names, is_there, is_enum, is_struct, is_exception}
 use Rattle.uno_model.specs.Sound.{is_interface, kind_known, elements_plain, is_namable, is_some_list, has_member}
 use Rattle.uno_model.specs.Spellable.{AreBytes, IsSpellable, AreSpellable}
@@ -160,7 +160,7 @@ may separator (b ∷ outer) (closes c) = same_bracket b c
 may separator (b ∷ outer) t = false
 
 unfoldable pub ordered : Awaited → List Bracket → List Token → Bool
-ordered awaited outer [] = is_whole awaited outer []
+ordered awaited outer [] = is_at_end awaited outer []
 ordered awaited outer (t ∷ ts) = may awaited outer t && ordered (behind t) (opened t outer) ts
 
 -- behind a value no run goes on
@@ -222,7 +222,7 @@ token_back reg separator (b ∷ outer) comma r named_all is good follows = refl
 token_back reg separator (b ∷ outer) (closes c) r named_all is good follows = closes_back b c outer r is
 token_back reg separator (b ∷ outer) _ r named_all is good follows = let bad : ⊥ = cc in absurd bad
 
-not_whole : (awaited : Awaited) (outer : List Bracket) (t : Token) (bytes : List ℕ) → may awaited outer t ≡ true → is_whole awaited outer bytes ≡ false
+not_whole : (awaited : Awaited) (outer : List Bracket) (t : Token) (bytes : List ℕ) → may awaited outer t ≡ true → is_at_end awaited outer bytes ≡ false
 not_whole value outer t bytes is = refl
 not_whole element outer t bytes is = refl
 not_whole separator [] t bytes is = let bad : ⊥ = cc in absurd bad
@@ -244,7 +244,7 @@ tokens_back (suc n) reg awaited outer (t ∷ ts) named_all room order good =
     let reads = token_back reg awaited outer t (spells ts) named_all parts.0 good.0 (follows_on t outer ts parts.1) in
     (p ∷ inner.0, ap (λ us. t ∷ us) inner.1, step p inner.0 going reads inner.2)
   where
-    step : (p : Placed) (qs : List Placed) → is_whole awaited outer (spell t ++ spells ts) ≡ false
+    step : (p : Placed) (qs : List Placed) → is_at_end awaited outer (spell t ++ spells ts) ≡ false
         → token_at reg awaited outer (spell t ++ spells ts) ≡ Ok (t, spells ts) → tokens_at n reg (behind t) (opened t outer) (spells ts) ≡ Ok qs
         → tokens_at (suc n) reg awaited outer (spell t ++ spells ts) ≡ Ok (record { left = length (spell t ++ spells ts); token = t } ∷ qs)
     step p qs going reads inner = rw (going, reads, inner) refl

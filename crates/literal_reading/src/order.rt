@@ -1,6 +1,6 @@
 //! The order of tokens: a text is cut into them, and each is one that may stand at its place.
 ghost use Rattle.std.specs.Prelude.{◌≡◌, ◌++◌, ◌∷◌, [], suc, length, OnOk, IfErr};
-ghost use Rattle.literal_model.specs.Shapes.{value, judge, tokens_at, token_at, element_at, separator_at, closing, behind, behind_cast, opened, is_whole};
+ghost use Rattle.literal_model.specs.Shapes.{value, judge, tokens_at, token_at, element_at, separator_at, closing, behind, behind_cast, opened, is_at_end};
 ghost use Rattle.uno_model.specs.Sound.{IsSound};
 ghost use Rattle.uno_entities.specs.TypeNames.{kind_of};
 ghost use Rattle.literal_reading.specs.Scanning.{Scans, with_tokens, token_of, all_placed, bracket_of, awaited_of, outer_of};
@@ -47,7 +47,7 @@ fn push_tokens(
     let mut awaited = Awaited::Value;
     let mut rest = bytes;
     for _ in 0..bytes.len() + 1 {
-        if is_whole(awaited, outer, rest) {
+        if is_at_end(awaited, outer, rest) {
             return Ok(());
         }
         let (token, behind) = token_at(alloc, registry, awaited, outer, rest)?;
@@ -74,8 +74,8 @@ fn push_token(
     opened
 }
 
-fn is_whole(awaited: Awaited, outer: &[Bracket], rest: &[u8]) -> bool
-    ensures { result ≡ is_whole (awaited_of awaited) (outer_of outer.now) rest.now }
+fn is_at_end(awaited: Awaited, outer: &[Bracket], rest: &[u8]) -> bool
+    ensures { result ≡ is_at_end (awaited_of awaited) (outer_of outer.now) rest.now }
 {
     match awaited {
         Awaited::Separator => outer.is_empty() && rest.is_empty(),
