@@ -20,7 +20,7 @@ use Rattle.uno_model.specs.Kinds.{Kind}
 use Rattle.uno_model.specs.Kinds as kd
 use Rattle.literal_model.specs.Literals.{first_item, object, ref_token, Token, opens, closes, comma, number, word, string, named, cast, square, curly, tokens_of, tokens_in, byte_tokens, comma_tokens}
 use Rattle.literal_model.specs.Literals.{item_token}
-use Rattle.literal_model.specs.Readings.{Fault, deep, Reads, left_at, unsigned_of, signed_of, number_named, item_in, some_as, single, of_token, only_token}
+use Rattle.literal_model.specs.Readings.{Fault, deep, Reads, with_first, behind_element, held_by, left_at, unsigned_of, signed_of, number_named, item_in, some_as, single, of_token, only_token}
 use Rattle.literal_model.specs.Readings.{cast_in, is_comma, opens_square, opens_curly, closes_square, closes_curly, expect, elements_on, elements_in}
 use Rattle.literal_model.specs.Readings.{sequence_of, comma_at, members_on, tuple_of, is_void, any_of, byte_in, value_step, value_within}
 use Rattle.uno_model.specs.Registry.{find_entity}
@@ -41,6 +41,19 @@ Comes r x ts = (r ≡ Err deep) ⊎ ((rs : List Placed) × (bare rs ≡ ts) × (
 
 abbrev pub Comes_all : List Entity → (Kind → Reads Plain) → Type 0
 Comes_all reg read = (k : Kind) (x : Plain) (ps : List Placed) (ts : List Token) → Fits reg x k → refs x ≡ [] → IsSpellable x → bare ps ≡ tokens_of reg x ++ ts → Comes (read k ps) x ts
+
+-- what comes of a step comes of the whole
+comes_on : {X Y : Type 0} (m : Result (X × List Placed) Fault) (x : X) (us : List Token) (go : X × List Placed → Result (Y × List Placed) Fault) (y : Y) (ts : List Token)
+    → Comes m x us → ((rs : List Placed) → bare rs ≡ us → Comes (go (x, rs)) y ts) → Comes (on_ok m go) y ts
+comes_on m x us go y ts (inl deeper) on = inl (rw deeper refl)
+comes_on m x us go y ts (inr one) on = subst (λ r. Comes (on_ok r go) y ts) (sym one.2) (on one.0 one.1)
+
+comes_behind : {A Y : Type 0} (m : Result A Fault) (a : A) (go : A → Result (Y × List Placed) Fault) (y : Y) (ts : List Token) → m ≡ Ok a → Comes (go a) y ts → Comes (on_ok m go) y ts
+comes_behind m a go y ts is on = subst (λ r. Comes (on_ok r go) y ts) (sym is) on
+
+comes_first : {X : Type 0} (x : X) (m : Result (List X × List Placed) Fault) (xs : List X) (ts : List Token) → Comes m xs ts → Comes (with_first x m) (x ∷ xs) ts
+comes_first x m xs ts (inl deeper) = inl (rw deeper refl)
+comes_first x m xs ts (inr all) = inr (all.0, all.1, ap (with_first x) all.2)
 
 -- tokens begin with one
 pub one_token : (ps : List Placed) (t : Token) (ts : List Token) → bare ps ≡ t ∷ ts → (p : Placed) × (qs : List Placed) × (ps ≡ p ∷ qs) × (p.token ≡ t) × (bare qs ≡ ts)
@@ -114,15 +127,7 @@ found_differ (e ∷ es) name differ = by_name (bytes_eq name e.name) refl (found
   where
     of_entity : (d : Entity) (b : Body) → d.body ≡ b → items_differ d ≡ true → all_differ (map (λ (i : Item). i.name) (items_of (Some d))) ≡ true
     of_entity d (plain.enum items) is it = rw is (rw is at it)
-    of_entity d (plain.interface bases members) is it = rw is refl
-    of_entity d (plain.struct base members) is it = rw is refl
-    of_entity d (plain.exception base members) is it = rw is refl
-    of_entity d (plain.constants cs) is it = rw is refl
-    of_entity d (plain.typedef k) is it = rw is refl
-    of_entity d (plain.new_service base cs) is it = rw is refl
-    of_entity d (plain.old_service parts) is it = rw is refl
-    of_entity d (plain.new_singleton base) is it = rw is refl
-    of_entity d (plain.old_singleton service) is it = rw is refl
+    of_entity d _ is it = rw is refl
 
     by_name : (b : Bool) → bytes_eq name e.name ≡ b → all_differ (map (λ (i : Item). i.name) (items_of (find_entity name es))) ≡ true
         → all_differ (map (λ (i : Item). i.name) (items_of (find_entity name (e ∷ es)))) ≡ true
@@ -141,6 +146,25 @@ expect_back left test t ps ts passes e =
 
 -- ---- elements
 
+behind_last : {X : Type 0} (left : ℕ) (x : X) (qs : List Placed) (more_read : Reads (List X)) (ts : List Token) → bare qs ≡ closes square ∷ ts
+    → Comes (behind_element left x qs more_read) (x ∷ []) ts
+behind_last left x [] more_read ts is = let bad : ⊥ = cc in absurd bad
+behind_last left x (p ∷ qs) more_read ts is =
+    let token : p.token ≡ closes square = cc in
+    let behind_it : bare qs ≡ ts = cc in
+    let ends : closes_square p.token ≡ true = ap closes_square token in
+    inr (qs, behind_it, rw ends refl)
+
+behind_comma : {X : Type 0} (left : ℕ) (x : X) (qs : List Placed) (more_read : Reads (List X)) (us : List Token) (ys : List X) (ts : List Token) → bare qs ≡ comma ∷ us
+    → ((rs : List Placed) → bare rs ≡ us → Comes (more_read rs) ys ts) → Comes (behind_element left x qs more_read) (x ∷ ys) ts
+behind_comma left x [] more_read us ys ts is inner = let bad : ⊥ = cc in absurd bad
+behind_comma left x (p ∷ qs) more_read us ys ts is inner =
+    let token : p.token ≡ comma = cc in
+    let behind_it : bare qs ≡ us = cc in
+    let open_still : closes_square p.token ≡ false = ap closes_square token in
+    let goes : is_comma p.token ≡ true = ap is_comma token in
+    rw (open_still, goes) (comes_first x (more_read qs) ys ts (inner qs behind_it))
+
 module _ {X : Type 0} (P : X → Type 0) (E : X → List Token) (read : Reads X) where
   abbrev pub ComesEach : Type 0
   ComesEach = (x : X) (ps : List Placed) (ts : List Token) → P x → bare ps ≡ E x ++ ts → Comes (read ps) x ts
@@ -150,63 +174,24 @@ module _ {X : Type 0} (P : X → Type 0) (E : X → List Token) (read : Reads X)
       → bare ps ≡ E x ++ (listed E false xs ++ closes square ∷ ts) → Comes (elements_on n left read ps) (x ∷ xs) ts
   unfolding elements_on
   elements_back zero left x xs ps ts each room good others e = let bad : ⊥ = omega arith in absurd bad
-  elements_back (suc n) left x [] ps ts each room good others e = by_one (each x ps (closes square ∷ ts) good e)
-    where
-      by_last : (qs rs : List Placed) (p : Placed) → read ps ≡ Ok (x, qs) → qs ≡ p ∷ rs → p.token ≡ closes square → bare rs ≡ ts
-          → Comes (elements_on (suc n) left read ps) (x ∷ []) ts
-      by_last qs rs p one next closed behind_it = let ends : closes_square p.token ≡ true = ap closes_square closed in inr (rs, behind_it, rw (one, next, ends) refl)
-
-      by_one : Comes (read ps) x (closes square ∷ ts) → Comes (elements_on (suc n) left read ps) (x ∷ []) ts
-      by_one (inl too_deep) = inl (rw too_deep refl)
-      by_one (inr one) = let at = one_token one.0 (closes square) ts one.1 in by_last one.0 at.1 at.0 one.2 at.2 at.3 at.4
+  elements_back (suc n) left x [] ps ts each room good others e =
+      comes_on (read ps) x (closes square ∷ ts) (λ z. behind_element left z.0 z.1 (elements_on n left read)) (x ∷ []) ts (each x ps (closes square ∷ ts) good e)
+      (λ qs is. behind_last left x qs (elements_on n left read) ts is)
   elements_back (suc n) left x (y ∷ ys) ps ts each room good others e =
-      by_one (each x ps (comma ∷ (E y ++ listed E false ys ++ closes square ∷ ts)) good whole)
-      (λ qs f. elements_back n left y ys qs ts each (omega arith) others.0 others.1 f)
-    where
-      whole : bare ps ≡ E x ++ comma ∷ (E y ++ listed E false ys ++ closes square ∷ ts)
-      whole = e
-
-      Inner : Type 0
-      Inner = (qs : List Placed) → bare qs ≡ E y ++ (listed E false ys ++ closes square ∷ ts) → Comes (elements_on n left read qs) (y ∷ ys) ts
-
-      by_more : (qs rs : List Placed) (p : Placed) → read ps ≡ Ok (x, qs) → qs ≡ p ∷ rs → p.token ≡ comma
-          → Comes (elements_on n left read rs) (y ∷ ys) ts → Comes (elements_on (suc n) left read ps) (x ∷ (y ∷ ys)) ts
-      by_more qs rs p one next goes (inl too_deep) =
-          let open_still : closes_square p.token ≡ false = ap closes_square goes in
-          let on : is_comma p.token ≡ true = ap is_comma goes in
-          inl (rw (one, next, open_still, on, too_deep) refl)
-      by_more qs rs p one next goes (inr others_it) =
-          let open_still : closes_square p.token ≡ false = ap closes_square goes in
-          let on : is_comma p.token ≡ true = ap is_comma goes in
-          inr (others_it.0, others_it.1, rw (one, next, open_still, on, others_it.2) refl)
-
-      by_one : Comes (read ps) x (comma ∷ (E y ++ listed E false ys ++ closes square ∷ ts)) → Inner → Comes (elements_on (suc n) left read ps) (x ∷ (y ∷ ys)) ts
-      by_one (inl too_deep) inner = inl (rw too_deep refl)
-      by_one (inr one) inner =
-          let at = one_token one.0 comma (E y ++ listed E false ys ++ closes square ∷ ts) one.1 in
-          by_more one.0 at.1 at.0 one.2 at.2 at.3 (inner at.1 (at.4 ∙ append_assoc (E y) (listed E false ys) (closes square ∷ ts)))
+      comes_on (read ps) x (comma ∷ (E y ++ listed E false ys ++ closes square ∷ ts)) (λ z. behind_element left z.0 z.1 (elements_on n left read)) (x ∷ (y ∷ ys)) ts
+      (each x ps (comma ∷ (E y ++ listed E false ys ++ closes square ∷ ts)) good e)
+      (λ qs is. behind_comma left x qs (elements_on n left read) (E y ++ listed E false ys ++ closes square ∷ ts) (y ∷ ys) ts is
+      (λ rs f. elements_back n left y ys rs ts each (omega arith) others.0 others.1 (f ∙ append_assoc (E y) (listed E false ys) (closes square ∷ ts))))
 
   -- how many tokens elements have at least
+  listed_behind : (xs : List X) → length xs ≤ length (listed E false xs)
+  listed_behind [] = omega arith
+  listed_behind (x ∷ xs) = let inner = listed_behind xs in let both = length-append (E x) (listed E false xs) in omega (arith, inner, both)
+
   listed_length : (xs : List X) (is_first : Bool) → length xs ≤ length (listed E is_first xs) + 1
   listed_length [] is_first = omega arith
-  listed_length (x ∷ []) is_first = omega arith
-  listed_length (x ∷ (y ∷ ys)) true =
-      let inner = listed_length (y ∷ ys) false in
-      let tail = after_comma ys y in
-      let both = length-append (E x) (listed E false (y ∷ ys)) in
-      omega (arith, tail, both)
-    where
-      after_comma : (zs : List X) (z : X) → length (z ∷ zs) ≤ length (listed E false (z ∷ zs))
-      after_comma [] z = omega arith
-      after_comma (w ∷ ws) z = let inner = after_comma ws w in let both = length-append (E z) (listed E false (w ∷ ws)) in omega (arith, inner, both)
-  listed_length (x ∷ (y ∷ ys)) false =
-      let both = length-append (E x) (listed E false (y ∷ ys)) in
-      let tail = after_comma ys y in
-      omega (arith, tail, both)
-    where
-      after_comma : (zs : List X) (z : X) → length (z ∷ zs) ≤ length (listed E false (z ∷ zs))
-      after_comma [] z = omega arith
-      after_comma (w ∷ ws) z = let inner = after_comma ws w in let both = length-append (E z) (listed E false (w ∷ ws)) in omega (arith, inner, both)
+  listed_length (x ∷ xs) true = let inner = listed_behind xs in let both = length-append (E x) (listed E false xs) in omega (arith, inner, both)
+  listed_length (x ∷ xs) false = let inner = listed_behind xs in let both = length-append (E x) (listed E false xs) in omega (arith, inner, both)
 
   -- an element does not begin with the bracket that ends a sequence
   abbrev pub NoEnd : Type 0
@@ -214,7 +199,9 @@ module _ {X : Type 0} (P : X → Type 0) (E : X → List Token) (read : Reads X)
 
   pub sequence_back : (xs : List X) (ps : List Placed) (ts : List Token) → ComesEach → NoEnd → Each P xs
       → bare ps ≡ opens square ∷ (listed E true xs ++ closes square ∷ ts) → Comes (sequence_of read ps) xs ts
-  sequence_back xs ps ts each no_end good e = by_open (expect_back (left_at ps) opens_square (opens square) ps (listed E true xs ++ closes square ∷ ts) refl e)
+  sequence_back xs ps ts each no_end good e =
+      let at = expect_back (left_at ps) opens_square (opens square) ps (listed E true xs ++ closes square ∷ ts) refl e in
+      comes_behind (expect (left_at ps) opens_square ps) at.0 (elements_in (left_at ps) read) xs ts at.2 (by_list at.0 at.0 refl at.1)
     where
       by_first : (ys : List X) (qs rs : List Placed) (p : Placed) → Each P ys → qs ≡ p ∷ rs → bare qs ≡ listed E true ys ++ closes square ∷ ts
           → Comes (elements_in (left_at ps) read (p ∷ rs)) ys ts
@@ -247,16 +234,6 @@ module _ {X : Type 0} (P : X → Type 0) (E : X → List Token) (read : Reads X)
           no_tokens ys g = let long = ap length g ∙ length-append (listed E true ys) (closes square ∷ ts) in omega (arith, long)
       by_list qs (p ∷ rs) split f = by_first xs qs rs p good split f
 
-      opened : (qs : List Placed) → expect (left_at ps) opens_square ps ≡ Ok qs → Comes (elements_in (left_at ps) read qs) xs ts → Comes (sequence_of read ps) xs ts
-      opened qs is (inl too_deep) = inl (rw (is, too_deep) refl)
-      opened qs is (inr all) = by_all all.0 all.1 all.2
-        where
-          by_all : (rs : List Placed) → bare rs ≡ ts → elements_in (left_at ps) read qs ≡ Ok (xs, rs) → Comes (sequence_of read ps) xs ts
-          by_all rs behind_it reads = inr (rs, behind_it, rw (is, reads) refl)
-
-      by_open : (qs : List Placed) × (bare qs ≡ listed E true xs ++ closes square ∷ ts) × (expect (left_at ps) opens_square ps ≡ Ok qs) → Comes (sequence_of read ps) xs ts
-      by_open at = opened at.0 at.2 (by_list at.0 at.0 refl at.1)
-
 -- the parts of a value as a list
 abbrev list_of : Plains → List Plain
 list_of none = []
@@ -270,25 +247,21 @@ list_back (more x vs) = ap (more x) (list_back vs)
 
 members_back : (reg : List Entity) (read : Kind → Reads Plain) (left : ℕ) (is_first : Bool) (vs : Plains) (ks : List Kind) (ps : List Placed) (ts : List Token)
     → Comes_all reg read → FitEach reg vs ks → refs_in vs ≡ [] → AreSpellable vs
-    → bare ps ≡ tokens_in reg is_first vs ++ closes curly ∷ ts → (xs : List Plain) × (plains xs ≡ vs) × Comes (members_on read left is_first ks ps) xs ts
+    → bare ps ≡ tokens_in reg is_first vs ++ closes curly ∷ ts → Comes (members_on read left is_first ks ps) (list_of vs) ts
 unfolding FitEach refs_in AreSpellable tokens_in members_on
 members_back reg read left is_first none [] ps ts all fits closed spellable e =
     let at = expect_back left closes_curly (closes curly) ps ts refl e in
-    ([], refl, by_end at.0 at.1 at.2)
-  where
-    by_end : (qs : List Placed) → bare qs ≡ ts → expect left closes_curly ps ≡ Ok qs → Comes (members_on read left is_first [] ps) [] ts
-    by_end qs behind_it is = inr (qs, behind_it, rw is refl)
+    comes_behind (expect left closes_curly ps) at.0 (λ qs. Ok ([], qs)) [] ts at.2 (inr (at.0, at.1, refl))
 members_back reg read left is_first none (k ∷ ks) ps ts all fits closed spellable e = absurd fits
 members_back reg read left is_first (more x vs) [] ps ts all fits closed spellable e = absurd fits
 members_back reg read left is_first (more x vs) (k ∷ ks) ps ts all fits closed spellable e =
     let parts = append_none (refs x) (refs_in vs) closed in
-    let front_it = by_comma is_first e in
-    by_value front_it.0 front_it.2 (all k x front_it.0 (tokens_in reg false vs ++ closes curly ∷ ts) fits.0 parts.0 spellable.0 front_it.1)
-    (λ qs f. members_back reg read left false vs ks qs ts all fits.1 parts.1 spellable.1 f)
+    let at = by_comma is_first e in
+    comes_behind (comma_at is_first left ps) at.0 (λ qs. on_ok (read k qs) (λ y. with_first y.0 (members_on read left false ks y.1))) (x ∷ list_of vs) ts at.2
+    (comes_on (read k at.0) x (tokens_in reg false vs ++ closes curly ∷ ts) (λ y. with_first y.0 (members_on read left false ks y.1)) (x ∷ list_of vs) ts
+    (all k x at.0 (tokens_in reg false vs ++ closes curly ∷ ts) fits.0 parts.0 spellable.0 at.1)
+    (λ rs is. comes_first x (members_on read left false ks rs) (list_of vs) ts (members_back reg read left false vs ks rs ts all fits.1 parts.1 spellable.1 is)))
   where
-    Inner : Type 0
-    Inner = (qs : List Placed) → bare qs ≡ tokens_in reg false vs ++ closes curly ∷ ts → (xs : List Plain) × (plains xs ≡ vs) × Comes (members_on read left false ks qs) xs ts
-
     by_comma : (first : Bool) → bare ps ≡ (comma_tokens first ++ (tokens_of reg x ++ tokens_in reg false vs)) ++ closes curly ∷ ts
         → (qs : List Placed) × (bare qs ≡ tokens_of reg x ++ (tokens_in reg false vs ++ closes curly ∷ ts)) × (comma_at first left ps ≡ Ok qs)
     by_comma true f = (ps, f ∙ append_assoc (tokens_of reg x) (tokens_in reg false vs) (closes curly ∷ ts), refl)
@@ -296,36 +269,12 @@ members_back reg read left is_first (more x vs) (k ∷ ks) ps ts all fits closed
         let at = expect_back left is_comma comma ps ((tokens_of reg x ++ tokens_in reg false vs) ++ closes curly ∷ ts) refl f in
         (at.0, at.1 ∙ append_assoc (tokens_of reg x) (tokens_in reg false vs) (closes curly ∷ ts), at.2)
 
-    by_rest : (qs rs : List Placed) (xs : List Plain) → comma_at is_first left ps ≡ Ok qs → read k qs ≡ Ok (x, rs)
-        → Comes (members_on read left false ks rs) xs ts → Comes (members_on read left is_first (k ∷ ks) ps) (x ∷ xs) ts
-    by_rest qs rs xs comma_it one (inl too_deep) = inl (rw (comma_it, one, too_deep) refl)
-    by_rest qs rs xs comma_it one (inr others) = by_others others.0 others.1 others.2
-      where
-        by_others : (zs : List Placed) → bare zs ≡ ts → members_on read left false ks rs ≡ Ok (xs, zs) → Comes (members_on read left is_first (k ∷ ks) ps) (x ∷ xs) ts
-        by_others zs behind_it reads = inr (zs, behind_it, rw (comma_it, one, reads) refl)
-
-    by_value : (qs : List Placed) → comma_at is_first left ps ≡ Ok qs → Comes (read k qs) x (tokens_in reg false vs ++ closes curly ∷ ts) → Inner
-        → (xs : List Plain) × (plains xs ≡ more x vs) × Comes (members_on read left is_first (k ∷ ks) ps) xs ts
-    by_value qs comma_it (inl too_deep) inner = (x ∷ list_of vs, ap (more x) (list_back vs), inl (rw (comma_it, too_deep) refl))
-    by_value qs comma_it (inr one) inner =
-        let others = inner one.0 one.1 in
-        (x ∷ others.0, ap (more x) others.1, by_rest qs one.0 others.0 comma_it one.2 others.2)
-
 tuple_back : (reg : List Entity) (read : Kind → Reads Plain) (vs : Plains) (ks : List Kind) (ps : List Placed) (ts : List Token) → Comes_all reg read
     → FitEach reg vs ks → refs_in vs ≡ [] → AreSpellable vs
-    → bare ps ≡ opens curly ∷ (tokens_in reg true vs ++ closes curly ∷ ts) → (xs : List Plain) × (plains xs ≡ vs) × Comes (tuple_of read ks ps) xs ts
+    → bare ps ≡ opens curly ∷ (tokens_in reg true vs ++ closes curly ∷ ts) → Comes (tuple_of read ks ps) (list_of vs) ts
 tuple_back reg read vs ks ps ts all fits closed spellable e =
     let at = expect_back (left_at ps) opens_curly (opens curly) ps (tokens_in reg true vs ++ closes curly ∷ ts) refl e in
-    let inner = members_back reg read (left_at ps) true vs ks at.0 ts all fits closed spellable at.1 in
-    (inner.0, inner.1, by_open at.0 inner.0 at.2 inner.2)
-  where
-    by_open : (qs : List Placed) (xs : List Plain) → expect (left_at ps) opens_curly ps ≡ Ok qs
-        → Comes (members_on read (left_at ps) true ks qs) xs ts → Comes (tuple_of read ks ps) xs ts
-    by_open qs xs is (inl too_deep) = inl (rw (is, too_deep) refl)
-    by_open qs xs is (inr all_it) = by_all all_it.0 all_it.1 all_it.2
-      where
-        by_all : (rs : List Placed) → bare rs ≡ ts → members_on read (left_at ps) true ks qs ≡ Ok (xs, rs) → Comes (tuple_of read ks ps) xs ts
-        by_all rs behind_it reads = inr (rs, behind_it, rw (is, reads) refl)
+    comes_behind (expect (left_at ps) opens_curly ps) at.0 (members_on read (left_at ps) true ks) (list_of vs) ts at.2 (members_back reg read (left_at ps) true vs ks at.0 ts all fits closed spellable at.1)
 
 -- ---- each type
 
@@ -339,24 +288,13 @@ null_type reg (peer oid face) k fits closed = let bad : ⊥ = cc in absurd bad
 
 fits_type : (reg : List Entity) (x : Plain) (k : Kind) → Fits reg x k → refs x ≡ [] → is_type reg k ≡ true
 unfolding Fits refs
-fits_type reg v.void k fits closed = rw fits refl
-fits_type reg (v.char n) k fits closed = rw fits refl
-fits_type reg (v.boolean b) k fits closed = rw fits refl
-fits_type reg (v.byte n) k fits closed = rw fits refl
-fits_type reg (v.short n) k fits closed = rw fits refl
-fits_type reg (v.unsigned_short n) k fits closed = rw fits refl
-fits_type reg (v.long n) k fits closed = rw fits refl
-fits_type reg (v.unsigned_long n) k fits closed = rw fits refl
-fits_type reg (v.hyper n) k fits closed = rw fits refl
-fits_type reg (v.unsigned_hyper n) k fits closed = rw fits refl
-fits_type reg (v.str s) k fits closed = rw fits refl
 fits_type reg (v.kind t) k fits closed = rw fits.0 refl
 fits_type reg (v.any t x) k fits closed = rw fits.0 refl
 fits_type reg (v.enum name n) k fits closed = fits.1
 fits_type reg (v.tuple name vs) k fits closed = fits.1
 fits_type reg (v.list t vs) k fits closed = fits.2
-fits_type reg (v.bytes b) k fits closed = rw fits refl
 fits_type reg (v.ref r) k fits closed = null_type reg r k fits closed
+fits_type reg _ k fits closed = rw fits refl
 
 -- a value's first token is no closing bracket
 abbrev pub Begins : List Token → Type 0
@@ -452,11 +390,7 @@ bytes_come reg bs ps ts all e = sequence_back IsByte byte_token (only_token byte
 
 -- what is read is made into a value
 made : {X : Type 0} (r : Result (X × List Placed) Fault) (x : X) (mk : X → Plain) (ts : List Token) → Comes r x ts → Comes (on_ok {B = Plain × List Placed} r (λ y. Ok (mk y.0, y.1))) (mk x) ts
-made r x mk ts (inl too_deep) = inl (rw too_deep refl)
-made r x mk ts (inr all) = by_all all.0 all.1 all.2
-  where
-    by_all : (rs : List Placed) → bare rs ≡ ts → r ≡ Ok (x, rs) → Comes (on_ok {B = Plain × List Placed} r (λ y. Ok (mk y.0, y.1))) (mk x) ts
-    by_all rs behind_it is = inr (rs, behind_it, rw is refl)
+made r x mk ts come = comes_on r x ts (λ y. Ok (mk y.0, y.1)) (mk x) ts come (λ rs is. inr (rs, is, refl))
 
 bracketed : (t u : Token) (inner ts : List Token) (us : List Token) → us ≡ (t ∷ (inner ++ u ∷ [])) ++ ts → us ≡ t ∷ (inner ++ u ∷ ts)
 bracketed t u inner ts us e = e ∙ ap (λ x. t ∷ x) (append_assoc inner (u ∷ []) ts)
@@ -496,11 +430,10 @@ any_comes reg read t x ps ts all fits closed spellable e = by_void (is_void t) r
         inr (qs, behind_it, rw (split, casts) (ap (λ z. Ok (z, qs)) (sym value_it)))
 
     valued : (p : Placed) (qs : List Placed) → ps ≡ p ∷ qs → p.token ≡ cast t → is_void t ≡ false → Comes (read t qs) x ts → Comes (any_of read ps) (v.any t x) ts
-    valued p qs split token other (inl too_deep) = let casts : cast_in p.token ≡ Some t = ap cast_in token in inl (rw (split, casts, other, too_deep) refl)
-    valued p qs split token other (inr one) = by_one one.0 one.1 one.2
-      where
-        by_one : (rs : List Placed) → bare rs ≡ ts → read t qs ≡ Ok (x, rs) → Comes (any_of read ps) (v.any t x) ts
-        by_one rs behind_it is = let casts : cast_in p.token ≡ Some t = ap cast_in token in inr (rs, behind_it, rw (split, casts, other, is) refl)
+    valued p qs split token other come =
+        let casts : cast_in p.token ≡ Some t = ap cast_in token in
+        let opened : only_token cast_in ps ≡ Ok (t, qs) = rw (split, casts) refl in
+        comes_behind (only_token cast_in ps) (t, qs) (λ y. held_by read y.0 y.1) (v.any t x) ts opened (rw other (made (read t qs) x (v.any t) ts come))
 
     by_void : (b : Bool) → is_void t ≡ b → Comes (any_of read ps) (v.any t x) ts
     by_void true is_it =
@@ -534,20 +467,15 @@ tuple_comes : (reg : List Entity) (read : Kind → Reads Plain) (name : List ℕ
     → Comes_all reg read → IsTupleKind name k → FitEach reg vs (member_kinds reg name) → refs_in vs ≡ [] → AreSpellable vs
     → bare ps ≡ opens curly ∷ (tokens_in reg true vs ++ closes curly ∷ ts) → Comes (value_step reg read k ps) (v.tuple name vs) ts
 unfolding value_step
-tuple_comes reg read name vs k ps ts all kind_it fits closed spellable e = by_tuple (tuple_back reg read vs (member_kinds reg name) ps ts all fits closed spellable e) kind_it
+tuple_comes reg read name vs k ps ts all kind_it fits closed spellable e = by_kind k kind_it
   where
-    Tuple : Type 0
-    Tuple = Comes (on_ok {B = Plain × List Placed} (tuple_of read (member_kinds reg name) ps) (λ y. Ok (v.tuple name (plains y.0), y.1))) (v.tuple name vs) ts
+    made_it : Comes (on_ok {B = Plain × List Placed} (tuple_of read (member_kinds reg name) ps) (λ y. Ok (v.tuple name (plains y.0), y.1))) (v.tuple name vs) ts
+    made_it = subst (λ z. Comes (on_ok {B = Plain × List Placed} (tuple_of read (member_kinds reg name) ps) (λ y. Ok (v.tuple name (plains y.0), y.1))) (v.tuple name z) ts) (list_back vs)
+        (made (tuple_of read (member_kinds reg name) ps) (list_of vs) (λ xs. v.tuple name (plains xs)) ts (tuple_back reg read vs (member_kinds reg name) ps ts all fits closed spellable e))
 
-    by_kind : (j : Kind) → Tuple → IsTupleKind name j → Comes (value_step reg read j ps) (v.tuple name vs) ts
-    by_kind j is (inl same) = subst (λ i. Comes (value_step reg read i ps) (v.tuple name vs) ts) (sym same) is
-    by_kind j is (inr same) = subst (λ i. Comes (value_step reg read i ps) (v.tuple name vs) ts) (sym same) is
-
-    by_tuple : (xs : List Plain) × (plains xs ≡ vs) × Comes (tuple_of read (member_kinds reg name) ps) xs ts → IsTupleKind name k
-        → Comes (value_step reg read k ps) (v.tuple name vs) ts
-    by_tuple one is_kind =
-        let made_it = made (tuple_of read (member_kinds reg name) ps) one.0 (λ xs. v.tuple name (plains xs)) ts one.2 in
-        by_kind k (subst (λ z. Comes (on_ok {B = Plain × List Placed} (tuple_of read (member_kinds reg name) ps) (λ y. Ok (v.tuple name (plains y.0), y.1))) (v.tuple name z) ts) one.1 made_it) is_kind
+    by_kind : (j : Kind) → IsTupleKind name j → Comes (value_step reg read j ps) (v.tuple name vs) ts
+    by_kind j (inl same) = subst (λ i. Comes (value_step reg read i ps) (v.tuple name vs) ts) (sym same) made_it
+    by_kind j (inr same) = subst (λ i. Comes (value_step reg read i ps) (v.tuple name vs) ts) (sym same) made_it
 
 step_comes : (reg : List Entity) (read : Kind → Reads Plain) (k : Kind) (x : Plain) (ps : List Placed) (ts : List Token)
     → list_all items_differ reg ≡ true → Comes_all reg read → Fits reg x k → refs x ≡ [] → IsSpellable x → bare ps ≡ tokens_of reg x ++ ts

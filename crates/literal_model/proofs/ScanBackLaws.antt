@@ -13,7 +13,7 @@ use Rattle.uno_model.specs.Entities.{Entity}
 use Rattle.uno_model.specs.Kinds.{Kind, name_of}
 use Rattle.literal_model.specs.Literals.{escaped, number, word}
 use Rattle.uno_model.specs.Names.{begins_identifier, goes_on_identifier}
-use Rattle.literal_model.specs.Shapes.{largest, lowest, is_known_word, is_word, front, rest, digits_on}
+use Rattle.literal_model.specs.Shapes.{largest, lowest, is_known_word, is_word, run_of, behind_run, digits_on}
 use Rattle.literal_model.specs.Shapes.{digits_at, string_at, is_name_byte, type_at, word_at, value_at}
 use Rattle.uno_model.specs.Sound.{is_named}
 use Rattle.uno_model.specs.Types.{is_type}
@@ -123,14 +123,14 @@ abbrev stops : (ℕ → Bool) → List ℕ → Bool
 stops test [] = true
 stops test (c ∷ cs) = not (test c)
 
-front_back : (test : ℕ → Bool) (xs r : List ℕ) → list_all test xs ≡ true → stops test r ≡ true → front test (xs ++ r) ≡ xs
-unfolding front
+front_back : (test : ℕ → Bool) (xs r : List ℕ) → list_all test xs ≡ true → stops test r ≡ true → run_of test (xs ++ r) ≡ xs
+unfolding run_of
 front_back test [] [] all ends = refl
 front_back test [] (c ∷ r) all ends = rw (not-true _ ends) refl
 front_back test (x ∷ xs) r all ends = let parts = and_parts (test x) (list_all test xs) all in rw parts.0 (ap (λ ys. x ∷ ys) (front_back test xs r parts.1 ends))
 
-rest_back : (test : ℕ → Bool) (xs r : List ℕ) → list_all test xs ≡ true → stops test r ≡ true → rest test (xs ++ r) ≡ r
-unfolding rest
+rest_back : (test : ℕ → Bool) (xs r : List ℕ) → list_all test xs ≡ true → stops test r ≡ true → behind_run test (xs ++ r) ≡ r
+unfolding behind_run
 rest_back test [] [] all ends = refl
 rest_back test [] (c ∷ r) all ends = rw (not-true _ ends) refl
 rest_back test (x ∷ xs) r all ends = let parts = and_parts (test x) (list_all test xs) all in rw parts.0 (rest_back test xs r parts.1 ends)
@@ -151,8 +151,8 @@ word_back reg [] r is known ends = let bad : ⊥ = cc in absurd bad
 word_back reg (c ∷ cs) r is known ends =
     let parts = and_parts (begins_identifier c) (list_all goes_on_identifier cs) is in
     let all : list_all goes_on_identifier (c ∷ cs) ≡ true = and_from _ _ (goes_on_begun c parts.0) parts.1 in
-    let front_it : front goes_on_identifier (c ∷ (cs ++ r)) ≡ c ∷ cs = front_back goes_on_identifier (c ∷ cs) r all (ends_stops r ends) in
-    let rest_it : rest goes_on_identifier (c ∷ (cs ++ r)) ≡ r = rest_back goes_on_identifier (c ∷ cs) r all (ends_stops r ends) in
+    let front_it : run_of goes_on_identifier (c ∷ (cs ++ r)) ≡ c ∷ cs = front_back goes_on_identifier (c ∷ cs) r all (ends_stops r ends) in
+    let rest_it : behind_run goes_on_identifier (c ∷ (cs ++ r)) ≡ r = rest_back goes_on_identifier (c ∷ cs) r all (ends_stops r ends) in
     let apart = letter_front c parts.0 in
     let word_it : word_at reg (c ∷ (cs ++ r)) ≡ Ok (word (c ∷ cs), r) = rw (front_it, known, rest_it) refl in
     words c (cs ++ r) apart.0.0.0 apart.0.0.1 apart.0.1 apart.1.0 apart.1.1 parts.0 word_it

@@ -7,16 +7,16 @@ use Rattle.std.proofs.lemmas.List.{append_assoc}
 use Rattle.std.specs.Fmt.{decimal, signed_decimal}
 use Rattle.std.specs.List.{list_all, flat_map}
 use Rattle.literal_model.proofs.TypeTextLaws.{text_finds}
-use Rattle.literal_model.proofs.TypedLaws.{HasType, Typed, bare}
+use Rattle.literal_model.proofs.TypedLaws.{HasType, Typed, bare, ok_holds, ok_step}
 use Rattle.uno_model.specs.Entities.{Entity}
 use Rattle.uno_model.specs.Kinds.{Kind, name_of}
 use Rattle.uno_model.specs.Kinds as kd
 use Rattle.literal_model.specs.Literals.{escaped, Bracket, square, curly, Token, opens, closes, comma, number, word, string, named, cast, spell, spells}
 use Rattle.uno_model.specs.NamedTypes.{IsNamed, type_of_text}
 use Rattle.uno_model.specs.Names.{begins_identifier, goes_on_identifier}
-use Rattle.literal_model.specs.Shapes.{largest, lowest, is_known_word, front, rest}
+use Rattle.literal_model.specs.Shapes.{largest, lowest, is_known_word, run_of, behind_run}
 use Rattle.literal_model.specs.Shapes.{digits_on, digits_at, on_ok, with_byte, escape_of, string_at, is_name_byte, name_stop, type_at, cast_of, word_at, negative_of, number_at, value_at, Awaited}
-use Rattle.literal_model.specs.Shapes.{value, element, separator, behind, opened, closing, separator_at, element_at, token_at, Placed, with_token, is_whole, tokens_at}
+use Rattle.literal_model.specs.Shapes.{value, element, separator, behind, opened, closing, separator_at, element_at, token_at, Placed, with_token, is_at_end, tokens_at}
 use Rattle.uno_model.specs.Sound.{is_named}
 use Rattle.uno_model.specs.Types.{is_type}
 
@@ -27,12 +27,12 @@ pub not_ok : {Y : Type 0} (left : ℕ) (y : Y) → Err left ≡ Ok y → ⊥
 not_ok left y e = cc
 
 -- a run and what is behind it are the whole
-pub front_rest : (test : ℕ → Bool) (bytes : List ℕ) → bytes ≡ front test bytes ++ rest test bytes
-unfolding front rest
+pub front_rest : (test : ℕ → Bool) (bytes : List ℕ) → bytes ≡ run_of test bytes ++ behind_run test bytes
+unfolding run_of behind_run
 front_rest test [] = refl
 front_rest test (c ∷ cs) = by_test (test c) refl (front_rest test cs)
   where
-    by_test : (b : Bool) → test c ≡ b → cs ≡ front test cs ++ rest test cs → c ∷ cs ≡ front test (c ∷ cs) ++ rest test (c ∷ cs)
+    by_test : (b : Bool) → test c ≡ b → cs ≡ run_of test cs ++ behind_run test cs → c ∷ cs ≡ run_of test (c ∷ cs) ++ behind_run test (c ∷ cs)
     by_test true passes inner = rw (passes) (ap (λ xs. c ∷ xs) inner)
     by_test false fails inner = rw (fails) refl
 
@@ -52,9 +52,7 @@ pub record IsNumber (limit m : ℕ) (cs : List ℕ) (n : ℕ) (r : List ℕ) : T
 
 digits_sound : (limit m : ℕ) (cs : List ℕ) (n : ℕ) (r : List ℕ) → limit < 2 ^ 64 → 1 ≤ m → m ≤ limit → digits_on limit m cs ≡ Ok (n, r) → IsNumber limit m cs n r
 unfolding digits_on
-digits_sound limit m [] n r small some within e =
-    let parts = ok_parts m n [] r e in
-    subst (λ x. IsNumber limit m [] n x) parts.1 (subst (λ x. IsNumber limit m [] x []) parts.0 (record { spelled = refl; some = some; within = within }))
+digits_sound limit m [] n r small some within e = ok_holds (IsNumber limit m []) m n [] r e (record { spelled = refl; some = some; within = within })
 digits_sound limit m (c ∷ cs) n r small some within e = by_digit (nat_le 48 c && nat_le c 57) refl (λ a b f. digits_sound limit (m * 10 + (c - 48)) cs n r small a b f)
   where
     Inner : Type 0
@@ -73,9 +71,7 @@ digits_sound limit m (c ∷ cs) n r small some within e = by_digit (nat_le 48 c 
 
     by_digit : (b : Bool) → (nat_le 48 c && nat_le c 57) ≡ b → Inner → IsNumber limit m (c ∷ cs) n r
     by_digit true digit inner = by_limit (nat_le (m * 10 + (c - 48)) limit) digit refl inner
-    by_digit false other inner =
-        let parts = ok_parts m n (c ∷ cs) r (rw other at e) in
-        subst (λ x. IsNumber limit m (c ∷ cs) n x) parts.1 (subst (λ x. IsNumber limit m (c ∷ cs) x (c ∷ cs)) parts.0 (record { spelled = refl; some = some; within = within }))
+    by_digit false other inner = ok_holds (IsNumber limit m (c ∷ cs)) m n (c ∷ cs) r (rw other at e) (record { spelled = refl; some = some; within = within })
 
 digits_at_sound : (limit : ℕ) (bytes : List ℕ) (n : ℕ) (r : List ℕ) → 9 ≤ limit → limit < 2 ^ 64 → digits_at limit bytes ≡ Ok (n, r) → (bytes ≡ decimal n ++ r) × (1 ≤ n)
 digits_at_sound limit [] n r room small e = absurd (not_ok 0 (n, r) e)
@@ -168,26 +164,25 @@ pub record IsTypeAt (reg : List Entity) (mark : ℕ) (bytes : List ℕ) (k : Kin
 
 type_sound : (reg : List Entity) (mark : ℕ) (bytes : List ℕ) (k : Kind) (r : List ℕ) → list_all is_named reg ≡ true
     → type_at reg mark bytes ≡ Ok (k, r) → IsTypeAt reg mark bytes k r
-type_sound reg mark bytes k r named_all e = by_rest (rest is_name_byte bytes) refl
+type_sound reg mark bytes k r named_all e = by_rest (behind_run is_name_byte bytes) refl
   where
-    by_type : (c : ℕ) (cs : List ℕ) (o : Option Kind) → rest is_name_byte bytes ≡ c ∷ cs → (c == mark) ≡ true
-        → type_of_text reg (front is_name_byte bytes) ≡ o
-        → MatchOption o ((j : Kind) → IsNamed reg (front is_name_byte bytes) j → ⊥) (IsNamed reg (front is_name_byte bytes))
+    by_type : (c : ℕ) (cs : List ℕ) (o : Option Kind) → behind_run is_name_byte bytes ≡ c ∷ cs → (c == mark) ≡ true
+        → type_of_text reg (run_of is_name_byte bytes) ≡ o
+        → MatchOption o ((j : Kind) → IsNamed reg (run_of is_name_byte bytes) j → ⊥) (IsNamed reg (run_of is_name_byte bytes))
         → IsTypeAt reg mark bytes k r
     by_type c cs (Some j) behind_it marked found is =
-        let parts = ok_parts j k cs r (rw (behind_it, marked, found) at e) in
-        let all : IsTypeAt reg mark bytes j cs = record {
-          spelled = front_rest is_name_byte bytes ∙ ap (λ x. front is_name_byte bytes ++ x) (behind_it ∙ ap (λ x. x ∷ cs) (eqb-true c mark marked)) ∙ ap (λ x. x ++ mark ∷ cs) (sym is.named);
+        ok_holds (IsTypeAt reg mark bytes) j k cs r (rw (behind_it, marked, found) at e)
+        (record {
+          spelled = front_rest is_name_byte bytes ∙ ap (λ x. run_of is_name_byte bytes ++ x) (behind_it ∙ ap (λ x. x ∷ cs) (eqb-true c mark marked)) ∙ ap (λ x. x ++ mark ∷ cs) (sym is.named);
           type = is.is;
-        } in
-        subst (λ x. IsTypeAt reg mark bytes k x) parts.1 (subst (λ x. IsTypeAt reg mark bytes x cs) parts.0 all)
+        })
     by_type c cs None behind_it marked found is = absurd (not_ok (length bytes) (k, r) (rw (behind_it, marked, found) at e))
 
-    by_mark : (c : ℕ) (cs : List ℕ) (b : Bool) → rest is_name_byte bytes ≡ c ∷ cs → (c == mark) ≡ b → IsTypeAt reg mark bytes k r
-    by_mark c cs true behind_it marked = by_type c cs (type_of_text reg (front is_name_byte bytes)) behind_it marked refl (text_finds reg (front is_name_byte bytes) named_all)
+    by_mark : (c : ℕ) (cs : List ℕ) (b : Bool) → behind_run is_name_byte bytes ≡ c ∷ cs → (c == mark) ≡ b → IsTypeAt reg mark bytes k r
+    by_mark c cs true behind_it marked = by_type c cs (type_of_text reg (run_of is_name_byte bytes)) behind_it marked refl (text_finds reg (run_of is_name_byte bytes) named_all)
     by_mark c cs false behind_it other = absurd (not_ok (name_stop reg bytes) (k, r) (rw (behind_it, other) at e))
 
-    by_rest : (xs : List ℕ) → rest is_name_byte bytes ≡ xs → IsTypeAt reg mark bytes k r
+    by_rest : (xs : List ℕ) → behind_run is_name_byte bytes ≡ xs → IsTypeAt reg mark bytes k r
     by_rest [] none = absurd (not_ok (name_stop reg bytes) (k, r) (rw none at e))
     by_rest (c ∷ cs) behind_it = by_mark c cs (c == mark) behind_it refl
 
@@ -200,23 +195,16 @@ cast_sound : (reg : List Entity) (left : ℕ) (bytes : List ℕ) (k : Kind) (cs 
     → cast_of left (k, cs) ≡ Ok (t, r) → IsTokenAt reg (40 ∷ bytes) t r
 cast_sound reg left bytes kd.any cs t r is e = absurd (not_ok left (t, r) e)
 cast_sound reg left bytes k cs t r is e =
-    let parts = ok_parts (cast k) t cs r e in
-    let all : IsTokenAt reg (40 ∷ bytes) (cast k) cs =
-    record {
-      spelled = ap (λ x. 40 ∷ x) (is.spelled ∙ sym (append_assoc (name_of k) (41 ∷ []) cs));
-      typed =
-          ((λ same. let bad : ⊥ = cc in bad), is.type);
-    } in
-    subst (λ x. IsTokenAt reg (40 ∷ bytes) t x) parts.1 (subst (λ x. IsTokenAt reg (40 ∷ bytes) x cs) parts.0 all)
+    ok_holds (IsTokenAt reg (40 ∷ bytes)) (cast k) t cs r e
+    (record { spelled = ap (λ x. 40 ∷ x) (is.spelled ∙ sym (append_assoc (name_of k) (41 ∷ []) cs)); typed = ((λ same. let bad : ⊥ = cc in bad), is.type) })
 
 word_sound : (reg : List Entity) (bytes : List ℕ) (t : Token) (r : List ℕ) → word_at reg bytes ≡ Ok (t, r) → IsTokenAt reg bytes t r
-word_sound reg bytes t r e = by_known (is_known_word reg (front goes_on_identifier bytes)) refl
+word_sound reg bytes t r e = by_known (is_known_word reg (run_of goes_on_identifier bytes)) refl
   where
-    by_known : (b : Bool) → is_known_word reg (front goes_on_identifier bytes) ≡ b → IsTokenAt reg bytes t r
+    by_known : (b : Bool) → is_known_word reg (run_of goes_on_identifier bytes) ≡ b → IsTokenAt reg bytes t r
     by_known true known =
-        let parts = ok_parts (word (front goes_on_identifier bytes)) t (rest goes_on_identifier bytes) r (rw known at e) in
-        let all : IsTokenAt reg bytes (word (front goes_on_identifier bytes)) (rest goes_on_identifier bytes) = record { spelled = front_rest goes_on_identifier bytes; typed = tt } in
-        subst (λ x. IsTokenAt reg bytes t x) parts.1 (subst (λ x. IsTokenAt reg bytes x (rest goes_on_identifier bytes)) parts.0 all)
+        ok_holds (IsTokenAt reg bytes) (word (run_of goes_on_identifier bytes)) t (behind_run goes_on_identifier bytes) r (rw known at e)
+        (record { spelled = front_rest goes_on_identifier bytes; typed = tt })
     by_known false unknown = absurd (not_ok (length bytes) (t, r) (rw unknown at e))
 
 negative_is : (n : ℕ) → 1 ≤ n → signed_decimal (negative_of n) ≡ 45 ∷ decimal n
@@ -226,88 +214,53 @@ number_sound : (reg : List Entity) (bytes : List ℕ) (t : Token) (r : List ℕ)
 number_sound reg [] t r e = absurd (not_ok 0 (t, r) e)
 number_sound reg (c ∷ cs) t r e = by_zero (c == 48) refl
   where
-    by_negative : (m : Result (ℕ × List ℕ) ℕ) → (c == 48) ≡ false → (c == 45) ≡ true → digits_at lowest cs ≡ m → IsTokenAt reg (c ∷ cs) t r
-    by_negative (Ok x) no_zero minus digits =
-        let parts = ok_parts (number (negative_of x.0)) t x.1 r (rw (no_zero, minus, digits) at e) in
-        let is = digits_at_sound lowest cs x.0 x.1 (omega arith) (omega arith) digits in
-        let all : IsTokenAt reg (c ∷ cs) (number (negative_of x.0)) x.1 =
-        record {
-          spelled = ap (λ y. y ∷ cs) (eqb-true c 45 minus) ∙ ap (λ y. 45 ∷ y) is.0 ∙ ap (λ y. y ++ x.1) (sym (negative_is x.0 is.1));
-          typed = tt;
-        } in
-        subst (λ y. IsTokenAt reg (c ∷ cs) t y) parts.1 (subst (λ y. IsTokenAt reg (c ∷ cs) y x.1) parts.0 all)
-    by_negative (Err left) no_zero minus digits = absurd (not_ok left (t, r) (rw (no_zero, minus, digits) at e))
-
-    by_positive : (m : Result (ℕ × List ℕ) ℕ) → (c == 48) ≡ false → (c == 45) ≡ false → digits_at largest (c ∷ cs) ≡ m → IsTokenAt reg (c ∷ cs) t r
-    by_positive (Ok x) no_zero plus digits =
-        let parts = ok_parts (number (pos x.0)) t x.1 r (rw (no_zero, plus, digits) at e) in
-        let is = digits_at_sound largest (c ∷ cs) x.0 x.1 (omega arith) (omega arith) digits in
-        let all : IsTokenAt reg (c ∷ cs) (number (pos x.0)) x.1 = record { spelled = is.0; typed = tt } in
-        subst (λ y. IsTokenAt reg (c ∷ cs) t y) parts.1 (subst (λ y. IsTokenAt reg (c ∷ cs) y x.1) parts.0 all)
-    by_positive (Err left) no_zero plus digits = absurd (not_ok left (t, r) (rw (no_zero, plus, digits) at e))
-
     by_minus : (b : Bool) → (c == 48) ≡ false → (c == 45) ≡ b → IsTokenAt reg (c ∷ cs) t r
-    by_minus true no_zero minus = by_negative (digits_at lowest cs) no_zero minus refl
-    by_minus false no_zero plus = by_positive (digits_at largest (c ∷ cs)) no_zero plus refl
+    by_minus true no_zero minus =
+        let at = ok_step {B = Token × List ℕ} (digits_at lowest cs) (λ x. Ok (number (negative_of x.0), x.1)) (t, r) (rw (no_zero, minus) at e) in
+        let is = digits_at_sound lowest cs at.0.0 at.0.1 (omega arith) (omega arith) at.1 in
+        ok_holds (IsTokenAt reg (c ∷ cs)) (number (negative_of at.0.0)) t at.0.1 r at.2
+        (record { spelled = ap (λ y. y ∷ cs) (eqb-true c 45 minus) ∙ ap (λ y. 45 ∷ y) is.0 ∙ ap (λ y. y ++ at.0.1) (sym (negative_is at.0.0 is.1)); typed = tt })
+    by_minus false no_zero plus =
+        let at = ok_step {B = Token × List ℕ} (digits_at largest (c ∷ cs)) (λ x. Ok (number (pos x.0), x.1)) (t, r) (rw (no_zero, plus) at e) in
+        let is = digits_at_sound largest (c ∷ cs) at.0.0 at.0.1 (omega arith) (omega arith) at.1 in
+        ok_holds (IsTokenAt reg (c ∷ cs)) (number (pos at.0.0)) t at.0.1 r at.2 (record { spelled = is.0; typed = tt })
 
     by_zero : (b : Bool) → (c == 48) ≡ b → IsTokenAt reg (c ∷ cs) t r
     by_zero true zero_it =
-        let parts = ok_parts (number (pos 0)) t cs r (rw zero_it at e) in
-        let all : IsTokenAt reg (c ∷ cs) (number (pos 0)) cs = record { spelled = ap (λ y. y ∷ cs) (eqb-true c 48 zero_it) ∙ ap (λ y. y ++ cs) (sym (decimal_digit 0 (omega arith))); typed = tt } in
-        subst (λ y. IsTokenAt reg (c ∷ cs) t y) parts.1 (subst (λ y. IsTokenAt reg (c ∷ cs) y cs) parts.0 all)
+        ok_holds (IsTokenAt reg (c ∷ cs)) (number (pos 0)) t cs r (rw zero_it at e)
+        (record { spelled = ap (λ y. y ∷ cs) (eqb-true c 48 zero_it) ∙ ap (λ y. y ++ cs) (sym (decimal_digit 0 (omega arith))); typed = tt })
     by_zero false no_zero = by_minus (c == 45) no_zero refl
 
 -- one fixed byte
 fixed_sound : (reg : List Entity) (c d : ℕ) (cs : List ℕ) (u t : Token) (r : List ℕ) → (c == d) ≡ true → spell u ≡ d ∷ [] → HasType reg u
     → ◌≡◌ {A = Result (Token × List ℕ) ℕ} (Ok (u, cs)) (Ok (t, r)) → IsTokenAt reg (c ∷ cs) t r
 fixed_sound reg c d cs u t r same spelled_so typed e =
-    let parts = ok_parts u t cs r e in
-    let all : IsTokenAt reg (c ∷ cs) u cs = record { spelled = ap (λ y. y ∷ cs) (eqb-true c d same) ∙ ap (λ y. y ++ cs) (sym spelled_so); typed = typed } in
-    subst (λ y. IsTokenAt reg (c ∷ cs) t y) parts.1 (subst (λ y. IsTokenAt reg (c ∷ cs) y cs) parts.0 all)
+    ok_holds (IsTokenAt reg (c ∷ cs)) u t cs r e (record { spelled = ap (λ y. y ∷ cs) (eqb-true c d same) ∙ ap (λ y. y ++ cs) (sym spelled_so); typed = typed })
 
 string_token_sound : (reg : List Entity) (c : ℕ) (cs : List ℕ) (t : Token) (r : List ℕ) → (c == 34) ≡ true
     → on_ok {B = Token × List ℕ} (string_at false cs) (λ x. Ok (string x.0, x.1)) ≡ Ok (t, r) → IsTokenAt reg (c ∷ cs) t r
-string_token_sound reg c cs t r quote e = by_string (string_at false cs) refl
-  where
-    by_string : (m : Result (List ℕ × List ℕ) ℕ) → string_at false cs ≡ m → IsTokenAt reg (c ∷ cs) t r
-    by_string (Ok x) read =
-        let parts = ok_parts (string x.0) t x.1 r (rw read at e) in
-        let is = string_sound false cs x.0 x.1 read in
-        let all : IsTokenAt reg (c ∷ cs) (string x.0) x.1 =
-        record {
-          spelled = ap (λ y. y ∷ cs) (eqb-true c 34 quote)
-              ∙ ap (λ y. 34 ∷ y) (is ∙ sym (append_assoc (flat_map escaped x.0) (34 ∷ []) x.1));
-          typed = tt;
-        } in
-        subst (λ y. IsTokenAt reg (c ∷ cs) t y) parts.1 (subst (λ y. IsTokenAt reg (c ∷ cs) y x.1) parts.0 all)
-    by_string (Err left) read = absurd (not_ok left (t, r) (rw read at e))
+string_token_sound reg c cs t r quote e =
+    let at = ok_step (string_at false cs) (λ x. Ok (string x.0, x.1)) (t, r) e in
+    ok_holds (IsTokenAt reg (c ∷ cs)) (string at.0.0) t at.0.1 r at.2
+    (record {
+      spelled = ap (λ y. y ∷ cs) (eqb-true c 34 quote) ∙ ap (λ y. 34 ∷ y) (string_sound false cs at.0.0 at.0.1 at.1 ∙ sym (append_assoc (flat_map escaped at.0.0) (34 ∷ []) at.0.1));
+      typed = tt;
+    })
 
 named_token_sound : (reg : List Entity) (c : ℕ) (cs : List ℕ) (t : Token) (r : List ℕ) → list_all is_named reg ≡ true → (c == 60) ≡ true
     → on_ok {B = Token × List ℕ} (type_at reg 62 cs) (λ x. Ok (named x.0, x.1)) ≡ Ok (t, r) → IsTokenAt reg (c ∷ cs) t r
-named_token_sound reg c cs t r named_all mark e = by_type (type_at reg 62 cs) refl
-  where
-    by_type : (m : Result (Kind × List ℕ) ℕ) → type_at reg 62 cs ≡ m → IsTokenAt reg (c ∷ cs) t r
-    by_type (Ok x) read =
-        let parts = ok_parts (named x.0) t x.1 r (rw read at e) in
-        let is = type_sound reg 62 cs x.0 x.1 named_all read in
-        let all : IsTokenAt reg (c ∷ cs) (named x.0) x.1 =
-        record {
-          spelled = ap (λ y. y ∷ cs) (eqb-true c 60 mark) ∙ ap (λ y. 60 ∷ y) (is.spelled ∙ sym (append_assoc (name_of x.0) (62 ∷ []) x.1));
-          typed = is.type;
-        } in
-        subst (λ y. IsTokenAt reg (c ∷ cs) t y) parts.1 (subst (λ y. IsTokenAt reg (c ∷ cs) y x.1) parts.0 all)
-    by_type (Err left) read = absurd (not_ok left (t, r) (rw read at e))
+named_token_sound reg c cs t r named_all mark e =
+    let at = ok_step (type_at reg 62 cs) (λ x. Ok (named x.0, x.1)) (t, r) e in
+    let is = type_sound reg 62 cs at.0.0 at.0.1 named_all at.1 in
+    ok_holds (IsTokenAt reg (c ∷ cs)) (named at.0.0) t at.0.1 r at.2
+    (record { spelled = ap (λ y. y ∷ cs) (eqb-true c 60 mark) ∙ ap (λ y. 60 ∷ y) (is.spelled ∙ sym (append_assoc (name_of at.0.0) (62 ∷ []) at.0.1)); typed = is.type })
 
 cast_token_sound : (reg : List Entity) (c : ℕ) (cs : List ℕ) (t : Token) (r : List ℕ) → list_all is_named reg ≡ true → (c == 40) ≡ true
     → on_ok (type_at reg 41 cs) (cast_of (length cs)) ≡ Ok (t, r) → IsTokenAt reg (c ∷ cs) t r
-cast_token_sound reg c cs t r named_all mark e = by_type (type_at reg 41 cs) refl
-  where
-    by_type : (m : Result (Kind × List ℕ) ℕ) → type_at reg 41 cs ≡ m → IsTokenAt reg (c ∷ cs) t r
-    by_type (Ok x) read =
-        let is = type_sound reg 41 cs x.0 x.1 named_all read in
-        let it : IsTokenAt reg (40 ∷ cs) t r = cast_sound reg (length cs) cs x.0 x.1 t r is (rw read at e) in
-        subst (λ y. IsTokenAt reg (y ∷ cs) t r) (sym (eqb-true c 40 mark)) it
-    by_type (Err left) read = absurd (not_ok left (t, r) (rw read at e))
+cast_token_sound reg c cs t r named_all mark e =
+    let at = ok_step (type_at reg 41 cs) (cast_of (length cs)) (t, r) e in
+    let it : IsTokenAt reg (40 ∷ cs) t r = cast_sound reg (length cs) cs at.0.0 at.0.1 t r (type_sound reg 41 cs at.0.0 at.0.1 named_all at.1) at.2 in
+    subst (λ y. IsTokenAt reg (y ∷ cs) t r) (sym (eqb-true c 40 mark)) it
 
 value_sound : (reg : List Entity) (bytes : List ℕ) (t : Token) (r : List ℕ) → list_all is_named reg ≡ true → value_at reg bytes ≡ Ok (t, r) → IsTokenAt reg bytes t r
 unfolding value_at
@@ -378,7 +331,7 @@ list_parts : (p : Placed) (m : Result (List Placed) ℕ) (ps : List Placed) → 
 list_parts p (Ok qs) ps e = let is : p ∷ qs ≡ ps = cc in (qs, refl, sym is)
 list_parts p (Err left) ps e = absurd (not_ok left ps e)
 
-whole_is_empty : (awaited : Awaited) (outer : List Bracket) (bytes : List ℕ) → is_whole awaited outer bytes ≡ true → bytes ≡ []
+whole_is_empty : (awaited : Awaited) (outer : List Bracket) (bytes : List ℕ) → is_at_end awaited outer bytes ≡ true → bytes ≡ []
 whole_is_empty separator [] [] e = refl
 whole_is_empty separator [] (c ∷ cs) e = let bad : ⊥ = cc in absurd bad
 whole_is_empty separator (b ∷ outer) bytes e = let bad : ⊥ = cc in absurd bad
@@ -389,12 +342,12 @@ pub tokens_sound : (n : ℕ) (reg : List Entity) (awaited : Awaited) (outer : Li
     → list_all is_named reg ≡ true → tokens_at n reg awaited outer bytes ≡ Ok ps → AreTokens reg bytes ps
 unfolding tokens_at
 tokens_sound zero reg awaited outer bytes ps named_all e = absurd (not_ok 0 ps e)
-tokens_sound (suc n) reg awaited outer bytes ps named_all e = by_whole (is_whole awaited outer bytes) refl (λ t r qs f. tokens_sound n reg (behind t) (opened t outer) r qs named_all f)
+tokens_sound (suc n) reg awaited outer bytes ps named_all e = by_whole (is_at_end awaited outer bytes) refl (λ t r qs f. tokens_sound n reg (behind t) (opened t outer) r qs named_all f)
   where
     Inner : Type 0
     Inner = (t : Token) (r : List ℕ) (qs : List Placed) → tokens_at n reg (behind t) (opened t outer) r ≡ Ok qs → AreTokens reg r qs
 
-    by_token : (m : Result (Token × List ℕ) ℕ) → is_whole awaited outer bytes ≡ false → token_at reg awaited outer bytes ≡ m → Inner → AreTokens reg bytes ps
+    by_token : (m : Result (Token × List ℕ) ℕ) → is_at_end awaited outer bytes ≡ false → token_at reg awaited outer bytes ≡ m → Inner → AreTokens reg bytes ps
     by_token (Ok x) going read inner =
         let parts = list_parts (record { left = length bytes; token = x.0 }) (tokens_at n reg (behind x.0) (opened x.0 outer) x.1) ps (rw (going, read) at e) in
         let one = token_sound reg awaited outer bytes x.0 x.1 named_all read in
@@ -404,7 +357,7 @@ tokens_sound (suc n) reg awaited outer bytes ps named_all e = by_whole (is_whole
         subst (AreTokens reg bytes) (sym parts.2) all
     by_token (Err left) going read inner = absurd (not_ok left ps (rw (going, read) at e))
 
-    by_whole : (b : Bool) → is_whole awaited outer bytes ≡ b → Inner → AreTokens reg bytes ps
+    by_whole : (b : Bool) → is_at_end awaited outer bytes ≡ b → Inner → AreTokens reg bytes ps
     by_whole true whole inner =
         let none : Ok [] ≡ Ok ps = rw whole at e in
         let is : [] ≡ ps = cc in

@@ -21,14 +21,14 @@ use Rattle.uno_model.specs.Entities as plain
 use Rattle.uno_model.specs.Fits.{Fits, FitEach, FitAll, IsTupleKind, member_kinds}
 use Rattle.uno_model.specs.Kinds.{Kind, name_of}
 use Rattle.uno_model.specs.Kinds as kd
-use Rattle.literal_model.specs.Literals.{first_item, escaped, print, object, Bracket, square, curly, Token, opens, closes, comma, number, word, string, named, cast, spell, spells, tokens_of}
+use Rattle.literal_model.specs.Literals.{first_item, escaped, print, object, ref_token, Bracket, square, curly, Token, opens, closes, comma, number, word, string, named, cast, spell, spells, tokens_of}
 use Rattle.literal_model.specs.Literals.{tokens_in, byte_tokens, comma_tokens, item_token}
 use Rattle.uno_model.specs.Names.{is_identifier, is_entity_name, parts_of, begins_identifier, goes_on_identifier}
 use Rattle.literal_model.specs.Readings.{is_void}
 use Rattle.uno_model.specs.Registry.{find_entity, all_members}
 use Rattle.literal_model.specs.Shapes.{is_some_name}
 use Rattle.literal_model.specs.Shapes.{is_first_name, is_own_word, is_known_word, is_word, on_ok, is_name_byte, type_at, cast_of, string_at, value_at, Awaited, value}
-use Rattle.literal_model.specs.Shapes.{element, separator, behind_cast, behind, opened, separator_at, element_at, token_at, Placed, is_whole, tokens_at, judge}
+use Rattle.literal_model.specs.Shapes.{element, separator, behind_cast, behind, opened, separator_at, element_at, token_at, Placed, is_at_end, tokens_at, judge}
 use Rattle.uno_model.specs.Sound.{IsSound, is_named, is_there, is_enum, is_struct, is_exception}
 use Rattle.uno_model.specs.Uses.{inner_names}
 use Rattle.uno_model.specs.Sound.{is_interface, kind_known, elements_plain, is_namable, is_some_list, has_member}
@@ -80,24 +80,12 @@ entity_bytes name is = parts_bytes name (each (parts_of name) is)
     each (p ∷ ps) all = let more_it = and_parts (is_identifier p) (list_all is_identifier ps) all in and_from (list_all is_name_byte p) _ (identifier_bytes p more_it.0) (each ps more_it.1)
 
 kind_bytes : (reg : List Entity) (k : Kind) → list_all is_named reg ≡ true → kind_known reg k ≡ true → list_all is_name_byte (name_of k) ≡ true
-kind_bytes reg kd.void named_all known = refl
-kind_bytes reg kd.char named_all known = refl
-kind_bytes reg kd.boolean named_all known = refl
-kind_bytes reg kd.byte named_all known = refl
-kind_bytes reg kd.short named_all known = refl
-kind_bytes reg kd.unsigned_short named_all known = refl
-kind_bytes reg kd.long named_all known = refl
-kind_bytes reg kd.unsigned_long named_all known = refl
-kind_bytes reg kd.hyper named_all known = refl
-kind_bytes reg kd.unsigned_hyper named_all known = refl
-kind_bytes reg kd.str named_all known = refl
-kind_bytes reg kd.kind named_all known = refl
-kind_bytes reg kd.any named_all known = refl
 kind_bytes reg (kd.enum name) named_all known = entity_bytes name (there_named reg is_enum name named_all known)
 kind_bytes reg (kd.struct name) named_all known = entity_bytes name (there_named reg is_struct name named_all known)
 kind_bytes reg (kd.exception name) named_all known = entity_bytes name (there_named reg is_exception name named_all known)
 kind_bytes reg (kd.interface name) named_all known = entity_bytes name (there_named reg is_interface name named_all known)
 kind_bytes reg (kd.sequence k) named_all known = kind_bytes reg k named_all known
+kind_bytes reg _ named_all known = refl
 
 -- ---- the tokens of a registry
 
@@ -173,7 +161,7 @@ may separator (b ∷ outer) (closes c) = same_bracket b c
 may separator (b ∷ outer) t = false
 
 unfoldable pub ordered : Awaited → List Bracket → List Token → Bool
-ordered awaited outer [] = is_whole awaited outer []
+ordered awaited outer [] = is_at_end awaited outer []
 ordered awaited outer (t ∷ ts) = may awaited outer t && ordered (behind t) (opened t outer) ts
 
 -- behind a value no run goes on
@@ -235,7 +223,7 @@ token_back reg separator (b ∷ outer) comma r named_all is good follows = refl
 token_back reg separator (b ∷ outer) (closes c) r named_all is good follows = closes_back b c outer r is
 token_back reg separator (b ∷ outer) _ r named_all is good follows = let bad : ⊥ = cc in absurd bad
 
-not_whole : (awaited : Awaited) (outer : List Bracket) (t : Token) (bytes : List ℕ) → may awaited outer t ≡ true → is_whole awaited outer bytes ≡ false
+not_whole : (awaited : Awaited) (outer : List Bracket) (t : Token) (bytes : List ℕ) → may awaited outer t ≡ true → is_at_end awaited outer bytes ≡ false
 not_whole value outer t bytes is = refl
 not_whole element outer t bytes is = refl
 not_whole separator [] t bytes is = let bad : ⊥ = cc in absurd bad
@@ -257,7 +245,7 @@ tokens_back (suc n) reg awaited outer (t ∷ ts) named_all room order good =
     let reads = token_back reg awaited outer t (spells ts) named_all parts.0 good.0 (follows_on t outer ts parts.1) in
     (p ∷ inner.0, ap (λ us. t ∷ us) inner.1, step p inner.0 going reads inner.2)
   where
-    step : (p : Placed) (qs : List Placed) → is_whole awaited outer (spell t ++ spells ts) ≡ false
+    step : (p : Placed) (qs : List Placed) → is_at_end awaited outer (spell t ++ spells ts) ≡ false
         → token_at reg awaited outer (spell t ++ spells ts) ≡ Ok (t, spells ts) → tokens_at n reg (behind t) (opened t outer) (spells ts) ≡ Ok qs
         → tokens_at (suc n) reg awaited outer (spell t ++ spells ts) ≡ Ok (record { left = length (spell t ++ spells ts); token = t } ∷ qs)
     step p qs going reads inner = rw (going, reads, inner) refl
@@ -278,6 +266,11 @@ item_order : (outer : List Bracket) (o : Option (List ℕ)) (n : ℤ) (ts : List
 unfolding ordered
 item_order outer None n ts order = order
 item_order outer (Some w) n ts order = order
+
+ref_order : (outer : List Bracket) (r : Ref) (ts : List Token) → ordered separator outer ts ≡ true → ordered value outer (ref_token r ∷ ts) ≡ true
+unfolding ordered
+ref_order outer null ts order = order
+ref_order outer _ ts order = order
 
 bytes_order : (outer : List Bracket) (bs : List ℕ) (ts : List Token) → ordered separator outer ts ≡ true
     → ordered separator (square ∷ outer) (byte_tokens false bs ++ closes square ∷ ts) ≡ true
@@ -326,19 +319,6 @@ mutual
 
   value_order : (reg : List Entity) (outer : List Bracket) (x : Plain) (k : Kind) (ts : List Token) → HaveMembers reg → Fits reg x k
       → ordered separator outer ts ≡ true → ordered value outer (tokens_of reg x ++ ts) ≡ true
-  value_order reg outer v.void k ts have fits order = order
-  value_order reg outer (v.char n) k ts have fits order = order
-  value_order reg outer (v.boolean true) k ts have fits order = order
-  value_order reg outer (v.boolean false) k ts have fits order = order
-  value_order reg outer (v.byte n) k ts have fits order = order
-  value_order reg outer (v.short n) k ts have fits order = order
-  value_order reg outer (v.unsigned_short n) k ts have fits order = order
-  value_order reg outer (v.long n) k ts have fits order = order
-  value_order reg outer (v.unsigned_long n) k ts have fits order = order
-  value_order reg outer (v.hyper n) k ts have fits order = order
-  value_order reg outer (v.unsigned_hyper n) k ts have fits order = order
-  value_order reg outer (v.str s) k ts have fits order = order
-  value_order reg outer (v.kind t) k ts have fits order = order
   value_order reg outer (v.any t x) k ts have fits order = any_order reg outer t x ts (is_void t) refl fits.3 (value_order reg outer x t ts have fits.3 order) order
   value_order reg outer (v.enum name n) k ts have fits order = item_order outer (first_item (items_of (find_entity name reg)) n) n ts order
   value_order reg outer (v.tuple name vs) k ts have fits order =
@@ -346,9 +326,10 @@ mutual
       rw (append_assoc (tokens_in reg true vs) (closes curly ∷ []) ts) (members_order reg outer vs (member_kinds reg name) some.0 some.1 ts have some.2 fits.2 order)
   value_order reg outer (v.list t vs) k ts have fits order = rw (append_assoc (tokens_in reg true vs) (closes square ∷ []) ts) (elements_order reg outer vs t ts have fits.3 order)
   value_order reg outer (v.bytes b) k ts have fits order = rw (append_assoc (byte_tokens true b) (closes square ∷ []) ts) (all_bytes_order outer b ts order)
-  value_order reg outer (v.ref null) k ts have fits order = order
-  value_order reg outer (v.ref (own oid face)) k ts have fits order = order
-  value_order reg outer (v.ref (peer oid face)) k ts have fits order = order
+  value_order reg outer (v.boolean true) k ts have fits order = order
+  value_order reg outer (v.boolean false) k ts have fits order = order
+  value_order reg outer (v.ref r) k ts have fits order = ref_order outer r ts order
+  value_order reg outer _ k ts have fits order = order
 
   members_order : (reg : List Entity) (outer : List Bracket) (vs : Plains) (ks : List Kind) (f : Kind) (gs : List Kind) (ts : List Token)
       → HaveMembers reg → ks ≡ f ∷ gs → FitEach reg vs ks → ordered separator outer ts ≡ true
@@ -477,15 +458,7 @@ in_some_enum (d ∷ ds) name w e found is = by_name (bytes_eq name d.name) refl 
 
 names_of_items : (e : Entity) (b : Body) → e.body ≡ b → is_named e ≡ true → list_all is_identifier (map (λ (i : Item). i.name) (items_of (Some e))) ≡ true
 names_of_items e (plain.enum items) is named_it = let inner = (and_parts (is_entity_name e.name) (list_all is_identifier (inner_names e.body)) named_it).1 in rw is (rw is at inner)
-names_of_items e (plain.interface bases members) is named_it = rw is refl
-names_of_items e (plain.struct base members) is named_it = rw is refl
-names_of_items e (plain.exception base members) is named_it = rw is refl
-names_of_items e (plain.constants cs) is named_it = rw is refl
-names_of_items e (plain.typedef k) is named_it = rw is refl
-names_of_items e (plain.new_service base cs) is named_it = rw is refl
-names_of_items e (plain.old_service parts) is named_it = rw is refl
-names_of_items e (plain.new_singleton base) is named_it = rw is refl
-names_of_items e (plain.old_singleton service) is named_it = rw is refl
+names_of_items e _ is named_it = rw is refl
 
 item_known : (reg : List Entity) (name : List ℕ) (n : ℤ) (w : List ℕ) → list_all is_named reg ≡ true
     → first_item (items_of (find_entity name reg)) n ≡ Some w → IsToken reg (word w)
@@ -599,15 +572,11 @@ token_spelled reg (opens square) good = omega arith
 token_spelled reg (opens curly) good = omega arith
 token_spelled reg (closes square) good = omega arith
 token_spelled reg (closes curly) good = omega arith
-token_spelled reg comma good = omega arith
 token_spelled reg (number (pos n)) good = decimal_nonempty n (omega arith)
-token_spelled reg (number (negsuc n)) good = omega arith
 token_spelled reg (word []) good = let bad : ⊥ = both_ways false refl good.0 in absurd bad
 token_spelled reg (word (c ∷ cs)) good = omega arith
-token_spelled reg (string s) good = omega arith
-token_spelled reg (named k) good = omega arith
-token_spelled reg (cast k) good = omega arith
 token_spelled reg (object oid face) good = absurd good
+token_spelled reg _ good = omega arith
 
 no_more_tokens : (reg : List Entity) (ts : List Token) → AreTokensOf reg ts → length ts ≤ length (spells ts)
 no_more_tokens reg [] good = omega arith

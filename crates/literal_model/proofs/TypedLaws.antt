@@ -17,7 +17,7 @@ use Rattle.literal_model.specs.Literals.{first_item, Token, opens, closes, comma
 use Rattle.literal_model.specs.Literals.{item_token}
 use Rattle.literal_model.specs.Readings.{Fault, deep, misfit, Reads, left_at, number_in, word_in, string_in, named_in, cast_in, and_then, unsigned_of, signed_of, truth_of, word_as, number_named}
 use Rattle.literal_model.specs.Readings.{item_in, none_of_number, some_as, single, only_token, is_comma, opens_square, opens_curly, closes_square, closes_curly, expect, with_first, behind_element}
-use Rattle.literal_model.specs.Readings.{elements_on, elements_in, sequence_of, comma_at, members_on, tuple_of, is_void, any_of, bits_of, map_option, byte_in, value_step, value_within}
+use Rattle.literal_model.specs.Readings.{elements_on, elements_in, sequence_of, comma_at, members_on, tuple_of, is_void, held_by, any_of, bits_of, map_option, byte_in, value_step, value_within}
 use Rattle.uno_model.specs.Registry.{find_entity}
 use Rattle.literal_model.specs.Shapes.{Placed, on_ok, is_some_name}
 use Rattle.uno_model.specs.Types.{is_type}
@@ -27,14 +27,28 @@ use Rattle.uno_model.specs.Values as v
 abbrev pub bare : List Placed → List Token
 bare = map (λ (p : Placed). p.token)
 
--- the value is read of the tokens in front
-pub record IsRead (reg : List Entity) (k : Kind) (x : Plain) (ps rest : List Placed) : Type 0 where
-  pub fits : Fits reg x k
-  pub closed : refs x ≡ []
-  pub spelled : bare ps ≡ tokens_of reg x ++ bare rest
+-- a step of a reading that went well
+pub ok_step : {A B E : Type 0} (m : Result A E) (go : A → Result B E) (y : B) → on_ok m go ≡ Ok y → (x : A) × (m ≡ Ok x) × (go x ≡ Ok y)
+ok_step (Ok x) go y e = (x, refl, e)
+ok_step (Err f) go y e = let bad : ⊥ = cc in absurd bad
 
-abbrev pub ReadsWell : List Entity → (Kind → Reads Plain) → Type 0
-ReadsWell reg read = (k : Kind) (ps rest : List Placed) (x : Plain) → read k ps ≡ Ok (x, rest) → IsRead reg k x ps rest
+-- what holds of what was read holds of the same
+pub ok_holds : {A B E : Type 0} (P : A → B → Type 0) (a c : A) (b d : B) → ◌≡◌ {A = Result (A × B) E} (Ok (a, b)) (Ok (c, d)) → P a b → P c d
+ok_holds {A} {B} P a c b d e p = let pair : ◌≡◌ {A = A × B} (a, b) (c, d) = cc in subst (λ (y : A × B). P y.0 y.1) pair p
+
+first_step : {X : Type 0} (x : X) (m : Result (List X × List Placed) Fault) (xs : List X) (rest : List Placed) → with_first x m ≡ Ok (xs, rest)
+    → (y : List X × List Placed) × (m ≡ Ok y) × (◌≡◌ {A = Result (List X × List Placed) Fault} (Ok (x ∷ y.0, y.1)) (Ok (xs, rest)))
+first_step x (Ok y) xs rest e = (y, refl, e)
+first_step x (Err f) xs rest e = let bad : ⊥ = cc in absurd bad
+
+only_step : {X : Type 0} (get : Token → Option X) (ps rest : List Placed) (x : X) → only_token get ps ≡ Ok (x, rest) → (p : Placed) × (ps ≡ p ∷ rest) × (get p.token ≡ Some x)
+only_step get [] rest x e = let bad : ⊥ = cc in absurd bad
+only_step {X} get (p ∷ ps) rest x e = by_token (get p.token) refl
+  where
+    by_token : (o : Option X) → get p.token ≡ o → (q : Placed) × (p ∷ ps ≡ q ∷ rest) × (get q.token ≡ Some x)
+    by_token (Some y) is = let same : ◌≡◌ {A = Result (X × List Placed) Fault} (Ok (y, ps)) (Ok (x, rest)) = rw is at e in
+        ok_holds (λ z r. (q : Placed) × (p ∷ ps ≡ q ∷ r) × (get q.token ≡ Some z)) y x ps rest same (p, refl, is)
+    by_token None is = let bad : ◌≡◌ {A = Result (X × List Placed) Fault} (Err (misfit p.left)) (Ok (x, rest)) = rw is at e in let worse : ⊥ = cc in absurd worse
 
 -- ---- one token
 
@@ -230,10 +244,7 @@ single_only reg kd.str t x type typed e = string_only reg t x e
 single_only reg kd.kind t x type typed e = named_only reg t x typed e
 single_only reg (kd.enum name) t x type typed e = enum_only reg name t x type e
 single_only reg (kd.interface name) t x type typed e = word_only reg (kd.interface name) (codes "null") (v.ref null) t x (record { fits = type; closed = refl; spelled = refl }) e
-single_only reg kd.any t x type typed e = let bad : ⊥ = cc in absurd bad
-single_only reg (kd.struct name) t x type typed e = let bad : ⊥ = cc in absurd bad
-single_only reg (kd.exception name) t x type typed e = let bad : ⊥ = cc in absurd bad
-single_only reg (kd.sequence k) t x type typed e = let bad : ⊥ = cc in absurd bad
+single_only reg _ t x type typed e = let bad : ⊥ = cc in absurd bad
 
 -- two readings that are one gave the same
 ok_parts : {A B : Type 0} (a c : A) (b d : B) → ◌≡◌ {A = Result (A × B) Fault} (Ok (a, b)) (Ok (c, d)) → (a ≡ c) × (b ≡ d)
@@ -270,22 +281,18 @@ Each P (x ∷ xs) = P x × Each P xs
 -- a token that is a mark is that mark
 closes_square_is : (t : Token) → closes_square t ≡ true → t ≡ closes square
 closes_square_is (closes square) e = refl
-closes_square_is (closes curly) e = let bad : ⊥ = cc in absurd bad
 closes_square_is _ e = let bad : ⊥ = cc in absurd bad
 
 closes_curly_is : (t : Token) → closes_curly t ≡ true → t ≡ closes curly
 closes_curly_is (closes curly) e = refl
-closes_curly_is (closes square) e = let bad : ⊥ = cc in absurd bad
 closes_curly_is _ e = let bad : ⊥ = cc in absurd bad
 
 opens_square_is : (t : Token) → opens_square t ≡ true → t ≡ opens square
 opens_square_is (opens square) e = refl
-opens_square_is (opens curly) e = let bad : ⊥ = cc in absurd bad
 opens_square_is _ e = let bad : ⊥ = cc in absurd bad
 
 opens_curly_is : (t : Token) → opens_curly t ≡ true → t ≡ opens curly
 opens_curly_is (opens curly) e = refl
-opens_curly_is (opens square) e = let bad : ⊥ = cc in absurd bad
 opens_curly_is _ e = let bad : ⊥ = cc in absurd bad
 
 comma_is : (t : Token) → is_comma t ≡ true → t ≡ comma
@@ -433,16 +440,12 @@ comma_sound reg false left ps qs typed e =
 no_members : (reg : List Entity) (left : ℕ) (is_first : Bool) (ps rest : List Placed) (xs : List Plain) → Typed reg ps
     → on_ok {B = List Plain × List Placed} (expect left closes_curly ps) (λ qs. Ok ([], qs)) ≡ Ok (xs, rest) → AreMembers reg is_first [] xs ps rest
 unfolding FitEach refs_in tokens_in
-no_members reg left is_first ps rest xs typed e = by_close (expect left closes_curly ps) refl
-  where
-    by_close : (m : Result (List Placed) Fault) → expect left closes_curly ps ≡ m → AreMembers reg is_first [] xs ps rest
-    by_close (Ok qs) closed =
-        let at = expected left closes_curly ps qs closed in
-        let typed_all : Typed reg (at.0 ∷ qs) = subst (Typed reg) at.1 typed in
-        let parts = ok_parts [] xs qs rest (rw closed at e) in
-        let all : AreMembers reg is_first [] [] ps qs = record { fits = tt; closed = refl; spelled = ap bare at.1 ∙ ap (λ t. t ∷ bare qs) (closes_curly_is at.0.token at.2); typed = typed_all.1 } in
-        subst (λ r. AreMembers reg is_first [] xs ps r) parts.1 (subst (λ ys. AreMembers reg is_first [] ys ps qs) parts.0 all)
-    by_close (Err f) refused = absurd (not_ok f (xs, rest) (rw refused at e))
+no_members reg left is_first ps rest xs typed e =
+    let end = ok_step (expect left closes_curly ps) (λ qs. Ok ([], qs)) (xs, rest) e in
+    let at = expected left closes_curly ps end.0 end.1 in
+    let typed_all : Typed reg (at.0 ∷ end.0) = subst (Typed reg) at.1 typed in
+    ok_holds (λ ys r. AreMembers reg is_first [] ys ps r) [] xs end.0 rest end.2
+    (record { fits = tt; closed = refl; spelled = ap bare at.1 ∙ ap (λ t. t ∷ bare end.0) (closes_curly_is at.0.token at.2); typed = typed_all.1 })
 
 -- one member more
 one_member : (reg : List Entity) (is_first : Bool) (k : Kind) (ks : List Kind) (x : Plain) (ys : List Plain) (ps qs rs rest : List Placed)
@@ -464,29 +467,15 @@ members_sound : (reg : List Entity) (read : Kind → Reads Plain) (left : ℕ) (
     → AreMembers reg is_first ks xs ps rest
 unfolding members_on
 members_sound reg read left is_first [] ps rest xs reads typed e = no_members reg left is_first ps rest xs typed e
-members_sound reg read left is_first (k ∷ ks) ps rest xs reads typed e = by_comma (comma_at is_first left ps) refl (λ rs r ys t f. members_sound reg read left false ks rs r ys reads t f)
-  where
-    Inner : Type 0
-    Inner = (rs r : List Placed) (ys : List Plain) → Typed reg rs → members_on read left false ks rs ≡ Ok (ys, r) → AreMembers reg false ks ys rs r
-
-    by_more : (qs rs : List Placed) (x : Plain) (m : Result (List Plain × List Placed) Fault) → comma_at is_first left ps ≡ Ok qs
-        → IsTypedRead reg k x qs rs → members_on read left false ks rs ≡ m → Inner → with_first x m ≡ Ok (xs, rest)
-        → AreMembers reg is_first (k ∷ ks) xs ps rest
-    by_more qs rs x (Ok y) comma_it is others inner says =
-        let parts = ok_parts (x ∷ y.0) xs y.1 rest says in
-        let all = one_member reg is_first k ks x y.0 ps qs rs y.1 (comma_sound reg is_first left ps qs typed comma_it).0 is (inner rs y.1 y.0 is.typed others) in
-        subst (λ r. AreMembers reg is_first (k ∷ ks) xs ps r) parts.1 (subst (λ ys. AreMembers reg is_first (k ∷ ks) ys ps y.1) parts.0 all)
-    by_more qs rs x (Err f) comma_it is others inner says = absurd (not_ok f (xs, rest) says)
-
-    by_read : (qs : List Placed) (m : Result (Plain × List Placed) Fault) → comma_at is_first left ps ≡ Ok qs → read k qs ≡ m → Inner → AreMembers reg is_first (k ∷ ks) xs ps rest
-    by_read qs (Ok y) comma_it one inner =
-        let is = reads k qs y.1 y.0 (comma_sound reg is_first left ps qs typed comma_it).1 one in
-        by_more qs y.1 y.0 (members_on read left false ks y.1) comma_it is refl inner (rw (comma_it, one) at e)
-    by_read qs (Err f) comma_it one inner = absurd (not_ok f (xs, rest) (rw (comma_it, one) at e))
-
-    by_comma : (m : Result (List Placed) Fault) → comma_at is_first left ps ≡ m → Inner → AreMembers reg is_first (k ∷ ks) xs ps rest
-    by_comma (Ok qs) comma_it inner = by_read qs (read k qs) comma_it refl inner
-    by_comma (Err f) lost inner = absurd (not_ok f (xs, rest) (rw lost at e))
+members_sound reg read left is_first (k ∷ ks) ps rest xs reads typed e =
+    let first = ok_step (comma_at is_first left ps) (λ qs. on_ok (read k qs) (λ y. with_first y.0 (members_on read left false ks y.1))) (xs, rest) e in
+    let one = ok_step (read k first.0) (λ y. with_first y.0 (members_on read left false ks y.1)) (xs, rest) first.2 in
+    let others = first_step one.0.0 (members_on read left false ks one.0.1) xs rest one.2 in
+    let comma_it = comma_sound reg is_first left ps first.0 typed first.1 in
+    let is = reads k first.0 one.0.1 one.0.0 comma_it.1 one.1 in
+    let are = members_sound reg read left false ks one.0.1 others.0.1 others.0.0 reads is.typed others.1 in
+    ok_holds (λ ys r. AreMembers reg is_first (k ∷ ks) ys ps r) (one.0.0 ∷ others.0.0) xs others.0.1 rest others.2
+    (one_member reg is_first k ks one.0.0 others.0.0 ps first.0 one.0.1 others.0.1 comma_it.0 is are)
 
 -- the members with their brackets
 pub record IsTuple (reg : List Entity) (ks : List Kind) (xs : List Plain) (ps rest : List Placed) : Type 0 where
@@ -497,15 +486,12 @@ pub record IsTuple (reg : List Entity) (ks : List Kind) (xs : List Plain) (ps re
 
 tuple_sound : (reg : List Entity) (read : Kind → Reads Plain) (ks : List Kind) (ps rest : List Placed) (xs : List Plain) → ReadsKinds reg read
     → Typed reg ps → tuple_of read ks ps ≡ Ok (xs, rest) → IsTuple reg ks xs ps rest
-tuple_sound reg read ks ps rest xs reads typed e = by_open (expect (left_at ps) opens_curly ps) refl
-  where
-    by_open : (m : Result (List Placed) Fault) → expect (left_at ps) opens_curly ps ≡ m → IsTuple reg ks xs ps rest
-    by_open (Ok qs) opened =
-        let at = expected (left_at ps) opens_curly ps qs opened in
-        let typed_all : Typed reg (at.0 ∷ qs) = subst (Typed reg) at.1 typed in
-        let are = members_sound reg read (left_at ps) true ks qs rest xs reads typed_all.1 (rw opened at e) in
-        record { fits = are.fits; closed = are.closed; spelled = ap bare at.1 ∙ ap (λ t. t ∷ bare qs) (opens_curly_is at.0.token at.2) ∙ ap (λ t. opens curly ∷ t) are.spelled; typed = are.typed }
-    by_open (Err f) refused = absurd (not_ok f (xs, rest) (rw refused at e))
+tuple_sound reg read ks ps rest xs reads typed e =
+    let opened = ok_step (expect (left_at ps) opens_curly ps) (members_on read (left_at ps) true ks) (xs, rest) e in
+    let at = expected (left_at ps) opens_curly ps opened.0 opened.1 in
+    let typed_all : Typed reg (at.0 ∷ opened.0) = subst (Typed reg) at.1 typed in
+    let are = members_sound reg read (left_at ps) true ks opened.0 rest xs reads typed_all.1 opened.2 in
+    record { fits = are.fits; closed = are.closed; spelled = ap bare at.1 ∙ ap (λ t. t ∷ bare opened.0) (opens_curly_is at.0.token at.2) ∙ ap (λ t. opens curly ∷ t) are.spelled; typed = are.typed }
 
 -- ---- an any
 
@@ -522,52 +508,57 @@ any_tokens reg k _ fits other = refl
 any_sound : (reg : List Entity) (read : Kind → Reads Plain) (ps rest : List Placed) (x : Plain) → ReadsKinds reg read → Typed reg ps
     → any_of read ps ≡ Ok (x, rest) → IsTypedRead reg kd.any x ps rest
 unfolding Fits tokens_of refs
-any_sound reg read [] rest x reads typed e = absurd (not_ok (misfit 0) (x, rest) e)
-any_sound reg read (p ∷ ps) rest x reads typed e = by_cast (cast_in p.token) refl
+any_sound reg read ps rest x reads typed e = by_void (is_void k) refl
   where
-    by_read : (k : Kind) (m : Result (Plain × List Placed) Fault) → cast_in p.token ≡ Some k → is_void k ≡ false → read k ps ≡ m → IsTypedRead reg kd.any x (p ∷ ps) rest
-    by_read k (Ok y) cast_it other one =
-        let parts = ok_parts (v.any k y.0) x y.1 rest (rw (cast_it, other, one) at e) in
-        let is = reads k ps y.1 y.0 typed.1 one in
-        let token = is_cast p.token k cast_it in
-        let has : HasType reg (cast k) = subst (HasType reg) token typed.0 in
-        let all : IsTypedRead reg kd.any (v.any k y.0) (p ∷ ps) y.1 = record {
+    opened : (y : Kind × List Placed) × (only_token cast_in ps ≡ Ok y) × (held_by read y.0 y.1 ≡ Ok (x, rest))
+    opened = ok_step (only_token cast_in ps) (λ y. held_by read y.0 y.1) (x, rest) e
+
+    k : Kind
+    k = opened.0.0
+
+    qs : List Placed
+    qs = opened.0.1
+
+    at : (p : Placed) × (ps ≡ p ∷ qs) × (cast_in p.token ≡ Some k)
+    at = only_step cast_in ps qs k opened.1
+
+    token : at.0.token ≡ cast k
+    token = is_cast at.0.token k at.2
+
+    typed_all : Typed reg (at.0 ∷ qs)
+    typed_all = subst (Typed reg) at.1 typed
+
+    front : bare ps ≡ cast k ∷ bare qs
+    front = ap bare at.1 ∙ ap (λ t. t ∷ bare qs) token
+
+    by_void : (b : Bool) → is_void k ≡ b → IsTypedRead reg kd.any x ps rest
+    by_void true is_it =
+        let is : k ≡ kd.void = is_void_is k is_it in
+        let has : HasType reg (cast kd.void) = subst (HasType reg) (token ∙ ap cast is) typed_all.0 in
+        ok_holds (λ z r. IsTypedRead reg kd.any z ps r) (v.any kd.void v.void) x qs rest (rw is_it at opened.2)
+        (record { fits = (refl, has.0, has.1, refl); closed = refl; spelled = front ∙ ap (λ j. cast j ∷ bare qs) is; typed = typed_all.1 })
+    by_void false other =
+        let one = ok_step {B = Plain × List Placed} (read k qs) (λ y. Ok (v.any k y.0, y.1)) (x, rest) (rw other at opened.2) in
+        let is = reads k qs one.0.1 one.0.0 typed_all.1 one.1 in
+        let has : HasType reg (cast k) = subst (HasType reg) token typed_all.0 in
+        ok_holds (λ z r. IsTypedRead reg kd.any z ps r) (v.any k one.0.0) x one.0.1 rest one.2
+        (record {
           fits = (refl, has.0, has.1, is.fits);
           closed = is.closed;
-          spelled = ap (λ t. t ∷ bare ps) token ∙ ap (λ t. cast k ∷ t) is.spelled ∙ ap (λ t. t ++ bare y.1) (sym (any_tokens reg k y.0 is.fits other));
+          spelled = front ∙ ap (λ t. cast k ∷ t) is.spelled ∙ ap (λ t. t ++ bare one.0.1) (sym (any_tokens reg k one.0.0 is.fits other));
           typed = is.typed;
-        } in
-        subst (λ r. IsTypedRead reg kd.any x (p ∷ ps) r) parts.1 (subst (λ z. IsTypedRead reg kd.any z (p ∷ ps) y.1) parts.0 all)
-    by_read k (Err f) cast_it other one = absurd (not_ok f (x, rest) (rw (cast_it, other, one) at e))
-
-    by_void : (k : Kind) (b : Bool) → cast_in p.token ≡ Some k → is_void k ≡ b → IsTypedRead reg kd.any x (p ∷ ps) rest
-    by_void k true cast_it is_it =
-        let parts = ok_parts (v.any kd.void v.void) x ps rest (rw (cast_it, is_it) at e) in
-        let token = is_cast p.token k cast_it ∙ ap cast (is_void_is k is_it) in
-        let has : HasType reg (cast kd.void) = subst (HasType reg) token typed.0 in
-        let all : IsTypedRead reg kd.any (v.any kd.void v.void) (p ∷ ps) ps = record { fits = (refl, has.0, has.1, refl); closed = refl; spelled = ap (λ t. t ∷ bare ps) token; typed = typed.1 } in
-        subst (λ r. IsTypedRead reg kd.any x (p ∷ ps) r) parts.1 (subst (λ z. IsTypedRead reg kd.any z (p ∷ ps) ps) parts.0 all)
-    by_void k false cast_it other = by_read k (read k ps) cast_it other refl
-
-    by_cast : (o : Option Kind) → cast_in p.token ≡ o → IsTypedRead reg kd.any x (p ∷ ps) rest
-    by_cast (Some k) cast_it = by_void k (is_void k) cast_it refl
-    by_cast None none_it = absurd (not_ok (misfit p.left) (x, rest) (rw none_it at e))
+        })
 
 -- ---- each type
 
 -- a value of one token
 only_sound : (reg : List Entity) (k : Kind) (ps rest : List Placed) (x : Plain) → is_type reg k ≡ true → Typed reg ps
     → only_token (single reg k) ps ≡ Ok (x, rest) → IsTypedRead reg k x ps rest
-only_sound reg k [] rest x type typed e = absurd (not_ok (misfit 0) (x, rest) e)
-only_sound reg k (p ∷ ps) rest x type typed e = by_one (single reg k p.token) refl
-  where
-    by_one : (o : Option Plain) → single reg k p.token ≡ o → IsTypedRead reg k x (p ∷ ps) rest
-    by_one (Some y) one =
-        let parts = ok_parts y x ps rest (rw one at e) in
-        let is = single_only reg k p.token y type typed.0 one in
-        let all : IsTypedRead reg k y (p ∷ ps) ps = record { fits = is.fits; closed = is.closed; spelled = ap (λ t. t ++ bare ps) is.spelled; typed = typed.1 } in
-        subst (λ r. IsTypedRead reg k x (p ∷ ps) r) parts.1 (subst (λ z. IsTypedRead reg k z (p ∷ ps) ps) parts.0 all)
-    by_one None nothing = absurd (not_ok (misfit p.left) (x, rest) (rw nothing at e))
+only_sound reg k ps rest x type typed e =
+    let at = only_step (single reg k) ps rest x e in
+    let typed_all : Typed reg (at.0 ∷ rest) = subst (Typed reg) at.1 typed in
+    let is = single_only reg k at.0.token x type typed_all.0 at.2 in
+    record { fits = is.fits; closed = is.closed; spelled = ap bare at.1 ∙ ap (λ t. t ++ bare rest) is.spelled; typed = typed_all.1 }
 
 -- a byte is its bits, written as a signed number
 abbrev pub byte_token : ℕ → List Token
@@ -603,15 +594,10 @@ abbrev AnyByte : ℕ → Type 0
 AnyByte b = Unit
 
 bytes_read : (reg : List Entity) → ReadsElements reg AnyByte byte_token (only_token byte_in)
-bytes_read reg [] rest b typed e = absurd (not_ok (misfit 0) (b, rest) e)
-bytes_read reg (p ∷ ps) rest b typed e = by_byte (byte_in p.token) refl
-  where
-    by_byte : (o : Option ℕ) → byte_in p.token ≡ o → IsElement reg AnyByte byte_token b (p ∷ ps) rest
-    by_byte (Some n) one =
-        let parts = ok_parts n b ps rest (rw one at e) in
-        let all : IsElement reg AnyByte byte_token n (p ∷ ps) ps = record { good = tt; spelled = ap (λ t. t ++ bare ps) (byte_is p.token n one); typed = typed.1 } in
-        subst (λ r. IsElement reg AnyByte byte_token b (p ∷ ps) r) parts.1 (subst (λ m. IsElement reg AnyByte byte_token m (p ∷ ps) ps) parts.0 all)
-    by_byte None nothing = absurd (not_ok (misfit p.left) (b, rest) (rw nothing at e))
+bytes_read reg ps rest b typed e =
+    let at = only_step byte_in ps rest b e in
+    let typed_all : Typed reg (at.0 ∷ rest) = subst (Typed reg) at.1 typed in
+    record { good = tt; spelled = ap bare at.1 ∙ ap (λ t. t ++ bare rest) (byte_is at.0.token b at.2); typed = typed_all.1 }
 
 -- an element of a sequence of other values
 abbrev FitsWell : List Entity → Kind → Plain → Type 0
@@ -629,52 +615,39 @@ bytes_sound : (reg : List Entity) (ps rest : List Placed) (x : Plain) → Typed 
     → on_ok {B = Plain × List Placed} (sequence_of (only_token byte_in) ps) (λ y. Ok (v.bytes y.0, y.1)) ≡ Ok (x, rest)
     → IsTypedRead reg (kd.sequence kd.byte) x ps rest
 unfolding Fits tokens_of refs
-bytes_sound reg ps rest x typed e = by_all (sequence_of (only_token byte_in) ps) refl
-  where
-    by_all : (m : Result (List ℕ × List Placed) Fault) → sequence_of (only_token byte_in) ps ≡ m → IsTypedRead reg (kd.sequence kd.byte) x ps rest
-    by_all (Ok y) one =
-        let parts = ok_parts (v.bytes y.0) x y.1 rest (rw one at e) in
-        let are = sequence_sound reg AnyByte byte_token (only_token byte_in) ps y.1 y.0 (bytes_read reg) typed one in
-        let spelled : bare ps ≡ tokens_of reg (v.bytes y.0) ++ bare y.1 =
-        are.spelled ∙ ap (λ t. opens square ∷ (t ++ closes square ∷ bare y.1)) (sym (listed_bytes true y.0))
-        ∙ ap (λ t. opens square ∷ t) (sym (append_assoc (byte_tokens true y.0) (closes square ∷ []) (bare y.1))) in
-        let all : IsTypedRead reg (kd.sequence kd.byte) (v.bytes y.0) ps y.1 = record { fits = refl; closed = refl; spelled = spelled; typed = are.typed } in
-        subst (λ r. IsTypedRead reg (kd.sequence kd.byte) x ps r) parts.1 (subst (λ z. IsTypedRead reg (kd.sequence kd.byte) z ps y.1) parts.0 all)
-    by_all (Err f) one = absurd (not_ok f (x, rest) (rw one at e))
+bytes_sound reg ps rest x typed e =
+    let all = ok_step (sequence_of (only_token byte_in) ps) (λ y. Ok (v.bytes y.0, y.1)) (x, rest) e in
+    let are = sequence_sound reg AnyByte byte_token (only_token byte_in) ps all.0.1 all.0.0 (bytes_read reg) typed all.1 in
+    let spelled : bare ps ≡ tokens_of reg (v.bytes all.0.0) ++ bare all.0.1 =
+    are.spelled ∙ ap (λ t. opens square ∷ (t ++ closes square ∷ bare all.0.1)) (sym (listed_bytes true all.0.0))
+    ∙ ap (λ t. opens square ∷ t) (sym (append_assoc (byte_tokens true all.0.0) (closes square ∷ []) (bare all.0.1))) in
+    ok_holds (λ z r. IsTypedRead reg (kd.sequence kd.byte) z ps r) (v.bytes all.0.0) x all.0.1 rest all.2 (record { fits = refl; closed = refl; spelled = spelled; typed = are.typed })
 
 list_sound : (reg : List Entity) (read : Kind → Reads Plain) (k : Kind) (ps rest : List Placed) (x : Plain) → k ≢ kd.byte
     → is_type reg (kd.sequence k) ≡ true → ReadsKinds reg read → Typed reg ps
     → on_ok {B = Plain × List Placed} (sequence_of (read k) ps) (λ y. Ok (v.list k (plains y.0), y.1)) ≡ Ok (x, rest) → IsTypedRead reg (kd.sequence k) x ps rest
 unfolding Fits tokens_of refs
-list_sound reg read k ps rest x other type reads typed e = by_all (sequence_of (read k) ps) refl
-  where
-    by_all : (m : Result (List Plain × List Placed) Fault) → sequence_of (read k) ps ≡ m → IsTypedRead reg (kd.sequence k) x ps rest
-    by_all (Ok y) one =
-        let parts = ok_parts (v.list k (plains y.0)) x y.1 rest (rw one at e) in
-        let are = sequence_sound reg (FitsWell reg k) (tokens_of reg) (read k) ps y.1 y.0 (values_read reg read k reads) typed one in
-        let good = all_fit reg k y.0 are.good in
-        let spelled : bare ps ≡ tokens_of reg (v.list k (plains y.0)) ++ bare y.1 =
-        are.spelled ∙ ap (λ t. opens square ∷ (t ++ closes square ∷ bare y.1)) (sym (listed_plains reg true y.0))
-        ∙ ap (λ t. opens square ∷ t) (sym (append_assoc (tokens_in reg true (plains y.0)) (closes square ∷ []) (bare y.1))) in
-        let all : IsTypedRead reg (kd.sequence k) (v.list k (plains y.0)) ps y.1 = record { fits = (refl, other, type, good.0); closed = good.1; spelled = spelled; typed = are.typed } in
-        subst (λ r. IsTypedRead reg (kd.sequence k) x ps r) parts.1 (subst (λ z. IsTypedRead reg (kd.sequence k) z ps y.1) parts.0 all)
-    by_all (Err f) one = absurd (not_ok f (x, rest) (rw one at e))
+list_sound reg read k ps rest x other type reads typed e =
+    let all = ok_step (sequence_of (read k) ps) (λ y. Ok (v.list k (plains y.0), y.1)) (x, rest) e in
+    let are = sequence_sound reg (FitsWell reg k) (tokens_of reg) (read k) ps all.0.1 all.0.0 (values_read reg read k reads) typed all.1 in
+    let good = all_fit reg k all.0.0 are.good in
+    let spelled : bare ps ≡ tokens_of reg (v.list k (plains all.0.0)) ++ bare all.0.1 =
+    are.spelled ∙ ap (λ t. opens square ∷ (t ++ closes square ∷ bare all.0.1)) (sym (listed_plains reg true all.0.0))
+    ∙ ap (λ t. opens square ∷ t) (sym (append_assoc (tokens_in reg true (plains all.0.0)) (closes square ∷ []) (bare all.0.1))) in
+    ok_holds (λ z r. IsTypedRead reg (kd.sequence k) z ps r) (v.list k (plains all.0.0)) x all.0.1 rest all.2
+    (record { fits = (refl, other, type, good.0); closed = good.1; spelled = spelled; typed = are.typed })
 
 struct_sound : (reg : List Entity) (read : Kind → Reads Plain) (k : Kind) (name : List ℕ) (ps rest : List Placed) (x : Plain) → IsTupleKind name k
     → is_type reg k ≡ true → ReadsKinds reg read → Typed reg ps
     → on_ok {B = Plain × List Placed} (tuple_of read (member_kinds reg name) ps) (λ y. Ok (v.tuple name (plains y.0), y.1)) ≡ Ok (x, rest) → IsTypedRead reg k x ps rest
 unfolding Fits tokens_of refs
-struct_sound reg read k name ps rest x kind_it type reads typed e = by_all (tuple_of read (member_kinds reg name) ps) refl
-  where
-    by_all : (m : Result (List Plain × List Placed) Fault) → tuple_of read (member_kinds reg name) ps ≡ m → IsTypedRead reg k x ps rest
-    by_all (Ok y) one =
-        let parts = ok_parts (v.tuple name (plains y.0)) x y.1 rest (rw one at e) in
-        let are = tuple_sound reg read (member_kinds reg name) ps y.1 y.0 reads typed one in
-        let spelled : bare ps ≡ tokens_of reg (v.tuple name (plains y.0)) ++ bare y.1 =
-        are.spelled ∙ ap (λ t. opens curly ∷ t) (sym (append_assoc (tokens_in reg true (plains y.0)) (closes curly ∷ []) (bare y.1))) in
-        let all : IsTypedRead reg k (v.tuple name (plains y.0)) ps y.1 = record { fits = (kind_it, type, are.fits); closed = are.closed; spelled = spelled; typed = are.typed } in
-        subst (λ r. IsTypedRead reg k x ps r) parts.1 (subst (λ z. IsTypedRead reg k z ps y.1) parts.0 all)
-    by_all (Err f) one = absurd (not_ok f (x, rest) (rw one at e))
+struct_sound reg read k name ps rest x kind_it type reads typed e =
+    let all = ok_step (tuple_of read (member_kinds reg name) ps) (λ y. Ok (v.tuple name (plains y.0), y.1)) (x, rest) e in
+    let are = tuple_sound reg read (member_kinds reg name) ps all.0.1 all.0.0 reads typed all.1 in
+    let spelled : bare ps ≡ tokens_of reg (v.tuple name (plains all.0.0)) ++ bare all.0.1 =
+    are.spelled ∙ ap (λ t. opens curly ∷ t) (sym (append_assoc (tokens_in reg true (plains all.0.0)) (closes curly ∷ []) (bare all.0.1))) in
+    ok_holds (λ z r. IsTypedRead reg k z ps r) (v.tuple name (plains all.0.0)) x all.0.1 rest all.2
+    (record { fits = (kind_it, type, are.fits); closed = are.closed; spelled = spelled; typed = are.typed })
 
 sequence_step : (reg : List Entity) (read : Kind → Reads Plain) (k : Kind) (ps rest : List Placed) (x : Plain) → is_type reg (kd.sequence k) ≡ true
     → ReadsKinds reg read → Typed reg ps → value_step reg read (kd.sequence k) ps ≡ Ok (x, rest)

@@ -14,7 +14,7 @@ use Rattle.literal_model.specs.Shapes.{Placed, value, judge}
 use Rattle.uno_model.specs.Sound.{IsSound, is_named}
 use Rattle.uno_model.specs.Spellable.{IsSpellable}
 use Rattle.uno_model.specs.Values.{Plain}
-use Rattle.literal_model.specs.Verdicts.{Wrong, too_deep, bad, wrong_type, deepest, whole_verdict, of_reading, verdict}
+use Rattle.literal_model.specs.Verdicts.{Wrong, too_deep, bad, wrong_type, deepest, verdict_at_end, of_reading, verdict}
 
 wrong_or_right : {Y : Type 0} (w : Wrong) (y : Y) → Err w ≡ Ok y → ⊥
 wrong_or_right w y e = cc
@@ -23,7 +23,7 @@ pub found_is_literal : (reg : List Entity) (k : Kind) (text : List ℕ) (v : Pla
 found_is_literal reg k text v named_all e = by_judgement (judge reg text) refl
   where
     by_rest : (ps : List Placed) (x : Plain) (rest : List Placed) → AreTokens reg text ps → value_within deepest reg k ps ≡ Ok (x, rest)
-        → whole_verdict (length text) (x, rest) ≡ Ok v → IsLiteral reg k text v
+        → verdict_at_end (length text) (x, rest) ≡ Ok v → IsLiteral reg k text v
     by_rest ps x [] are read says =
         let same : x ≡ v = cc in
         let is = within_sound deepest reg k ps [] x are.typed read in

@@ -97,23 +97,27 @@ abbrev pub some_as : {X : Type 0} → (X → Plain) → Option X → Option Plai
 some_as mk None = None
 some_as mk (Some x) = Some (mk x)
 
+-- a value of a type of numbers
+abbrev pub numeric : Kind → Token → Option Plain
+numeric kd.char t = some_as v.char (and_then (number_in t) (unsigned_of 16))
+numeric kd.byte t = some_as v.byte (and_then (number_in t) (signed_of 7))
+numeric kd.short t = some_as v.short (and_then (number_in t) (signed_of 15))
+numeric kd.unsigned_short t = some_as v.unsigned_short (and_then (number_in t) (unsigned_of 16))
+numeric kd.long t = some_as v.long (and_then (number_in t) (signed_of 31))
+numeric kd.unsigned_long t = some_as v.unsigned_long (and_then (number_in t) (unsigned_of 32))
+numeric kd.hyper t = some_as v.hyper (and_then (number_in t) (signed_of 63))
+numeric kd.unsigned_hyper t = some_as v.unsigned_hyper (and_then (number_in t) (unsigned_of 64))
+numeric _ t = None
+
 -- a value of one token; sequences, structs, exceptions and any have more
 abbrev pub single : List Entity → Kind → Token → Option Plain
 single reg kd.void t = and_then (word_in t) (word_as (codes "void") v.void)
-single reg kd.char t = some_as v.char (and_then (number_in t) (unsigned_of 16))
 single reg kd.boolean t = some_as v.boolean (and_then (word_in t) truth_of)
-single reg kd.byte t = some_as v.byte (and_then (number_in t) (signed_of 7))
-single reg kd.short t = some_as v.short (and_then (number_in t) (signed_of 15))
-single reg kd.unsigned_short t = some_as v.unsigned_short (and_then (number_in t) (unsigned_of 16))
-single reg kd.long t = some_as v.long (and_then (number_in t) (signed_of 31))
-single reg kd.unsigned_long t = some_as v.unsigned_long (and_then (number_in t) (unsigned_of 32))
-single reg kd.hyper t = some_as v.hyper (and_then (number_in t) (signed_of 63))
-single reg kd.unsigned_hyper t = some_as v.unsigned_hyper (and_then (number_in t) (unsigned_of 64))
 single reg kd.str t = some_as v.str (string_in t)
 single reg kd.kind t = some_as v.kind (named_in t)
 single reg (kd.enum name) t = some_as (v.enum name) (item_in (items_of (find_entity name reg)) t)
 single reg (kd.interface name) t = and_then (word_in t) (word_as (codes "null") (v.ref null))
-single reg _ t = None
+single reg k t = numeric k t
 
 -- a value of one token, with the tokens behind it
 abbrev pub of_token : {X : Type 0} → ℕ → List Placed → Option X → Result (X × List Placed) Fault

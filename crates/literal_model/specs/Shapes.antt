@@ -44,13 +44,13 @@ is_word (c ∷ cs) = begins_identifier c && list_all goes_on_identifier cs
 -- ---- what stands at the front of a text: a token and what is behind it, or how many bytes are left from the first bad one on
 
 -- the longest front of which each byte passes, and what stands behind it
-unfoldable pub front : (ℕ → Bool) → List ℕ → List ℕ
-front test [] = []
-front test (c ∷ cs) = if test c then c ∷ front test cs else []
+unfoldable pub run_of : (ℕ → Bool) → List ℕ → List ℕ
+run_of test [] = []
+run_of test (c ∷ cs) = if test c then c ∷ run_of test cs else []
 
-unfoldable pub rest : (ℕ → Bool) → List ℕ → List ℕ
-rest test [] = []
-rest test (c ∷ cs) = if test c then rest test cs else c ∷ cs
+unfoldable pub behind_run : (ℕ → Bool) → List ℕ → List ℕ
+behind_run test [] = []
+behind_run test (c ∷ cs) = if test c then behind_run test cs else c ∷ cs
 
 -- the digits behind a number, as long as it stays within a limit
 unfoldable pub digits_on : ℕ → ℕ → List ℕ → Result (ℕ × List ℕ) ℕ
@@ -140,7 +140,7 @@ name_stop reg bytes = stop (behind_name bytes)
 
 -- the name of a type and the mark behind it
 abbrev pub type_at : List Entity → ℕ → List ℕ → Result (Kind × List ℕ) ℕ
-type_at reg mark bytes = closed (rest is_name_byte bytes)
+type_at reg mark bytes = closed (behind_run is_name_byte bytes)
   where
     of_name : Option Kind → List ℕ → Result (Kind × List ℕ) ℕ
     of_name None cs = Err (length bytes)
@@ -148,7 +148,7 @@ type_at reg mark bytes = closed (rest is_name_byte bytes)
 
     closed : List ℕ → Result (Kind × List ℕ) ℕ
     closed [] = Err (name_stop reg bytes)
-    closed (c ∷ cs) = if c == mark then of_name (type_of_text reg (front is_name_byte bytes)) cs else Err (name_stop reg bytes)
+    closed (c ∷ cs) = if c == mark then of_name (type_of_text reg (run_of is_name_byte bytes)) cs else Err (name_stop reg bytes)
 
 -- a type that is not any
 abbrev pub cast_of : ℕ → Kind × List ℕ → Result (Token × List ℕ) ℕ
@@ -156,7 +156,7 @@ cast_of left (kd.any, cs) = Err left
 cast_of left (k, cs) = Ok (cast k, cs)
 
 abbrev pub word_at : List Entity → List ℕ → Result (Token × List ℕ) ℕ
-word_at reg bytes = if is_known_word reg (front goes_on_identifier bytes) then Ok (word (front goes_on_identifier bytes), rest goes_on_identifier bytes) else Err (length bytes)
+word_at reg bytes = if is_known_word reg (run_of goes_on_identifier bytes) then Ok (word (run_of goes_on_identifier bytes), behind_run goes_on_identifier bytes) else Err (length bytes)
 
 abbrev pub negative_of : ℕ → ℤ
 negative_of n = negsuc (n - 1)
@@ -237,16 +237,16 @@ abbrev pub with_token : Placed → Result (List Placed) ℕ → Result (List Pla
 with_token p (Ok ps) = Ok (p ∷ ps)
 with_token p (Err left) = Err left
 
--- the text is a whole value
-abbrev pub is_whole : Awaited → List Bracket → List ℕ → Bool
-is_whole separator [] [] = true
-is_whole _ _ _ = false
+-- the text ends behind a whole value
+abbrev pub is_at_end : Awaited → List Bracket → List ℕ → Bool
+is_at_end separator [] [] = true
+is_at_end _ _ _ = false
 
 -- the tokens of what is left of a text, of which there are at most so many, or how many bytes are left from the first bad one on
 unfoldable pub tokens_at : ℕ → List Entity → Awaited → List Bracket → List ℕ → Result (List Placed) ℕ
 tokens_at zero reg awaited outer bytes = Err 0
 tokens_at (suc most) reg awaited outer bytes =
-    if is_whole awaited outer bytes then Ok []
+    if is_at_end awaited outer bytes then Ok []
     else on_ok (token_at reg awaited outer bytes) (λ x. with_token (record { left = length bytes; token = x.0 }) (tokens_at most reg (behind x.0) (opened x.0 outer) x.1))
 
 -- the verdict on a text: its tokens, or how many bytes are left from the first one at which no literal's shape goes on

@@ -17,12 +17,12 @@ abbrev pub deepest : ℕ
 deepest = 1024
 
 -- nothing stands behind the value
-abbrev pub whole_verdict : ℕ → Plain × List Placed → Result Plain Wrong
-whole_verdict size (v, []) = Ok v
-whole_verdict size (v, p ∷ ps) = Err (wrong_type (size - p.left))
+abbrev pub verdict_at_end : ℕ → Plain × List Placed → Result Plain Wrong
+verdict_at_end size (v, []) = Ok v
+verdict_at_end size (v, p ∷ ps) = Err (wrong_type (size - p.left))
 
 abbrev pub of_reading : ℕ → Result (Plain × List Placed) Fault → Result Plain Wrong
-of_reading size (Ok x) = whole_verdict size x
+of_reading size (Ok x) = verdict_at_end size x
 of_reading size (Err deep) = Err too_deep
 of_reading size (Err (misfit left)) = Err (wrong_type (size - left))
 

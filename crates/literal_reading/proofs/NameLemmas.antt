@@ -8,7 +8,7 @@ use Rattle.std.proofs.lemmas.Slice.Eq.{bytes_eq-Decides}
 use Rattle.std.specs.List.{list_all}
 use Rattle.std.specs.Str.{bytes_eq}
 use Rattle.literal_model.proofs.ScanLaws.{front_rest}
-use Rattle.literal_model.specs.Shapes.{behind_bracket, behind_letters, behind_name, behind_plain, behind_second, behind_word, behind_words, front, is_name_byte, rest, shorter}
+use Rattle.literal_model.specs.Shapes.{behind_bracket, behind_letters, behind_name, behind_plain, behind_second, behind_word, behind_words, run_of, is_name_byte, behind_run, shorter}
 use Rattle.uno_model.specs.Names.{begins_identifier, goes_on_identifier}
 
 -- ---- words
@@ -18,12 +18,12 @@ abbrev pub after_word : List ℕ → List ℕ
 after_word [] = []
 after_word (c ∷ cs) = if c == 46 then behind_words cs else c ∷ cs
 
-word_on : (cs : List ℕ) → behind_word cs ≡ after_word (rest goes_on_identifier cs)
-unfolding behind_word rest
+word_on : (cs : List ℕ) → behind_word cs ≡ after_word (behind_run goes_on_identifier cs)
+unfolding behind_word behind_run
 word_on [] = refl
 word_on (c ∷ cs) = by_test (goes_on_identifier c) refl (word_on cs)
   where
-    by_test : (b : Bool) → goes_on_identifier c ≡ b → behind_word cs ≡ after_word (rest goes_on_identifier cs) → behind_word (c ∷ cs) ≡ after_word (rest goes_on_identifier (c ∷ cs))
+    by_test : (b : Bool) → goes_on_identifier c ≡ b → behind_word cs ≡ after_word (behind_run goes_on_identifier cs) → behind_word (c ∷ cs) ≡ after_word (behind_run goes_on_identifier (c ∷ cs))
     by_test true passes inner = rw passes inner
     by_test false fails inner = rw fails refl
 
@@ -33,15 +33,15 @@ pub record TakesWord (bytes behind : List ℕ) : Type 0 where
   pub letters : List ℕ
   pub split : bytes ≡ first ∷ letters
   pub begun : begins_identifier first ≡ true
-  pub is : behind ≡ rest goes_on_identifier bytes
+  pub is : behind ≡ behind_run goes_on_identifier bytes
 
 words_on : (bytes behind : List ℕ) → TakesWord bytes behind → after_word behind ≡ behind_words bytes
-unfolding behind_words rest
+unfolding behind_words behind_run
 words_on bytes behind at =
     let goes : goes_on_identifier at.first ≡ true = letter_goes_on at.first at.begun in
     let here : behind_words (at.first ∷ at.letters) ≡ behind_word at.letters = rw at.begun refl in
-    let run : rest goes_on_identifier (at.first ∷ at.letters) ≡ rest goes_on_identifier at.letters = rw goes refl in
-    sym (ap behind_words at.split ∙ here ∙ word_on at.letters ∙ ap after_word (sym run ∙ ap (rest goes_on_identifier) (sym at.split) ∙ sym at.is))
+    let run : behind_run goes_on_identifier (at.first ∷ at.letters) ≡ behind_run goes_on_identifier at.letters = rw goes refl in
+    sym (ap behind_words at.split ∙ here ∙ word_on at.letters ∙ ap after_word (sym run ∙ ap (behind_run goes_on_identifier) (sym at.split) ∙ sym at.is))
   where
     letter_goes_on : (c : ℕ) → begins_identifier c ≡ true → goes_on_identifier c ≡ true
     letter_goes_on c begun = grind (arith, begun)
@@ -60,10 +60,10 @@ words_next bytes behind next p at split point =
     let goes : after_word (p ∷ next) ≡ behind_words next = rw (eq-eqb p 46 point) refl in
     sym goes ∙ ap after_word (sym split) ∙ words_on bytes behind at
 
-pub words_shrink : (bytes behind next : List ℕ) (p : ℕ) → behind ≡ rest goes_on_identifier bytes → behind ≡ p ∷ next → length next < length bytes
+pub words_shrink : (bytes behind next : List ℕ) (p : ℕ) → behind ≡ behind_run goes_on_identifier bytes → behind ≡ p ∷ next → length next < length bytes
 words_shrink bytes behind next p is split =
-    let whole : bytes ≡ front goes_on_identifier bytes ++ p ∷ next = front_rest goes_on_identifier bytes ∙ ap (λ r. front goes_on_identifier bytes ++ r) (sym is ∙ split) in
-    let long : length bytes ≡ length (front goes_on_identifier bytes) + length (p ∷ next) = ap length whole ∙ length-append (front goes_on_identifier bytes) (p ∷ next) in
+    let whole : bytes ≡ run_of goes_on_identifier bytes ++ p ∷ next = front_rest goes_on_identifier bytes ∙ ap (λ r. run_of goes_on_identifier bytes ++ r) (sym is ∙ split) in
+    let long : length bytes ≡ length (run_of goes_on_identifier bytes) + length (p ∷ next) = ap length whole ∙ length-append (run_of goes_on_identifier bytes) (p ∷ next) in
     omega (arith, long)
 
 pub letters_end : (ws cs x : List ℕ) → length cs ≡ 0 → behind_letters ws cs ≡ x → cs ≡ x

@@ -11,7 +11,7 @@ use Rattle.literal_model.proofs.TypeTextLaws.{same_found}
 use Rattle.uno_model.specs.Entities.{Entity}
 use Rattle.uno_model.specs.Kinds.{Kind}
 use Rattle.uno_model.specs.NamedTypes.{IsNamed, type_of_text}
-use Rattle.literal_model.specs.Shapes.{with_byte, front, rest}
+use Rattle.literal_model.specs.Shapes.{with_byte, run_of, behind_run}
 use Rattle.uno_model.specs.Sound.{is_named}
 use Rattle.uno_entities.specs.TypeNames.{kind_of}
 use Rattle.uno_entities.specs.declared.type_name.TypeName.{TypeName}
@@ -56,8 +56,8 @@ found_type reg name (Err e) named finds = tt
 
 -- the first bytes are of the run
 pub record IsRunTo (test : ℕ → Bool) (bytes : List ℕ) (i : ℕ) : Type 0 where
-  pub front_so_far : front test bytes ≡ take i bytes ++ front test (drop i bytes)
-  pub rest_still : rest test (drop i bytes) ≡ rest test bytes
+  pub front_so_far : run_of test bytes ≡ take i bytes ++ run_of test (drop i bytes)
+  pub rest_still : behind_run test (drop i bytes) ≡ behind_run test bytes
   pub all : list_all test (take i bytes) ≡ true
 
 pub no_run : (test : ℕ → Bool) (bytes : List ℕ) → IsRunTo test bytes 0
@@ -67,20 +67,20 @@ all_push : (test : ℕ → Bool) (xs : List ℕ) (c : ℕ) → list_all test xs 
 all_push test [] c all passes = and_from (test c) true passes refl
 all_push test (x ∷ xs) c all passes = let parts = and_parts (test x) (list_all test xs) all in and_from (test x) _ parts.0 (all_push test xs c parts.1 passes)
 
-front_on : (test : ℕ → Bool) (c : ℕ) (cs : List ℕ) → test c ≡ true → front test (c ∷ cs) ≡ c ∷ front test cs
-unfolding front
+front_on : (test : ℕ → Bool) (c : ℕ) (cs : List ℕ) → test c ≡ true → run_of test (c ∷ cs) ≡ c ∷ run_of test cs
+unfolding run_of
 front_on test c cs passes = rw passes refl
 
-rest_on : (test : ℕ → Bool) (c : ℕ) (cs : List ℕ) → test c ≡ true → rest test (c ∷ cs) ≡ rest test cs
-unfolding rest
+rest_on : (test : ℕ → Bool) (c : ℕ) (cs : List ℕ) → test c ≡ true → behind_run test (c ∷ cs) ≡ behind_run test cs
+unfolding behind_run
 rest_on test c cs passes = rw passes refl
 
-front_off : (test : ℕ → Bool) (c : ℕ) (cs : List ℕ) → test c ≡ false → front test (c ∷ cs) ≡ []
-unfolding front
+front_off : (test : ℕ → Bool) (c : ℕ) (cs : List ℕ) → test c ≡ false → run_of test (c ∷ cs) ≡ []
+unfolding run_of
 front_off test c cs fails = rw fails refl
 
-rest_off : (test : ℕ → Bool) (c : ℕ) (cs : List ℕ) → test c ≡ false → rest test (c ∷ cs) ≡ c ∷ cs
-unfolding rest
+rest_off : (test : ℕ → Bool) (c : ℕ) (cs : List ℕ) → test c ≡ false → behind_run test (c ∷ cs) ≡ c ∷ cs
+unfolding behind_run
 rest_off test c cs fails = rw fails refl
 
 pub run_on : (test : ℕ → Bool) (bytes : List ℕ) (i : ℕ) → IsRunTo test bytes i → i < length bytes → test (get_or bytes i 0) ≡ true → IsRunTo test bytes (i + 1)
@@ -89,16 +89,16 @@ run_on test bytes i run within passes =
     let left : drop i bytes ≡ c ∷ drop (i + 1) bytes = drop_more bytes i 0 within in
     let taken : take (i + 1) bytes ≡ take i bytes ++ c ∷ [] = take_more bytes i 0 within in
     record {
-      front_so_far = run.front_so_far ∙ ap (λ xs. take i bytes ++ front test xs) left ∙ ap (λ xs. take i bytes ++ xs) (front_on test c (drop (i + 1) bytes) passes)
-          ∙ sym (append_assoc (take i bytes) (c ∷ []) (front test (drop (i + 1) bytes))) ∙ ap (λ xs. xs ++ front test (drop (i + 1) bytes)) (sym taken);
-      rest_still = sym (rest_on test c (drop (i + 1) bytes) passes) ∙ ap (rest test) (sym left) ∙ run.rest_still;
+      front_so_far = run.front_so_far ∙ ap (λ xs. take i bytes ++ run_of test xs) left ∙ ap (λ xs. take i bytes ++ xs) (front_on test c (drop (i + 1) bytes) passes)
+          ∙ sym (append_assoc (take i bytes) (c ∷ []) (run_of test (drop (i + 1) bytes))) ∙ ap (λ xs. xs ++ run_of test (drop (i + 1) bytes)) (sym taken);
+      rest_still = sym (rest_on test c (drop (i + 1) bytes) passes) ∙ ap (behind_run test) (sym left) ∙ run.rest_still;
       all = ap (list_all test) taken ∙ all_push test (take i bytes) c run.all passes;
     }
 
 -- the run ends before a byte that is none of it, or with the bytes
 pub record IsRun (test : ℕ → Bool) (bytes : List ℕ) (i : ℕ) : Type 0 where
-  pub front : take i bytes ≡ front test bytes
-  pub rest : drop i bytes ≡ rest test bytes
+  pub front : take i bytes ≡ run_of test bytes
+  pub rest : drop i bytes ≡ behind_run test bytes
   pub all : IsTrue (list_all test (take i bytes))
 
 pub run_ends : (test : ℕ → Bool) (bytes : List ℕ) (i : ℕ) → IsRunTo test bytes i → i < length bytes → test (get_or bytes i 0) ≡ false → IsRun test bytes i
@@ -106,17 +106,17 @@ run_ends test bytes i run within fails =
     let c = get_or bytes i 0 in
     let left : drop i bytes ≡ c ∷ drop (i + 1) bytes = drop_more bytes i 0 within in
     record {
-      front = sym (run.front_so_far ∙ ap (λ xs. take i bytes ++ front test xs) left ∙ ap (λ xs. take i bytes ++ xs) (front_off test c (drop (i + 1) bytes) fails) ∙ append-nil (take i bytes));
-      rest = left ∙ sym (rest_off test c (drop (i + 1) bytes) fails) ∙ ap (rest test) (sym left) ∙ run.rest_still;
+      front = sym (run.front_so_far ∙ ap (λ xs. take i bytes ++ run_of test xs) left ∙ ap (λ xs. take i bytes ++ xs) (front_off test c (drop (i + 1) bytes) fails) ∙ append-nil (take i bytes));
+      rest = left ∙ sym (rest_off test c (drop (i + 1) bytes) fails) ∙ ap (behind_run test) (sym left) ∙ run.rest_still;
       all = run.all;
     }
 
 pub run_is_all : (test : ℕ → Bool) (bytes : List ℕ) (i : ℕ) → IsRunTo test bytes i → length bytes ≤ i → IsRun test bytes i
-unfolding front rest
+unfolding run_of behind_run
 run_is_all test bytes i run past =
     let left : drop i bytes ≡ [] = drop_all i bytes past in
     record {
-      front = sym (run.front_so_far ∙ ap (λ xs. take i bytes ++ front test xs) left ∙ append-nil (take i bytes));
-      rest = left ∙ ap (rest test) (sym left) ∙ run.rest_still;
+      front = sym (run.front_so_far ∙ ap (λ xs. take i bytes ++ run_of test xs) left ∙ append-nil (take i bytes));
+      rest = left ∙ ap (behind_run test) (sym left) ∙ run.rest_still;
       all = run.all;
     }

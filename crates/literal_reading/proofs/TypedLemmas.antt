@@ -15,8 +15,8 @@ use Rattle.std.specs.Result.{IsErrAnd}
 use Rattle.literal_reading.specs.Typing.{FailedBy, Gives, kinds_at, with_firsts}
 use Rattle.uno_entities.specs.TypeNames.{kind_of}
 use Rattle.uno_entities.specs.declared.entity.Field.{Field}
-use Rattle.literal_reading.specs.declared.misread.Misread.{Misread}
-use Rattle.literal_reading.specs.declared.misread.Misread.TheVariants as misread
+use Rattle.literal_reading.specs.declared.stop.Stop.{Stop}
+use Rattle.literal_reading.specs.declared.stop.Stop.TheVariants as stop
 
 -- one level further in
 pub value_level : (levels : ℕ) (reg : List Entity) (k : Kind) (ps : List Placed) → 0 < levels
@@ -44,11 +44,11 @@ elements_level (suc n) left read ps some = let fuel : n ≡ suc n - 1 = omega ar
 
 -- ---- one element, and what stands behind it
 
-pub element_fails : {X : Type 0} (n left : ℕ) (read : Reads X) (ps : List Placed) (xs : List X) (verdict : Result (List X × List Placed) Fault) (e : Misread)
+pub element_fails : {X : Type 0} (n left : ℕ) (read : Reads X) (ps : List Placed) (xs : List X) (verdict : Result (List X × List Placed) Fault) (e : Stop)
     → 0 < n → FailedBy e (read ps) → with_firsts xs (elements_on n left read ps) ≡ verdict
     → FailedBy e verdict
-element_fails n left read ps xs verdict misread.NoMemory some fails is = tt
-element_fails n left read ps xs verdict (misread.Misfit at) some fails is = sym is ∙ rw (elements_level n left read ps some, fails) refl
+element_fails n left read ps xs verdict stop.NoMemory some fails is = tt
+element_fails n left read ps xs verdict (stop.Bad at) some fails is = sym is ∙ rw (elements_level n left read ps some, fails) refl
 
 pub element_alone : {X : Type 0} (n left : ℕ) (read : Reads X) (ps qs : List Placed) (x : X) (xs : List X) (verdict : Result (List X × List Placed) Fault)
     → 0 < n → read ps ≡ Ok (x, qs) → qs ≡ []
@@ -75,7 +75,7 @@ element_next n m left read ps qs rs p x xs ys verdict some fuel reads next open_
     step = rw (elements_level n left read ps some, reads, next, open_still, goes) refl
 
 -- a `?` hands the failure on
-pub handed_over : {X Y : Type 0} (view : X → Y) (r : Result X Misread) (e : Misread) (verdict : Result Y Fault) → IsErr r × IsErrAnd r (λ f. f ≡ e)
+pub handed_over : {X Y : Type 0} (view : X → Y) (r : Result X Stop) (e : Stop) (verdict : Result Y Fault) → IsErr r × IsErrAnd r (λ f. f ≡ e)
     → FailedBy e verdict → Gives view r verdict
 handed_over view (Ok x) e verdict is failed = let bad : ⊥ = cc in absurd bad
 handed_over view (Err f) e verdict is failed = subst (λ g. FailedBy g verdict) (sym is.1) failed
@@ -91,19 +91,19 @@ member_next read left is_first k ks ps qs rs x xs ys verdict comma reads pushed 
     step : with_firsts xs (members_on read left is_first (k ∷ ks) ps) ≡ with_firsts xs (with_first x (members_on read left false ks rs))
     step = rw (comma, reads) refl
 
-pub comma_fails : (read : Kind → Reads Plain) (left : ℕ) (is_first : Bool) (k : Kind) (ks : List Kind) (ps : List Placed) (xs : List Plain) (verdict : Result (List Plain × List Placed) Fault) (e : Misread)
+pub comma_fails : (read : Kind → Reads Plain) (left : ℕ) (is_first : Bool) (k : Kind) (ks : List Kind) (ps : List Placed) (xs : List Plain) (verdict : Result (List Plain × List Placed) Fault) (e : Stop)
     → FailedBy e (comma_at is_first left ps)
     → with_firsts xs (members_on read left is_first (k ∷ ks) ps) ≡ verdict → FailedBy e verdict
 unfolding members_on
-comma_fails read left is_first k ks ps xs verdict misread.NoMemory fails is = tt
-comma_fails read left is_first k ks ps xs verdict (misread.Misfit at) fails is = sym is ∙ rw fails refl
+comma_fails read left is_first k ks ps xs verdict stop.NoMemory fails is = tt
+comma_fails read left is_first k ks ps xs verdict (stop.Bad at) fails is = sym is ∙ rw fails refl
 
-pub member_fails : (read : Kind → Reads Plain) (left : ℕ) (is_first : Bool) (k : Kind) (ks : List Kind) (ps qs : List Placed) (xs : List Plain) (verdict : Result (List Plain × List Placed) Fault) (e : Misread)
+pub member_fails : (read : Kind → Reads Plain) (left : ℕ) (is_first : Bool) (k : Kind) (ks : List Kind) (ps qs : List Placed) (xs : List Plain) (verdict : Result (List Plain × List Placed) Fault) (e : Stop)
     → comma_at is_first left ps ≡ Ok qs → FailedBy e (read k qs)
     → with_firsts xs (members_on read left is_first (k ∷ ks) ps) ≡ verdict → FailedBy e verdict
 unfolding members_on
-member_fails read left is_first k ks ps qs xs verdict misread.NoMemory comma fails is = tt
-member_fails read left is_first k ks ps qs xs verdict (misread.Misfit at) comma fails is = sym is ∙ rw (comma, fails) refl
+member_fails read left is_first k ks ps qs xs verdict stop.NoMemory comma fails is = tt
+member_fails read left is_first k ks ps qs xs verdict (stop.Bad at) comma fails is = sym is ∙ rw (comma, fails) refl
 
 members_end : (read : Kind → Reads Plain) (left : ℕ) (is_first : Bool) (ps qs : List Placed) (xs : List Plain) (verdict : Result (List Plain × List Placed) Fault)
     → expect left closes_curly ps ≡ Ok qs
@@ -111,14 +111,14 @@ members_end : (read : Kind → Reads Plain) (left : ℕ) (is_first : Bool) (ps q
 unfolding members_on
 members_end read left is_first ps qs xs verdict closed is = sym is ∙ rw closed (ap (λ ys. Ok (ys, qs)) (append-nil xs))
 
-members_lost : (read : Kind → Reads Plain) (left : ℕ) (is_first : Bool) (ps : List Placed) (xs : List Plain) (verdict : Result (List Plain × List Placed) Fault) (e : Misread)
+members_lost : (read : Kind → Reads Plain) (left : ℕ) (is_first : Bool) (ps : List Placed) (xs : List Plain) (verdict : Result (List Plain × List Placed) Fault) (e : Stop)
     → FailedBy e (expect left closes_curly ps)
     → with_firsts xs (members_on read left is_first [] ps) ≡ verdict → FailedBy e verdict
 unfolding members_on
-members_lost read left is_first ps xs verdict misread.NoMemory fails is = tt
-members_lost read left is_first ps xs verdict (misread.Misfit at) fails is = sym is ∙ rw fails refl
+members_lost read left is_first ps xs verdict stop.NoMemory fails is = tt
+members_lost read left is_first ps xs verdict (stop.Bad at) fails is = sym is ∙ rw fails refl
 
-pub members_close : {R : Type 0} (read : Kind → Reads Plain) (left : ℕ) (is_first : Bool) (ps : List Placed) (xs : List Plain) (verdict : Result (List Plain × List Placed) Fault) (view : R → List Placed) (r : Result R Misread)
+pub members_close : {R : Type 0} (read : Kind → Reads Plain) (left : ℕ) (is_first : Bool) (ps : List Placed) (xs : List Plain) (verdict : Result (List Plain × List Placed) Fault) (view : R → List Placed) (r : Result R Stop)
     → Gives view r (expect left closes_curly ps)
     → with_firsts xs (members_on read left is_first [] ps) ≡ verdict → Gives (λ x. (xs, view x)) r verdict
 members_close read left is_first ps xs verdict view (Ok x) closed is = members_end read left is_first ps (view x) xs verdict closed is
@@ -133,11 +133,11 @@ pub kinds_done : (fields : List (Bor Field)) (i : ℕ) → length fields ≤ i �
 kinds_done fields i past = ap kinds_at (drop_all i fields past)
 
 -- the members of a struct are read in its brackets, behind none
-pub tuple_fails : (reg : List Entity) (read : Kind → Reads Plain) (left : ℕ) (name : List ℕ) (kinds : List Kind) (ps qs : List Placed) (xs : List Plain) (e : Misread)
+pub tuple_fails : (reg : List Entity) (read : Kind → Reads Plain) (left : ℕ) (name : List ℕ) (kinds : List Kind) (ps qs : List Placed) (xs : List Plain) (e : Stop)
     → left ≡ left_at ps → kinds ≡ member_kinds reg name → expect left opens_curly ps ≡ Ok qs → xs ≡ []
     → FailedBy e (with_firsts xs (members_on read left true kinds qs)) → FailedBy e (value_step reg read (kd.struct name) ps)
 unfolding value_step
-tuple_fails reg read left name kinds ps qs xs misread.NoMemory front members opened none fails = tt
-tuple_fails reg read left name kinds ps qs xs (misread.Misfit at) front members opened none fails =
+tuple_fails reg read left name kinds ps qs xs stop.NoMemory front members opened none fails = tt
+tuple_fails reg read left name kinds ps qs xs (stop.Bad at) front members opened none fails =
     let lost : members_on read left true kinds qs ≡ Err (misfit at) = sym (with_no_firsts _) ∙ ap (λ ys. with_firsts ys (members_on read left true kinds qs)) (sym none) ∙ fails in
     rw (← front, ← members, opened, lost) refl

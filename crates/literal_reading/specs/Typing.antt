@@ -4,7 +4,7 @@ use Rattle.std.specs.Prelude.{◌≡◌, ◌++◌, Bool, List, map, Option, None
 use Rattle.uno_model.specs.Entities as plain
 use Rattle.uno_model.specs.Kinds.{Kind}
 use Rattle.uno_model.specs.Kinds as kd
-use Rattle.literal_model.specs.Readings.{Fault, misfit, some_as, and_then, number_in, unsigned_of, signed_of}
+use Rattle.literal_model.specs.Readings.{Fault, misfit}
 use Rattle.literal_model.specs.Readings.{is_comma, opens_square, closes_square, opens_curly, closes_curly}
 use Rattle.literal_model.specs.Literals.{Token}
 use Rattle.literal_model.specs.Shapes.{Placed}
@@ -12,16 +12,16 @@ use Rattle.uno_model.specs.Values.{Plain}
 use Rattle.uno_model.specs.Values as v
 use Rattle.uno_types.specs.Members.{fields_at}
 use Rattle.uno_entities.specs.declared.entity.Field.{Field}
-use Rattle.literal_reading.specs.declared.misread.Misread.{Misread}
-use Rattle.literal_reading.specs.declared.misread.Misread.TheVariants as misread
+use Rattle.literal_reading.specs.declared.stop.Stop.{Stop}
+use Rattle.literal_reading.specs.declared.stop.Stop.TheVariants as stop
 use Rattle.literal_reading.specs.declared.typed.expect.Mark.{Mark}
 use Rattle.literal_reading.specs.declared.typed.expect.Mark.TheVariants as mark
 
-abbrev pub FailedBy : {Y : Type 0} → Misread → Result Y Fault → Type 0
-FailedBy misread.NoMemory verdict = Unit {0}
-FailedBy (misread.Misfit left) verdict = verdict ≡ Err (misfit left)
+abbrev pub FailedBy : {Y : Type 0} → Stop → Result Y Fault → Type 0
+FailedBy stop.NoMemory verdict = Unit {0}
+FailedBy (stop.Bad left) verdict = verdict ≡ Err (misfit left)
 
-abbrev pub Gives : {X Y : Type 0} → (X → Y) → Result X Misread → Result Y Fault → Type 0
+abbrev pub Gives : {X Y : Type 0} → (X → Y) → Result X Stop → Result Y Fault → Type 0
 Gives view (Ok x) verdict = verdict ≡ Ok (view x)
 Gives view (Err e) verdict = FailedBy e verdict
 
@@ -45,15 +45,3 @@ mark_test mark.ClosesCurly = closes_curly
 -- the types of members that are borrowed
 abbrev pub kinds_at : List (Bor Field) → List Kind
 kinds_at fields = map (λ (f : plain.Field). f.kind) (fields_at fields)
-
--- the number of a token as a value of a type of numbers
-abbrev pub numeric : Kind → Token → Option Plain
-numeric kd.char t = some_as v.char (and_then (number_in t) (unsigned_of 16))
-numeric kd.byte t = some_as v.byte (and_then (number_in t) (signed_of 7))
-numeric kd.short t = some_as v.short (and_then (number_in t) (signed_of 15))
-numeric kd.unsigned_short t = some_as v.unsigned_short (and_then (number_in t) (unsigned_of 16))
-numeric kd.long t = some_as v.long (and_then (number_in t) (signed_of 31))
-numeric kd.unsigned_long t = some_as v.unsigned_long (and_then (number_in t) (unsigned_of 32))
-numeric kd.hyper t = some_as v.hyper (and_then (number_in t) (signed_of 63))
-numeric kd.unsigned_hyper t = some_as v.unsigned_hyper (and_then (number_in t) (unsigned_of 64))
-numeric k t = None

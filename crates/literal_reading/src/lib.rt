@@ -2,7 +2,6 @@
 #![tactic(auto)]
 
 mod items;
-mod misread;
 mod order;
 mod read;
 mod scan;

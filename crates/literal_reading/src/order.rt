@@ -1,13 +1,13 @@
 //! The order of tokens: a text is cut into them, and each is one that may stand at its place.
 ghost use Rattle.std.specs.Prelude.{◌≡◌, ◌++◌, ◌∷◌, [], suc, length, OnOk, IfErr};
-ghost use Rattle.literal_model.specs.Shapes.{value, judge, tokens_at, token_at, element_at, separator_at, closing, behind, behind_cast, opened, is_whole};
+ghost use Rattle.literal_model.specs.Shapes.{value, judge, tokens_at, token_at, element_at, separator_at, closing, behind, behind_cast, opened, is_at_end};
 ghost use Rattle.uno_model.specs.Sound.{IsSound};
 ghost use Rattle.uno_entities.specs.TypeNames.{kind_of};
 ghost use Rattle.literal_reading.specs.Scanning.{Scans, with_tokens, token_of, all_placed, bracket_of, awaited_of, outer_of};
 ghost use Rattle.literal_reading.specs.declared.stop.Stop.TheVariants.{NoMemory};
 
 use crate::scan::value_at;
-use crate::stop::Stop;
+use crate::stop::{Scan, Stop};
 use crate::token::{Bracket, Placed, Token};
 use std::alloc::Global;
 use uno_types::{Registry, TypeName};
@@ -47,7 +47,7 @@ fn push_tokens(
     let mut awaited = Awaited::Value;
     let mut rest = bytes;
     for _ in 0..bytes.len() + 1 {
-        if is_whole(awaited, outer, rest) {
+        if is_at_end(awaited, outer, rest) {
             return Ok(());
         }
         let (token, behind) = token_at(alloc, registry, awaited, outer, rest)?;
@@ -74,8 +74,8 @@ fn push_token(
     opened
 }
 
-fn is_whole(awaited: Awaited, outer: &[Bracket], rest: &[u8]) -> bool
-    ensures { result ≡ is_whole (awaited_of awaited) (outer_of outer.now) rest.now }
+fn is_at_end(awaited: Awaited, outer: &[Bracket], rest: &[u8]) -> bool
+    ensures { result ≡ is_at_end (awaited_of awaited) (outer_of outer.now) rest.now }
 {
     match awaited {
         Awaited::Separator => outer.is_empty() && rest.is_empty(),
@@ -89,7 +89,7 @@ fn token_at<'a>(
     awaited: Awaited,
     outer: &[Bracket],
     bytes: &'a [u8],
-) -> Result<(Token, &'a [u8]), Stop>
+) -> Scan<'a, Token>
     requires { IsSound registry.now }
     ensures { Scans (λ x. (token_of x.0, x.1.now)) result (token_at registry.now (awaited_of awaited) (outer_of outer.now) bytes.now) }
 {
@@ -101,11 +101,7 @@ fn token_at<'a>(
 }
 
 /// A value, or the end of a sequence without elements.
-fn element_at<'a>(
-    alloc: Global,
-    registry: &Registry,
-    bytes: &'a [u8],
-) -> Result<(Token, &'a [u8]), Stop>
+fn element_at<'a>(alloc: Global, registry: &Registry, bytes: &'a [u8]) -> Scan<'a, Token>
     requires { IsSound registry.now }
     ensures { Scans (λ x. (token_of x.0, x.1.now)) result (element_at registry.now bytes.now) }
 {
@@ -119,7 +115,7 @@ fn element_at<'a>(
 }
 
 /// A comma or the end of what is open; behind the whole value there is neither.
-fn separator_at<'a>(outer: &[Bracket], bytes: &'a [u8]) -> Result<(Token, &'a [u8]), Stop>
+fn separator_at<'a>(outer: &[Bracket], bytes: &'a [u8]) -> Scan<'a, Token>
     ensures { Scans (λ x. (token_of x.0, x.1.now)) result (separator_at (outer_of outer.now) bytes.now) }
 {
     let Some((first, behind)) = bytes.split_first() else {
@@ -155,8 +151,7 @@ fn behind_of(token: &Token) -> Awaited
         Token::Opens(Bracket::Curly) => Awaited::Value,
         Token::Comma => Awaited::Value,
         Token::Cast(kind) => behind_cast(kind),
-        Token::Closes(_) | Token::Number(_) | Token::Word(_) | Token::String(_) | Token::Named(_) =>
-            Awaited::Separator,
+        _ => Awaited::Separator,
     }
 }
 
@@ -184,11 +179,6 @@ fn open_or_close(outer: &mut Vec<Bracket>, token: &Token) -> Result<(), Stop>
             outer.pop();
             Ok(())
         }
-        Token::Comma
-        | Token::Number(_)
-        | Token::Word(_)
-        | Token::String(_)
-        | Token::Named(_)
-        | Token::Cast(_) => Ok(()),
+        _ => Ok(()),
     }
 }

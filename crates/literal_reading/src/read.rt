@@ -6,11 +6,10 @@ ghost use Rattle.uno_model.specs.Spellable.{IsSpellable};
 ghost use Rattle.uno_model.specs.Values.{Plain};
 ghost use Rattle.uno_entities.specs.TypeNames.{kind_of};
 ghost use Rattle.uno_values.specs.Values.{plain_of};
-ghost use Rattle.literal_model.specs.Verdicts.{verdict, typed_verdict, whole_verdict};
+ghost use Rattle.literal_model.specs.Verdicts.{verdict, typed_verdict, verdict_at_end};
 ghost use Rattle.literal_reading.specs.Reading.{Reads};
 ghost use Rattle.literal_reading.specs.Scanning.{all_placed};
 
-use crate::misread::Misread;
 use crate::order::judge;
 use crate::stop::Stop;
 use crate::token::Placed;
@@ -90,16 +89,16 @@ fn value_of(
     ensures { Reads plain_of result (typed_verdict registry.now length (kind_of kind.now) (all_placed tokens.now)) }
 {
     match value_within(alloc, registry, LEVELS, kind, tokens) {
-        Ok((value, rest)) => whole(length, value, rest),
-        Err(Misread::NoMemory) => Err(TextError::NoMemory),
-        Err(Misread::Misfit(left)) => Err(TextError::WrongType(place_of(length, left))),
+        Ok((value, rest)) => value_at_end(length, value, rest),
+        Err(Stop::NoMemory) => Err(TextError::NoMemory),
+        Err(Stop::Bad(left)) => Err(TextError::WrongType(place_of(length, left))),
     }
 }
 
 /// A value behind which no token stands.
-fn whole(length: usize, value: Value, rest: &[Placed]) -> Result<Value, TextError>
+fn value_at_end(length: usize, value: Value, rest: &[Placed]) -> Result<Value, TextError>
     requires { length < 2 ^ 32 }
-    ensures { Reads plain_of result (whole_verdict length (plain_of value, all_placed rest.now)) }
+    ensures { Reads plain_of result (verdict_at_end length (plain_of value, all_placed rest.now)) }
 {
     match rest.first() {
         None => Ok(value),

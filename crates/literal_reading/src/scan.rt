@@ -15,7 +15,7 @@ mod string;
 mod types;
 mod words;
 
-use crate::stop::Stop;
+use crate::stop::{Scan, Stop};
 use crate::token::{Bracket, Token};
 use number::number_at;
 use std::alloc::Global;
@@ -26,11 +26,7 @@ use words::word_at;
 
 /// The first token of a value, chosen by its first byte.
 #[tactic(auto, unfolding(literal_model::specs::Shapes::value_at))]
-pub(crate) fn value_at<'a>(
-    alloc: Global,
-    registry: &Registry,
-    bytes: &'a [u8],
-) -> Result<(Token, &'a [u8]), Stop>
+pub(crate) fn value_at<'a>(alloc: Global, registry: &Registry, bytes: &'a [u8]) -> Scan<'a, Token>
     requires { IsSound registry.now }
     ensures { Scans (λ x. (token_of x.0, x.1.now)) result (value_at registry.now bytes.now) }
 {
@@ -62,7 +58,7 @@ pub(crate) fn value_at<'a>(
 }
 
 /// `any` is no type of a value that an any holds.
-fn cast_of<'a>(left: usize, kind: TypeName, rest: &'a [u8]) -> Result<(Token, &'a [u8]), Stop>
+fn cast_of<'a>(left: usize, kind: TypeName, rest: &'a [u8]) -> Scan<'a, Token>
     ensures { Scans (λ x. (token_of x.0, x.1.now)) result (cast_of left (kind_of kind, rest.now)) }
 {
     match kind {

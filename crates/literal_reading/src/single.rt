@@ -1,21 +1,18 @@
 //! Values of one token.
 ghost use Rattle.std.specs.Prelude.{◌≡◌, IfOk, codes, option_map};
 ghost use Rattle.uno_model.specs.Defaults.{items_of};
-ghost use Rattle.literal_model.specs.Readings.{single, number_in, word_in, string_in, named_in, cast_in, and_then, some_as, truth_of, word_as, number_named, item_of_word, item_of_number, item_in, byte_in};
+ghost use Rattle.literal_model.specs.Readings.{single, numeric, number_in, word_in, string_in, named_in, cast_in, and_then, some_as, truth_of, word_as, number_named, item_of_word, item_of_number, item_in, byte_in};
 ghost use Rattle.uno_model.specs.Registry.{find_entity};
 ghost use Rattle.uno_model.specs.Values as plain;
 ghost use Rattle.uno_entities.specs.Entities.{item_of};
 ghost use Rattle.uno_entities.specs.TypeNames.{kind_of};
 ghost use Rattle.uno_values.specs.Values.{plain_of};
 ghost use Rattle.literal_reading.specs.Scanning.{token_of};
-ghost use Rattle.literal_reading.specs.Typing.{numeric};
 
 mod item;
-mod range;
 
 use crate::token::Token;
 use item::item_in;
-use range::{to_i8, to_i16, to_i32, to_i64, to_u16, to_u32, to_u64};
 use std::alloc::Global;
 use uno_base::NoMemory;
 use uno_types::{Name, Registry, TypeName};
@@ -33,6 +30,10 @@ pub(crate) fn single(
     match kind {
         TypeName::Void => Ok(void_in(token)),
         TypeName::Boolean => Ok(boolean_in(token)),
+        TypeName::Str => string_in(alloc, token),
+        TypeName::Kind => kind_in(alloc, token),
+        TypeName::Enum(name) => enum_in(alloc, registry, name, token),
+        TypeName::Interface(_) => Ok(null_in(token)),
         TypeName::Char
         | TypeName::Byte
         | TypeName::Short
@@ -41,10 +42,6 @@ pub(crate) fn single(
         | TypeName::UnsignedLong
         | TypeName::Hyper
         | TypeName::UnsignedHyper => Ok(number_as(kind, token)),
-        TypeName::Str => string_in(alloc, token),
-        TypeName::Kind => kind_in(alloc, token),
-        TypeName::Enum(name) => enum_in(alloc, registry, name, token),
-        TypeName::Interface(_) => Ok(null_in(token)),
         TypeName::Any | TypeName::Struct(_) | TypeName::Exception(_) | TypeName::Sequence(_) => Ok(
             None,
         ),
@@ -103,24 +100,15 @@ fn number_as(kind: &TypeName, token: &Token) -> Option<Value>
 {
     let number = number_in(token)?;
     match kind {
-        TypeName::Char => Some(Value::Char(to_u16(number)?)),
-        TypeName::Byte => Some(Value::Byte(to_i8(number)?)),
-        TypeName::Short => Some(Value::Short(to_i16(number)?)),
-        TypeName::UnsignedShort => Some(Value::UnsignedShort(to_u16(number)?)),
-        TypeName::Long => Some(Value::Long(to_i32(number)?)),
-        TypeName::UnsignedLong => Some(Value::UnsignedLong(to_u32(number)?)),
-        TypeName::Hyper => Some(Value::Hyper(to_i64(number)?)),
-        TypeName::UnsignedHyper => Some(Value::UnsignedHyper(to_u64(number)?)),
-        TypeName::Void
-        | TypeName::Boolean
-        | TypeName::Str
-        | TypeName::Kind
-        | TypeName::Any
-        | TypeName::Enum(_)
-        | TypeName::Struct(_)
-        | TypeName::Exception(_)
-        | TypeName::Interface(_)
-        | TypeName::Sequence(_) => None,
+        TypeName::Char => Some(Value::Char(u16::try_from(number).ok()?)),
+        TypeName::Byte => Some(Value::Byte(i8::try_from(number).ok()?)),
+        TypeName::Short => Some(Value::Short(i16::try_from(number).ok()?)),
+        TypeName::UnsignedShort => Some(Value::UnsignedShort(u16::try_from(number).ok()?)),
+        TypeName::Long => Some(Value::Long(i32::try_from(number).ok()?)),
+        TypeName::UnsignedLong => Some(Value::UnsignedLong(u32::try_from(number).ok()?)),
+        TypeName::Hyper => Some(Value::Hyper(i64::try_from(number).ok()?)),
+        TypeName::UnsignedHyper => Some(Value::UnsignedHyper(u64::try_from(number).ok()?)),
+        _ => None,
     }
 }
 
@@ -160,5 +148,5 @@ fn enum_in(
 pub(crate) fn bits_in(token: &Token) -> Option<u8>
     ensures { result ≡ byte_in (token_of token.now) }
 {
-    Some(to_i8(number_in(token)?)?.cast_unsigned())
+    Some(i8::try_from(number_in(token)?).ok()?.cast_unsigned())
 }

@@ -14,8 +14,8 @@ ghost use Rattle.literal_reading.specs.Typing.{Gives, before, kinds_at, with_fir
 mod bytes;
 mod expect;
 
-use crate::misread::Misread;
 use crate::single::single;
+use crate::stop::{Read, Stop};
 use crate::token::{Placed, Token};
 use bytes::bytes_of;
 use expect::{Mark, comma_at, expect, is_mark, left_at};
@@ -32,14 +32,14 @@ pub(crate) fn value_within<'a>(
     levels: u32,
     kind: &TypeName,
     tokens: &'a [Placed],
-) -> Result<(Value, &'a [Placed]), Misread>
+) -> Read<'a, Value>
     ensures { Gives (λ x. (plain_of x.0, all_placed x.1.now)) result (value_within levels registry.now (kind_of kind.now) (all_placed tokens.now)) }
 {
     if levels == 0 {
-        return Err(Misread::NoMemory);
+        return Err(Stop::NoMemory);
     }
     if !registry.has_type(kind) {
-        return Err(Misread::Misfit(left_at(tokens)));
+        return Err(Stop::Bad(left_at(tokens)));
     }
     value_step(alloc, registry, levels - 1, kind, tokens)
 }
@@ -53,7 +53,7 @@ fn value_step<'a>(
     inner: u32,
     kind: &TypeName,
     tokens: &'a [Placed],
-) -> Result<(Value, &'a [Placed]), Misread>
+) -> Read<'a, Value>
     ensures { Gives (λ x. (plain_of x.0, all_placed x.1.now)) result (value_step registry.now (value_within inner registry.now) (kind_of kind.now) (all_placed tokens.now)) }
 {
     match kind {
@@ -72,15 +72,15 @@ fn only_token<'a>(
     registry: &Registry,
     kind: &TypeName,
     tokens: &'a [Placed],
-) -> Result<(Value, &'a [Placed]), Misread>
+) -> Read<'a, Value>
     ensures { Gives (λ x. (plain_of x.0, all_placed x.1.now)) result (only_token (single registry.now (kind_of kind.now)) (all_placed tokens.now)) }
 {
     let Some((first, rest)) = tokens.split_first() else {
-        return Err(Misread::Misfit(0));
+        return Err(Stop::Bad(0));
     };
     match single(alloc, registry, kind, &first.token)? {
         Some(value) => Ok((value, rest)),
-        None => Err(Misread::Misfit(first.left)),
+        None => Err(Stop::Bad(first.left)),
     }
 }
 
@@ -91,14 +91,14 @@ fn any_of<'a>(
     registry: &Registry,
     inner: u32,
     tokens: &'a [Placed],
-) -> Result<(Value, &'a [Placed]), Misread>
+) -> Read<'a, Value>
     ensures { Gives (λ x. (plain_of x.0, all_placed x.1.now)) result (any_of (value_within inner registry.now) (all_placed tokens.now)) }
 {
     let Some((first, rest)) = tokens.split_first() else {
-        return Err(Misread::Misfit(0));
+        return Err(Stop::Bad(0));
     };
     let Token::Cast(kind) = &first.token else {
-        return Err(Misread::Misfit(first.left));
+        return Err(Stop::Bad(first.left));
     };
     held_by(alloc, registry, inner, kind, rest)
 }
@@ -110,7 +110,7 @@ fn held_by<'a>(
     inner: u32,
     kind: &TypeName,
     tokens: &'a [Placed],
-) -> Result<(Value, &'a [Placed]), Misread>
+) -> Read<'a, Value>
     ensures { Gives (λ x. (plain_of x.0, all_placed x.1.now)) result (held_by (value_within inner registry.now) (kind_of kind.now) (all_placed tokens.now)) }
 {
     if is_void(kind) {
@@ -132,12 +132,12 @@ fn any_before<'a>(
     kind: &TypeName,
     value: Value,
     rest: &'a [Placed],
-) -> Result<(Value, &'a [Placed]), Misread>
+) -> Read<'a, Value>
     ensures { Gives (λ x. (plain_of x.0, all_placed x.1.now)) result (before (plain.any (kind_of kind.now) (plain_of value)) (all_placed rest.now)) }
 {
     let Ok(kind) = kind.copy(alloc) else {
         drop(value);
-        return Err(Misread::NoMemory);
+        return Err(Stop::NoMemory);
     };
     let any = Box::new(alloc, AnyValue { kind, value })?;
     Ok((Value::Any(any), rest))
@@ -152,7 +152,7 @@ fn sequence_of<'a>(
     inner: u32,
     element: &TypeName,
     tokens: &'a [Placed],
-) -> Result<(Value, &'a [Placed]), Misread>
+) -> Read<'a, Value>
     ensures { Gives (λ x. (plain_of x.0, all_placed x.1.now)) result (value_step registry.now (value_within inner registry.now) (kd.sequence (kind_of element.now)) (all_placed tokens.now)) }
 {
     if let TypeName::Byte = element {
@@ -169,12 +169,12 @@ fn list_before<'a>(
     element: &TypeName,
     elements: Vec<Value>,
     rest: &'a [Placed],
-) -> Result<(Value, &'a [Placed]), Misread>
+) -> Read<'a, Value>
     ensures { Gives (λ x. (plain_of x.0, all_placed x.1.now)) result (before (plain.list (kind_of element.now) (plains (map plain_of elements.items))) (all_placed rest.now)) }
 {
     let Ok(element) = element.copy(alloc) else {
         drop(elements);
-        return Err(Misread::NoMemory);
+        return Err(Stop::NoMemory);
     };
     Ok((Value::List(element, elements), rest))
 }
@@ -186,13 +186,13 @@ fn elements_of<'a>(
     inner: u32,
     element: &TypeName,
     tokens: &'a [Placed],
-) -> Result<(Vec<Value>, &'a [Placed]), Misread>
+) -> Read<'a, Vec<Value>>
     ensures { Gives (λ x. (map plain_of x.0.items, all_placed x.1.now)) result (sequence_of (value_within inner registry.now (kind_of element.now)) (all_placed tokens.now)) }
 {
     let left = left_at(tokens);
     let rest = expect(left, Mark::OpensSquare, tokens)?;
     let Some((first, behind)) = rest.split_first() else {
-        return Err(Misread::Misfit(left));
+        return Err(Stop::Bad(left));
     };
     let mut elements = Vec::new(alloc);
     if is_mark(Mark::ClosesSquare, &first.token) {
@@ -200,9 +200,9 @@ fn elements_of<'a>(
     }
     match elements_on(alloc, registry, inner, element, left, rest, &mut elements) {
         Ok(rest) => Ok((elements, rest)),
-        Err(misread) => {
+        Err(stop) => {
             drop(elements);
-            Err(misread)
+            Err(stop)
         }
     }
 }
@@ -217,7 +217,7 @@ fn elements_on<'a>(
     left: usize,
     tokens: &'a [Placed],
     elements: &mut Vec<Value>,
-) -> Result<&'a [Placed], Misread>
+) -> Result<&'a [Placed], Stop>
     ensures { Gives (λ rest. (map plain_of elements.new.items, all_placed rest.now)) result
         (with_firsts (map plain_of elements.old.items) (elements_on (length (all_placed tokens.now)) left (value_within inner registry.now (kind_of element.now)) (all_placed tokens.now))) }
 {
@@ -226,17 +226,17 @@ fn elements_on<'a>(
         let (value, behind) = value_within(alloc, registry, inner, element, rest)?;
         elements.push(value)?;
         let Some((next, after)) = behind.split_first() else {
-            return Err(Misread::Misfit(left));
+            return Err(Stop::Bad(left));
         };
         if is_mark(Mark::ClosesSquare, &next.token) {
             return Ok(after);
         }
         if !is_mark(Mark::Comma, &next.token) {
-            return Err(Misread::Misfit(left));
+            return Err(Stop::Bad(left));
         }
         rest = after;
     }
-    Err(Misread::NoMemory)
+    Err(Stop::NoMemory)
 }
 
 /// A struct or an exception: its members in curly brackets, those of its bases first.
@@ -248,7 +248,7 @@ fn tuple_of<'a>(
     inner: u32,
     name: &Name,
     tokens: &'a [Placed],
-) -> Result<(Value, &'a [Placed]), Misread>
+) -> Read<'a, Value>
     ensures { Gives (λ x. (plain_of x.0, all_placed x.1.now)) result (value_step registry.now (value_within inner registry.now) (kd.struct name.now) (all_placed tokens.now)) }
 {
     let left = left_at(tokens);
@@ -259,9 +259,9 @@ fn tuple_of<'a>(
     drop(fields);
     match read {
         Ok(rest) => tuple_before(alloc, name, members, rest),
-        Err(misread) => {
+        Err(stop) => {
             drop(members);
-            Err(misread)
+            Err(stop)
         }
     }
 }
@@ -272,12 +272,12 @@ fn tuple_before<'a>(
     name: &Name,
     members: Vec<Value>,
     rest: &'a [Placed],
-) -> Result<(Value, &'a [Placed]), Misread>
+) -> Read<'a, Value>
     ensures { Gives (λ x. (plain_of x.0, all_placed x.1.now)) result (before (plain.tuple name.now (plains (map plain_of members.items))) (all_placed rest.now)) }
 {
     let Ok(name) = name.copy(alloc) else {
         drop(members);
-        return Err(Misread::NoMemory);
+        return Err(Stop::NoMemory);
     };
     Ok((Value::Tuple(name, members), rest))
 }
@@ -292,7 +292,7 @@ fn members_on<'a>(
     left: usize,
     tokens: &'a [Placed],
     members: &mut Vec<Value>,
-) -> Result<&'a [Placed], Misread>
+) -> Result<&'a [Placed], Stop>
     ensures { Gives (λ rest. (map plain_of members.new.items, all_placed rest.now)) result
         (with_firsts (map plain_of members.old.items) (members_on (value_within inner registry.now) left true (kinds_at fields.now) (all_placed tokens.now))) }
 {

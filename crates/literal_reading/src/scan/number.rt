@@ -3,7 +3,7 @@ ghost use Rattle.std.specs.Prelude.{◌≡◌, ◌≤◌, ◌^◌, IfOk};
 ghost use Rattle.literal_model.specs.Shapes.{number_at, digits_at, digits_on};
 ghost use Rattle.literal_reading.specs.Scanning.{Scans, token_of};
 
-use crate::stop::Stop;
+use crate::stop::{Scan, Stop};
 use crate::token::Token;
 
 /// The largest unsigned hyper, and the size of the lowest hyper.
@@ -12,7 +12,7 @@ const LARGEST: u128 = 0xffff_ffff_ffff_ffff;
 const LOWEST: u128 = 0x8000_0000_0000_0000;
 
 /// A number without leading zeros, and no `-0`.
-pub(crate) fn number_at(bytes: &[u8]) -> Result<(Token, &[u8]), Stop>
+pub(crate) fn number_at(bytes: &[u8]) -> Scan<'_, Token>
     ensures { Scans (λ x. (token_of x.0, x.1.now)) result (number_at bytes.now) }
 {
     let Some((first, behind)) = bytes.split_first() else {
@@ -30,7 +30,7 @@ pub(crate) fn number_at(bytes: &[u8]) -> Result<(Token, &[u8]), Stop>
 }
 
 /// Digits of which the first is not 0.
-fn digits_at(limit: u128, bytes: &[u8]) -> Result<(u128, &[u8]), Stop>
+fn digits_at(limit: u128, bytes: &[u8]) -> Scan<'_, u128>
     requires low { 9 ≤ limit }
     requires high { limit ≤ 2 ^ 64 }
     ensures same { Scans (λ x. (x.0, x.1.now)) result (digits_at limit bytes.now) }
@@ -47,7 +47,7 @@ fn digits_at(limit: u128, bytes: &[u8]) -> Result<(u128, &[u8]), Stop>
 
 /// The digits behind a number, as long as it stays within the limit.
 #[tactic(auto, unfolding(literal_model::specs::Shapes::digits_on))]
-fn digits_on(limit: u128, begun: u128, bytes: &[u8]) -> Result<(u128, &[u8]), Stop>
+fn digits_on(limit: u128, begun: u128, bytes: &[u8]) -> Scan<'_, u128>
     requires some { 1 ≤ begun }
     requires within { begun ≤ limit }
     requires high { limit ≤ 2 ^ 64 }

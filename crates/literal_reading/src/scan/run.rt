@@ -2,7 +2,7 @@
 ghost use Rattle.std.specs.Prelude.{◌≡◌, IsTrue};
 ghost use Rattle.std.specs.List.{list_all};
 ghost use Rattle.uno_model.specs.Names.{goes_on_identifier};
-ghost use Rattle.literal_model.specs.Shapes.{front, rest};
+ghost use Rattle.literal_model.specs.Shapes.{run_of, behind_run};
 ghost use Rattle.literal_reading.specs.Scanning.{test_of};
 
 /// The bytes of a word are letters, digits and `_`, those of a type's name also `.`, `[`, `]` and blanks.
@@ -14,8 +14,8 @@ pub(crate) enum Run {
 
 /// The longest run in front, and what stands behind it.
 pub(crate) fn split_run<'a>(run: Run, bytes: &'a [u8]) -> (&'a [u8], &'a [u8])
-    ensures front { result.0.now ≡ front (test_of run) bytes.now }
-    ensures rest { result.1.now ≡ rest (test_of run) bytes.now }
+    ensures front { result.0.now ≡ run_of (test_of run) bytes.now }
+    ensures rest { result.1.now ≡ behind_run (test_of run) bytes.now }
     ensures all { IsTrue (list_all (test_of run) result.0.now) }
 {
     for length in 0..bytes.len() {

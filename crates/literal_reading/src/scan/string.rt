@@ -3,14 +3,14 @@ ghost use Rattle.std.specs.Prelude.{◌≡◌, IfOk, false};
 ghost use Rattle.literal_model.specs.Shapes.{string_at, escape_of};
 ghost use Rattle.literal_reading.specs.Scanning.{Scans};
 
-use crate::stop::Stop;
+use crate::stop::{Scan, Stop};
 use std::alloc::Global;
 use uno_base::NoMemory;
 use uno_types::Text;
 
 /// The text up to the quote at its end, without its escapes.
 #[tactic(auto, using(crate::proofs::ScanLemmas::with_all_none, crate::proofs::ScanLemmas::with_all_more), unfolding(literal_model::specs::Shapes::string_at))]
-pub(crate) fn string_at<'a>(alloc: Global, bytes: &'a [u8]) -> Result<(Vec<u8>, &'a [u8]), Stop>
+pub(crate) fn string_at<'a>(alloc: Global, bytes: &'a [u8]) -> Scan<'a, Vec<u8>>
     ensures { Scans (λ x. (x.0.items, x.1.now)) result (string_at false bytes.now) }
 {
     let mut text = Vec::new(alloc);

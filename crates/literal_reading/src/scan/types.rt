@@ -9,7 +9,7 @@ ghost use Rattle.literal_reading.specs.Scanning.{Scans, test_of};
 
 use crate::scan::name::behind_name;
 use crate::scan::run::{Run, is_word_byte, split_run};
-use crate::stop::Stop;
+use crate::stop::{Scan, Stop};
 use std::alloc::Global;
 use uno_base::NoMemory;
 use uno_types::{Registry, TypeName};
@@ -20,7 +20,7 @@ pub(crate) fn type_at<'a>(
     registry: &Registry,
     mark: u8,
     bytes: &'a [u8],
-) -> Result<(TypeName, &'a [u8]), Stop>
+) -> Scan<'a, TypeName>
     requires { IsSound registry.now }
     ensures { Scans (λ x. (kind_of x.0, x.1.now)) result (type_at registry.now mark bytes.now) }
 {

@@ -10,17 +10,13 @@ ghost use Rattle.literal_reading.specs.Scanning.{Scans, token_of};
 use crate::items::{is_name_of, items_in};
 use crate::scan::run::{Run, split_run};
 use crate::scan::types::as_text;
-use crate::stop::Stop;
+use crate::stop::{Scan, Stop};
 use crate::token::Token;
 use std::alloc::Global;
 use uno_types::{Entity, Item, Name, Registry};
 
 /// A word that is known in the registry.
-pub(crate) fn word_at<'a>(
-    alloc: Global,
-    registry: &Registry,
-    bytes: &'a [u8],
-) -> Result<(Token, &'a [u8]), Stop>
+pub(crate) fn word_at<'a>(alloc: Global, registry: &Registry, bytes: &'a [u8]) -> Scan<'a, Token>
     ensures { Scans (λ x. (token_of x.0, x.1.now)) result (word_at registry.now bytes.now) }
 {
     let (run, rest) = split_run(Run::Word, bytes);

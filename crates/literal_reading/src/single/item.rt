@@ -6,7 +6,6 @@ ghost use Rattle.uno_model.specs.Registry.{find_entity};
 ghost use Rattle.uno_entities.specs.Entities.{item_of};
 ghost use Rattle.literal_reading.specs.Scanning.{token_of};
 
-use super::range::to_i32;
 use crate::items::{first_item, is_name_of, items_of};
 use crate::token::Token;
 use uno_types::{Item, Registry};
@@ -49,7 +48,7 @@ fn number_named(items: &[Item], word: &str) -> Option<i32>
 fn item_of_number(items: &[Item], number: i128) -> Option<i32>
     ensures { result ≡ item_of_number (map item_of items.now) number }
 {
-    let number = to_i32(number)?;
+    let number = i32::try_from(number).ok()?;
     match first_item(items, number) {
         Some(_) => None,
         None => Some(number),

@@ -4,7 +4,7 @@ ghost use Rattle.literal_model.specs.Readings.{expect, comma_at, left_at};
 ghost use Rattle.literal_reading.specs.Scanning.{token_of, all_placed};
 ghost use Rattle.literal_reading.specs.Typing.{Gives, mark_test};
 
-use crate::misread::Misread;
+use crate::stop::Stop;
 use crate::token::{Bracket, Placed, Token};
 
 /// A bracket or a comma.
@@ -34,14 +34,14 @@ pub(crate) fn expect<'a>(
     left: usize,
     mark: Mark,
     tokens: &'a [Placed],
-) -> Result<&'a [Placed], Misread>
+) -> Result<&'a [Placed], Stop>
     ensures { Gives (λ rest. all_placed rest.now) result (expect left (mark_test mark) (all_placed tokens.now)) }
 {
     let Some((first, rest)) = tokens.split_first() else {
-        return Err(Misread::Misfit(left));
+        return Err(Stop::Bad(left));
     };
     if !is_mark(mark, &first.token) {
-        return Err(Misread::Misfit(left));
+        return Err(Stop::Bad(left));
     }
     Ok(rest)
 }
@@ -51,7 +51,7 @@ pub(crate) fn comma_at<'a>(
     is_first: bool,
     left: usize,
     tokens: &'a [Placed],
-) -> Result<&'a [Placed], Misread>
+) -> Result<&'a [Placed], Stop>
     ensures { Gives (λ rest. all_placed rest.now) result (comma_at is_first left (all_placed tokens.now)) }
 {
     if is_first {

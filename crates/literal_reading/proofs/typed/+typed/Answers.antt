@@ -63,5 +63,5 @@ pub tuple_of-returns-in-Err : goal.tuple_of-returns-in-Err
 tuple_of-returns-in-Err t c =
     let members : all_members c.args.registry.now c.as_str.result.now ≡ all_members c.args.registry.now c.args.name.now = ap (all_members c.args.registry.now) c.as_str.ensures in
     let kinds = ap kinds_at c.deref.ensures.value ∙ ap (map (λ (f : Field). f.kind)) (c.in_ok-fields.ensures ∙ members) in
-    tuple_fails c.args.registry.now (value_within c.args.inner c.args.registry.now) c.left_at-left.result c.args.name.now _ (all_placed c.args.tokens.now) (all_placed c.in_ok-rest.rest.now) _ c.in-Err.misread c.left_at-left.ensures kinds
+    tuple_fails c.args.registry.now (value_within c.args.inner c.args.registry.now) c.left_at-left.result c.args.name.now _ (all_placed c.args.tokens.now) (all_placed c.in_ok-rest.rest.now) _ c.in-Err.stop c.left_at-left.ensures kinds
     c.in_ok-rest.ensures (ap (map plain_of) c.new-members.ensures.items) c.in-Err.ensures

@@ -1,10 +1,10 @@
 use Rattle.std.proofs.Common.{◌≡◌, List, ℕ, ◌∷◌, true, sym, ◌∙◌}
-use Rattle.literal_model.specs.Shapes.{rest}
+use Rattle.literal_model.specs.Shapes.{behind_run}
 use Rattle.literal_reading.proofs.NameLemmas.{TakesWord, words_end, words_next, words_shrink, words_stop}
 use Rattle.literal_reading.proofs.scan.name.behind_words.Goals as goal
 use Rattle.uno_model.specs.Names.{begins_identifier, goes_on_identifier}
 
-taken : {bytes behind letters : List ℕ} {first : ℕ} → bytes ≡ first ∷ letters → begins_identifier first ≡ true → behind ≡ rest goes_on_identifier bytes → TakesWord bytes behind
+taken : {bytes behind letters : List ℕ} {first : ℕ} → bytes ≡ first ∷ letters → begins_identifier first ≡ true → behind ≡ behind_run goes_on_identifier bytes → TakesWord bytes behind
 taken {letters = letters} {first = first} split begun is = record { first = first; letters = letters; split = split; begun = begun; is = is }
 
 pub returns-in_default-split_first : goal.returns-in_default-split_first
