@@ -1,5 +1,5 @@
 -- A message that may be said has parts that can be written, and what is written of it is read again.
-use Rattle.std.proofs.Common.{◌≡◌, ℕ, ◌^◌, ◌<◌, ◌≤◌, List, ◌++◌, length, drop, [], Ok, refl, ap, ◌∙◌, arith}
+use Rattle.std.proofs.Common.{◌≡◌, ℕ, ◌^◌, ◌<◌, ◌≤◌, List, ◌++◌, ◌∷◌, length, drop, [], Ok, refl, sym, ap, subst, ◌∙◌, arith}
 use Rattle.uno_model.specs.Entities.{Entity}
 use Rattle.uno_model.specs.Functions.{Function}
 use Rattle.uno_model.specs.Kinds.{Kind, name_of}
@@ -13,10 +13,12 @@ use Rattle.message_model.specs.Calls.{Waits, argument_kinds, out_kinds}
 use Rattle.message_model.specs.Headers.{Heard}
 use Rattle.message_model.specs.Messages.{Answer, returned, raised, Message, request, release, reply}
 use Rattle.message_model.specs.Speaking.{Fill, AnswerFits, MayBeSaid, heading_weight, answer_weight, message_weight, MessageSpellable, arrived, IsAwaited}
+use Rattle.message_model.specs.Said.{spoken_after, spell, uses_of, AreLeftBy}
 use Rattle.message_model.specs.Speaking.{Agree}
 use Rattle.message_model.specs.ReadingMessages.{message_at}
 use Rattle.message_model.specs.WritingMessages.{Spoken, Heading, call_heading, release_heading, message_spelling, after_message}
 use Rattle.message_model.proofs.MessageWeightLaws.{message_bounded}
+use Rattle.message_model.proofs.SaidLaws.{spell_more, spoken_more, all_left}
 use Rattle.message_model.proofs.StreamLaws.{read_back}
 use Rattle.wire_writing.specs.Written.{IsWritable, AreWritable}
 use Rattle.wire_writing.proofs.Lengths.{all_writable, light_writable}
@@ -70,3 +72,15 @@ pub short_body : (reg : List Entity) (m : Message) (spoken : Spoken) (nothing wr
 short_body reg m spoken nothing written body light none all is =
     let same : body ≡ message_spelling reg m spoken = is ∙ all ∙ ap (λ z. z ++ message_spelling reg m spoken) none in
     rw same (omega (arith, message_bounded reg m spoken))
+
+-- where all messages before were said from the beginning, a block is what their bytes grow by, and names stand as all uses leave them
+pub block_more : (reg : List Entity) (m : Message) (spoken old : Spoken) (block : List ℕ) → block ≡ spell_block 1 (message_spelling reg m spoken) → spoken ≡ old
+    → (said : List Message) → old ≡ spoken_after reg said → spell reg (said ++ m ∷ []) ≡ spell reg said ++ block
+block_more reg m spoken old block is same said at =
+    spell_more reg said m ∙ ap (λ b. spell reg said ++ b) (ap (λ s. spell_block 1 (message_spelling reg m s)) (sym at ∙ sym same) ∙ sym is)
+
+pub spoken_on : (reg : List Entity) (m : Message) (spoken old now : Spoken) → now ≡ after_message reg m spoken → spoken ≡ old → (said : List Message) → old ≡ spoken_after reg said
+    → (now ≡ spoken_after reg (said ++ m ∷ [])) × AreLeftBy now.names (uses_of (said ++ m ∷ []))
+spoken_on reg m spoken old now is same said at =
+    let next : now ≡ spoken_after reg (said ++ m ∷ []) = is ∙ ap (after_message reg m) (same ∙ at) ∙ sym (spoken_more reg said m) in
+    (next, subst (λ (s : Spoken). AreLeftBy s.names (uses_of (said ++ m ∷ []))) (sym next) (all_left reg (said ++ m ∷ [])))

@@ -1,8 +1,10 @@
 //! The end that writes messages.
-ghost use Rattle.std.specs.Prelude.{◌≡◌, ℕ, ◌≤◌, ◌++◌, List, drop, false, true, IfOk, OnOk, OnErr, IsTrue, IsErr, Ok};
+ghost use Rattle.std.specs.Prelude.{◌≡◌, ℕ, ◌≤◌, ◌++◌, ◌∷◌, [], List, drop, false, true, IfOk, OnOk, OnErr, IsTrue, IsErr, Ok};
 ghost use Rattle.message_model.specs.Calls.{Waits};
 ghost use Rattle.message_model.specs.Headers.{Heard};
+ghost use Rattle.message_model.specs.Messages.{Message as Said};
 ghost use Rattle.message_model.specs.ReadingMessages.{message_at};
+ghost use Rattle.message_model.specs.Said.{spoken_after, spell, uses_of, AreLeftBy};
 ghost use Rattle.message_model.specs.Speaking.{MayBeSaid, message_weight, MessageSpellable, arrived, IsAwaited, Agree};
 ghost use Rattle.message_model.specs.WritingMessages.{nothing_spoken, message_spelling, after_message};
 ghost use Rattle.uno_model.specs.Sound.{IsSound};
@@ -66,7 +68,8 @@ impl Speaker {
         })
     }
 
-    /// The block of a message.
+    /// The block of a message. Where all messages before it were said from the beginning, the bytes of all of them grow by this block, and
+    /// the slots of names are what the whole list of uses leaves.
     pub fn write(&mut self, registry: &Registry, message: &Message) -> Result<Vec<u8>, NoMemory>
         requires sound { IsSound registry.now }
         requires may { MayBeSaid registry.now (message_of message.now) }
@@ -78,6 +81,12 @@ impl Speaker {
         ensures read { IfOk result (λ block. (waits : Waits) (heard : Heard) (rest : List ℕ) → Agree heard self.old.spoken → IsAwaited waits (message_of message.now)
             → (after : Heard) × (message_at registry.now waits heard (drop 8 block.items ++ rest) ≡ Ok (arrived registry.now (message_of message.now), after, rest))
             × Agree after self.new.spoken) }
+        ensures grows { IfOk result (λ block. (said : List Said) → self.old.spoken ≡ spoken_after registry.now said
+            → spell registry.now (said ++ message_of message.now ∷ []) ≡ spell registry.now said ++ block.items) }
+        ensures goes_on { OnOk result ((said : List Said) → self.old.spoken ≡ spoken_after registry.now said
+            → (self.new.spoken ≡ spoken_after registry.now (said ++ message_of message.now ∷ []))
+            × AreLeftBy self.new.spoken.names (uses_of (said ++ message_of message.now ∷ []))) }
+        ensures spellable { OnOk result (MessageSpellable (message_of message.now)) }
     {
         if self.failed {
             return Err(NoMemory);
