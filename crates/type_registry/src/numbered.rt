@@ -21,7 +21,7 @@ const MOST_STEPS: u32 = 256;
 pub(crate) struct TooFar;
 
 /// The function of an interface at a number, and none where the number is past its functions. In a sound registry a name that is
-/// no interface's has none. It takes memory only for an interface with a hundred bases and more, and none where there is none.
+/// no interface's has none. It takes memory only past the most steps, and where there is none it goes on without.
 pub fn function_numbered<'a>(
     registry: &'a Registry,
     name: &str,
