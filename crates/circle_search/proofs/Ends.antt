@@ -6,8 +6,9 @@ use Rattle.uno_model.specs.Circles.{Leads, step, on}
 use Rattle.circle_search.specs.declared.mark.Mark.{Mark}
 use Rattle.circle_search.specs.declared.mark.Mark.TheVariants.{New, Open, OffCircle, OnCircle}
 use Rattle.circle_search.specs.declared.trail.Edge.{Edge}
+use Rattle.circle_search.specs.declared.trail.Trail.{Trail}
 use Rattle.circle_search.specs.Graph.{targets}
-use Rattle.circle_search.specs.Search.{edges, MarksHold, AllTold, Fine}
+use Rattle.circle_search.specs.Search.{edges, MarksHold, MarksAreRight, Fine, IsFine}
 use Rattle.circle_search.proofs.Entering.{known_low, entered_fine}
 
 -- what is no node leads nowhere
@@ -50,17 +51,17 @@ pub entered_kept : (marks : List Mark) (n place i : ℕ) → get_or marks n OffC
     → (i ≢ n) × (get_or marks i OffCircle ≡ New)
 entered_kept marks n place i new at = let low = known_low marks n new in grind (arith, get_or-set_same, get_or-set_other)
 
--- once each node was reached and none is open, each mark tells
-pub all_told : (g : List (List ℕ)) (marks : List Mark) (nodes starts : List ℕ) (waiting : List Edge) → Fine g marks nodes starts waiting → nodes ≡ []
-    → ((i : ℕ) → i < length g → get_or marks i OffCircle ≢ New) → AllTold g marks
-all_told g marks nodes starts waiting f none reached = record {
+-- once each node was reached and none is open, all marks are right
+pub marks_are_right : (g : List (List ℕ)) (trail : Trail) → IsFine g trail → trail.nodes.items ≡ [] → ((i : ℕ) → i < length g → get_or trail.marks.items i OffCircle ≢ New)
+    → MarksAreRight g trail.marks.items
+marks_are_right g trail f none reached = record {
   long = f.of_marks.long;
   on = f.of_marks.on;
-  off = λ i other. told_off i (get_or marks i OffCircle) refl other;
+  off = λ i other. off_now i (get_or trail.marks.items i OffCircle) refl other;
 }
   where
-    told_off : (i : ℕ) (m : Mark) → get_or marks i OffCircle ≡ m → get_or marks i OffCircle ≢ OnCircle → ¬ Leads (targets g) i i
-    told_off i New is other = elim (cases_lt i (length g)) [ inl low ↦ absurd (reached i low is) | inr past ↦ past_leads g i i past ]
-    told_off i (Open p) is other = let at = f.of_marks.opened i p is in let bad : ⊥ = omega (arith, ap length none, at.0) in absurd bad
-    told_off i OffCircle is other = f.of_marks.off i is
-    told_off i OnCircle is other = absurd (other is)
+    off_now : (i : ℕ) (m : Mark) → get_or trail.marks.items i OffCircle ≡ m → get_or trail.marks.items i OffCircle ≢ OnCircle → ¬ Leads (targets g) i i
+    off_now i New is other = elim (cases_lt i (length g)) [ inl low ↦ absurd (reached i low is) | inr past ↦ past_leads g i i past ]
+    off_now i (Open p) is other = let at = f.of_marks.opened i p is in let bad : ⊥ = omega (arith, ap length none, at.0) in absurd bad
+    off_now i OffCircle is other = f.of_marks.off i is
+    off_now i OnCircle is other = absurd (other is)

@@ -10,7 +10,7 @@ use Rattle.circle_search.specs.declared.mark.Mark.{Mark}
 use Rattle.circle_search.specs.declared.mark.Mark.TheVariants.{New, Open, OffCircle, OnCircle}
 use Rattle.circle_search.specs.declared.trail.Edge.{Edge}
 use Rattle.circle_search.specs.Graph.{targets}
-use Rattle.circle_search.specs.Search.{is_left, leads_to_itself, mark_of_group, IsAt, IsNotBefore, IsSeen, IsMarked, Kept, MarksHold, GroupsHold, Fine, new_work}
+use Rattle.circle_search.specs.Search.{is_left, leads_to_itself, mark_of_group, IsAt, IsNotBefore, IsSeen, IsMarked, StayReached, MarksHold, GroupsHold, Fine, new_work}
 use Rattle.circle_search.proofs.Work.{kept_work}
 use Rattle.circle_search.proofs.Looking.{leads_through, last_start}
 
@@ -184,7 +184,7 @@ module _ (g : List (List ℕ)) (marks : List Mark) (nodes starts : List ℕ) (wa
           ]
         ]
 
-    leave_kept : Kept marks after
+    leave_kept : StayReached marks after
     leave_kept i new = elim (was_left i) [ inl (p, is, high, has) ↦ let left = test.0 in grind arith | inr (out, has) ↦ sym has ∙ new ]
 
     pub leave_less : length waiting + length (take b nodes) + new_work g after < length waiting + length nodes + new_work g marks

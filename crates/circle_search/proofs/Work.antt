@@ -5,10 +5,10 @@ use Rattle.circle_search.specs.declared.mark.Mark.{Mark}
 use Rattle.circle_search.specs.declared.mark.Mark.TheVariants.{New, Open, OffCircle, OnCircle}
 use Rattle.circle_search.specs.declared.trail.Edge.{Edge}
 use Rattle.circle_search.specs.Graph.{targets}
-use Rattle.circle_search.specs.Search.{edges, Kept, mark_work, new_work}
+use Rattle.circle_search.specs.Search.{edges, StayReached, mark_work, new_work}
 
 -- where no node becomes new, there is no more to do for new ones
-pub kept_work : (g : List (List ℕ)) (marks after : List Mark) → length after ≡ length marks → Kept marks after → new_work g after ≤ new_work g marks
+pub kept_work : (g : List (List ℕ)) (marks after : List Mark) → length after ≡ length marks → StayReached marks after → new_work g after ≤ new_work g marks
 unfolding new_work
 kept_work [] marks after long kept = omega arith
 kept_work (row ∷ g) marks [] long kept = omega arith

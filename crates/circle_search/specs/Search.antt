@@ -87,11 +87,11 @@ pub record IsMarked (nodes : List ℕ) (mark : Mark) (before after : List Mark) 
   pub others : (i : ℕ) → ((k : ℕ) → k < length nodes → get_or nodes k 0 ≢ i) → get_or after i OffCircle ≡ get_or before i OffCircle
 
 -- what is new afterwards was new before
-abbrev pub Kept : List Mark → List Mark → Type 0
-Kept before after = (i : ℕ) → get_or after i OffCircle ≡ New → get_or before i OffCircle ≡ New
+abbrev pub StayReached : List Mark → List Mark → Type 0
+StayReached before after = (i : ℕ) → get_or after i OffCircle ≡ New → get_or before i OffCircle ≡ New
 
 -- each mark says whether the node leads back to itself
-pub record AllTold (g : List (List ℕ)) (marks : List Mark) : Type 0 where
+pub record MarksAreRight (g : List (List ℕ)) (marks : List Mark) : Type 0 where
   pub long : length marks ≡ length g
   pub on : (i : ℕ) → get_or marks i OffCircle ≡ OnCircle → Leads (targets g) i i
   pub off : (i : ℕ) → get_or marks i OffCircle ≢ OnCircle → ¬ Leads (targets g) i i

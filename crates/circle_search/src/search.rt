@@ -2,7 +2,7 @@
 ghost use Rattle.std.specs.Prelude.{◌≡◌, ◌≢◌, ◌-◌, ◌<◌, ◌↔◌, [], length, get_or, IfOk, IsTrue, MatchOption, OnOk};
 ghost use Rattle.uno_model.specs.Circles.{HasNoCircle};
 ghost use Rattle.circle_search.specs.Graph.{targets, IsFirstOnCircle};
-ghost use Rattle.circle_search.specs.Search.{IsFine, Kept, AllTold, work};
+ghost use Rattle.circle_search.specs.Search.{IsFine, StayReached, MarksAreRight, work};
 
 use crate::Graph;
 use crate::group::leave;
@@ -12,13 +12,14 @@ use std::alloc::Global;
 use uno_base::NoMemory;
 
 /// One move at the last group, which begins at this place.
+#[tactic(auto, using(crate::proofs::Parts::open_low))]
 fn advance(graph: &Graph, trail: &mut Trail, start: usize) -> Result<(), NoMemory>
     requires fine { IsFine graph.now trail.old }
     requires some { 0 < length trail.old.starts.items }
     requires last { get_or trail.old.starts.items (length trail.old.starts.items - 1) 0 ≡ start }
     ensures fine { OnOk result (IsFine graph.now trail.new) }
     ensures less { OnOk result (work graph.now trail.new < work graph.now trail.old) }
-    ensures kept { OnOk result (Kept trail.old.marks.items trail.new.marks.items) }
+    ensures kept { OnOk result (StayReached trail.old.marks.items trail.new.marks.items) }
 {
     let Some(edge) = next_edge(&mut trail.waiting, start) else {
         leave(graph, trail, start);
@@ -45,7 +46,7 @@ fn visit(graph: &Graph, trail: &mut Trail, node: usize) -> Result<(), NoMemory>
     ensures fine { OnOk result (IsFine graph.now trail.new) }
     ensures empty { OnOk result (trail.new.nodes.items ≡ []) }
     ensures reached { OnOk result (get_or trail.new.marks.items node Mark.OffCircle ≢ Mark.New) }
-    ensures kept { OnOk result (Kept trail.old.marks.items trail.new.marks.items) }
+    ensures kept { OnOk result (StayReached trail.old.marks.items trail.new.marks.items) }
 {
     let Mark::New = trail.mark(node) else {
         return Ok(());
@@ -58,8 +59,9 @@ fn visit(graph: &Graph, trail: &mut Trail, node: usize) -> Result<(), NoMemory>
 }
 
 /// Tells of every node whether it leads back to itself.
+#[tactic(auto, using(crate::proofs::Ends::marks_are_right))]
 fn search(alloc: Global, graph: &Graph) -> Result<Trail, NoMemory>
-    ensures { IfOk result (λ trail. AllTold graph.now trail.marks.items) }
+    ensures { IfOk result (λ trail. MarksAreRight graph.now trail.marks.items) }
 {
     let mut trail = Trail {
         marks: vec![in alloc; Mark::New; graph.len()]?,

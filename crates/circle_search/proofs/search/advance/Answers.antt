@@ -1,13 +1,9 @@
 use Rattle.std.proofs.Common.{inl, inr, sym, ap}
 use Rattle.circle_search.specs.Search.{is_left}
-use Rattle.circle_search.proofs.Parts.{open_low}
 use Rattle.circle_search.proofs.Looking.{left_fine, new_fine, open_fine}
 use Rattle.circle_search.proofs.Leaving.{leave_fine, leave_less}
 use Rattle.circle_search.proofs.Work.{enter_less}
 use Rattle.circle_search.proofs.search.advance.Goals as goal
-
-pub leave-requires-clause-nodes : goal.leave-requires-clause-nodes
-leave-requires-clause-nodes c = open_low c.args.graph.now c.args.trail.now.marks.items c.args.trail.now.nodes.items c.requires.fine.of_marks
 
 pub returns-in_default-clause-fine : goal.returns-in_default-clause-fine
 returns-in_default-clause-fine c =

@@ -1,6 +1,6 @@
 use Rattle.std.proofs.Common.{replicate, ◌∙◌, ap, arith}
 use Rattle.circle_search.specs.declared.mark.Mark.TheVariants.{New}
-use Rattle.circle_search.proofs.Ends.{first_fine, all_told}
+use Rattle.circle_search.proofs.Ends.{first_fine}
 use Rattle.circle_search.proofs.search.search.Goals as goal
 
 pub loop-node-init : goal.loop-node-init
@@ -11,9 +11,3 @@ loop-node-init c =
       empty = c.new.ensures.items;
       reached = λ i low. let bad : ⊥ = omega arith in absurd bad;
     }
-
-pub returns : goal.returns
-returns c =
-    let state = c.loop-node.invariant in
-    all_told c.args.graph.now c.loop-node.trail.marks.items c.loop-node.trail.nodes.items c.loop-node.trail.starts.items c.loop-node.trail.waiting.items state.fine state.empty
-    (λ i low. state.reached i (omega (arith, c.len-node-end.ensures, c.loop-node-test.false)))
