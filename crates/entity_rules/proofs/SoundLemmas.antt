@@ -48,18 +48,20 @@ module _ (reg : List Entity) where
       let first_five = each_of_both four (λ e. bases_known reg e.body) reg first_six.0 in
       let first_four = each_of_both three (λ e. types_allowed e.body) reg first_five.0 in
       let first_three = each_of_both (λ e. is_named e && is_complete e) is_within_limits reg first_four.0 in
-      let first_two = each_of_both is_named is_complete reg first_three.0 in
-      (λ yes. record {
-        named = first_two.0;
-        differ = differ;
-        bases = first_five.1;
-        raises = first_six.1;
-        services = first_seven.1;
-        types = last.1;
-        allowed = first_four.1;
-        complete = first_two.1;
-        members = members;
-        limits = first_three.1;
-        functions = functions.0 yes;
-        no_circle = no_circle;
-      }, λ sound. functions.1 sound.functions)
+      let first_two = each_of_both is_named is_complete reg first_three.0 in (
+        λ yes. record {
+          named = first_two.0;
+          differ = differ;
+          bases = first_five.1;
+          raises = first_six.1;
+          services = first_seven.1;
+          types = last.1;
+          allowed = first_four.1;
+          complete = first_two.1;
+          members = members;
+          limits = first_three.1;
+          functions = functions.0 yes;
+          no_circle = no_circle;
+        },
+        λ sound. functions.1 sound.functions,
+      )

@@ -27,9 +27,8 @@ fn is_type_body(body: &Body) -> bool
     ensures { result ≡ is_type_body (body_of body.now) }
 {
     match body {
-        Body::Interface { .. } | Body::Enum { .. } | Body::Struct { .. } | Body::Exception { .. } => {
-            true
-        }
+        Body::Interface { .. } | Body::Enum { .. } | Body::Struct { .. } | Body::Exception { .. } =>
+            { true }
         _ => false,
     }
 }
@@ -54,7 +53,9 @@ fn members_few_params(members: &[Member]) -> bool
 fn constructors_few_params(constructors: &[Constructor]) -> bool
     ensures { result ≡ list_all (λ k. few_params (length (constructor_of k).params + length (at_most_one k.rest))) constructors.now }
 {
-    constructors.iter().all(|constructor| constructor_few_params(constructor))
+    constructors
+        .iter()
+        .all(|constructor| constructor_few_params(constructor))
 }
 
 fn member_few_params(member: &Member) -> bool

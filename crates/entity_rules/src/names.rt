@@ -55,13 +55,17 @@ fn member_named(member: &Member) -> bool
 fn params_named(params: &[Param]) -> bool
     ensures { result ≡ list_all (λ p. is_identifier p.name) params.now }
 {
-    params.iter().all(|param| is_identifier(param.name.as_str()))
+    params
+        .iter()
+        .all(|param| is_identifier(param.name.as_str()))
 }
 
 fn fields_named(fields: &[Field]) -> bool
     ensures { result ≡ list_all (λ f. is_identifier f.name) fields.now }
 {
-    fields.iter().all(|field| is_identifier(field.name.as_str()))
+    fields
+        .iter()
+        .all(|field| is_identifier(field.name.as_str()))
 }
 
 fn items_named(items: &[Item]) -> bool
@@ -73,13 +77,17 @@ fn items_named(items: &[Item]) -> bool
 fn constants_named(constants: &[Constant]) -> bool
     ensures { result ≡ list_all (λ k. is_identifier k.name) constants.now }
 {
-    constants.iter().all(|constant| is_identifier(constant.name.as_str()))
+    constants
+        .iter()
+        .all(|constant| is_identifier(constant.name.as_str()))
 }
 
 fn constructors_named(constructors: &[Constructor]) -> bool
     ensures { result ≡ list_all (λ k. list_all is_identifier (constructor_names (constructor_of k))) constructors.now }
 {
-    constructors.iter().all(|constructor| constructor_named(constructor))
+    constructors
+        .iter()
+        .all(|constructor| constructor_named(constructor))
 }
 
 fn constructor_named(constructor: &Constructor) -> bool

@@ -35,7 +35,9 @@ fn constructors_raise(entities: &[Entity], constructors: &[Constructor]) -> bool
     requires { IsRising (entities_of entities.now) }
     ensures { result ≡ list_all (λ k. list_all (is_there (entities_of entities.now) is_exception) k.raises.items) constructors.now }
 {
-    constructors.iter().all(|constructor| all_raised(entities, &constructor.raises))
+    constructors
+        .iter()
+        .all(|constructor| all_raised(entities, &constructor.raises))
 }
 
 fn member_raises(entities: &[Entity], member: &Member) -> bool

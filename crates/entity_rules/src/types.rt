@@ -109,14 +109,18 @@ fn constants_pass(test: KindTest<'_>, constants: &[Constant]) -> bool
     requires { IsAskable test }
     ensures { result ≡ list_all (λ k. passes test.entry (kind_of k.kind)) constants.now }
 {
-    constants.iter().all(|constant| passes(test, &constant.kind))
+    constants
+        .iter()
+        .all(|constant| passes(test, &constant.kind))
 }
 
 fn constructors_pass(test: KindTest<'_>, constructors: &[Constructor]) -> bool
     requires { IsAskable test }
     ensures { result ≡ list_all (λ k. list_all (λ f. passes test.entry (kind_of f.kind)) k.params.items) constructors.now }
 {
-    constructors.iter().all(|constructor| fields_pass(test, &constructor.params))
+    constructors
+        .iter()
+        .all(|constructor| fields_pass(test, &constructor.params))
 }
 
 fn parts_pass(test: KindTest<'_>, parts: &[Part]) -> bool

@@ -69,14 +69,16 @@ module _ (reg : List Entity) (to : List ℕ) where
   -- and goes on with what one of them stands on
   pub walk_goes_on : (P : Type 0) (name : List ℕ) (rest before names : List (List ℕ)) → P ↔ AnyBase reg to before → before ≡ rest ++ name ∷ []
       → bytes_eq name to ≡ false → names ≡ rest ++ stands_on reg name → P ↔ AnyBase reg to names
-  walk_goes_on P name rest before names so_far popped differs is =
-      (λ p. subst (AnyBase reg to) (sym is) (elim (any_parts rest (name ∷ []) (subst (AnyBase reg to) popped (so_far.0 p))) [
-        | inl front ↦ any_front rest (stands_on reg name) front
-        | inr last ↦ any_back rest (stands_on reg name) (elim last [ inl base ↦ out_of name (not_equal name differs) base | inr none ↦ absurd none ])
-      ]), λ some. so_far.1 (subst (AnyBase reg to) (sym popped) (elim (any_parts rest (stands_on reg name) (subst (AnyBase reg to) is some)) [
-        | inl front ↦ any_front rest (name ∷ []) front
-        | inr back ↦ any_back rest (name ∷ []) (inl (into name back))
-      ])))
+  walk_goes_on P name rest before names so_far popped differs is = (
+    λ p. subst (AnyBase reg to) (sym is) (elim (any_parts rest (name ∷ []) (subst (AnyBase reg to) popped (so_far.0 p))) [
+      | inl front ↦ any_front rest (stands_on reg name) front
+      | inr last ↦ any_back rest (stands_on reg name) (elim last [ inl base ↦ out_of name (not_equal name differs) base | inr none ↦ absurd none ])
+    ]),
+    λ some. so_far.1 (subst (AnyBase reg to) (sym popped) (elim (any_parts rest (stands_on reg name) (subst (AnyBase reg to) is some)) [
+      | inl front ↦ any_front rest (name ∷ []) front
+      | inr back ↦ any_back rest (name ∷ []) (inl (into name back))
+    ])),
+  )
 
   -- it ends where one of them is the name itself
   pub walk_finds : (P : Type 0) (name : List ℕ) (rest before : List (List ℕ)) → P ↔ AnyBase reg to before → before ≡ rest ++ name ∷ []

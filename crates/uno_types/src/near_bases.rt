@@ -106,10 +106,7 @@ fn push_base<'a>(
     }
 }
 
-fn push_name<'a>(
-    name: &'a Name,
-    pending: &mut ArrayVec<Option<&'a Name>, MOST_PENDING>,
-) -> bool
+fn push_name<'a>(name: &'a Name, pending: &mut ArrayVec<Option<&'a Name>, MOST_PENDING>) -> bool
     ensures { OnTrue result (names_in pending.new.items ≡ names_in pending.old.items ++ name.now ∷ []) }
 {
     let Ok(()) = pending.try_push(Some(name)) else {
