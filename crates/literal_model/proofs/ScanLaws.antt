@@ -180,10 +180,10 @@ type_sound reg mark bytes k r named_all e = by_rest (behind_run is_name_byte byt
 
     by_mark : (c : ℕ) (cs : List ℕ) (b : Bool) → behind_run is_name_byte bytes ≡ c ∷ cs → (c == mark) ≡ b → IsTypeAt reg mark bytes k r
     by_mark c cs true behind_it marked = by_type c cs (type_of_text reg (run_of is_name_byte bytes)) behind_it marked refl (text_finds reg (run_of is_name_byte bytes) named_all)
-    by_mark c cs false behind_it other = absurd (not_ok (name_stop reg bytes) (k, r) (rw (behind_it, other) at e))
+    by_mark c cs false behind_it other = absurd (not_ok (name_stop reg (run_of is_name_byte bytes) (suc (length cs))) (k, r) (rw (behind_it, other) at e))
 
     by_rest : (xs : List ℕ) → behind_run is_name_byte bytes ≡ xs → IsTypeAt reg mark bytes k r
-    by_rest [] none = absurd (not_ok (name_stop reg bytes) (k, r) (rw none at e))
+    by_rest [] none = absurd (not_ok (name_stop reg (run_of is_name_byte bytes) 0) (k, r) (rw none at e))
     by_rest (c ∷ cs) behind_it = by_mark c cs (c == mark) behind_it refl
 
 -- a token is spelled in front, and its type is one of the registry

@@ -130,13 +130,14 @@ unfoldable mutual
 abbrev pub is_misnamed : List Entity → List ℕ → Bool
 is_misnamed reg name = goes_on_identifier (slice_index name (length name - 1)) && is_none (type_of_text reg name)
 
--- how many bytes are left from the first at which the name of no type goes on; where a name stands that is none, from its front on
-abbrev pub name_stop : List Entity → List ℕ → ℕ
-name_stop reg bytes = stop (behind_name bytes)
+-- how many bytes are left from the first at which the name of no type goes on, where so many are left behind a run; where a name stands that is none, from its front on
+abbrev pub name_stop : List Entity → List ℕ → ℕ → ℕ
+name_stop reg run left = stop (behind_name run)
   where
     stop : List ℕ → ℕ
-    stop [] = 0
-    stop (c ∷ cs) = if is_misnamed reg (take (length bytes - suc (length cs)) bytes) then length bytes else suc (length cs)
+    stop behind =
+        if (length behind + left) == 0 then 0
+        else (if is_misnamed reg (take (length run - length behind) run) then length run + left else length behind + left)
 
 -- the name of a type and the mark behind it
 abbrev pub type_at : List Entity → ℕ → List ℕ → Result (Kind × List ℕ) ℕ
@@ -147,8 +148,8 @@ type_at reg mark bytes = closed (behind_run is_name_byte bytes)
     of_name (Some k) cs = Ok (k, cs)
 
     closed : List ℕ → Result (Kind × List ℕ) ℕ
-    closed [] = Err (name_stop reg bytes)
-    closed (c ∷ cs) = if c == mark then of_name (type_of_text reg (run_of is_name_byte bytes)) cs else Err (name_stop reg bytes)
+    closed [] = Err (name_stop reg (run_of is_name_byte bytes) 0)
+    closed (c ∷ cs) = if c == mark then of_name (type_of_text reg (run_of is_name_byte bytes)) cs else Err (name_stop reg (run_of is_name_byte bytes) (suc (length cs)))
 
 -- a type that is not any
 abbrev pub cast_of : ℕ → Kind × List ℕ → Result (Token × List ℕ) ℕ

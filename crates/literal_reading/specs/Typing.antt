@@ -1,15 +1,13 @@
 -- What a reading of tokens gives: what the verdict gives, unless memory ran out.
 use Rattle.std.specs.Borrow.{Bor}
-use Rattle.std.specs.Prelude.{◌≡◌, ◌++◌, Bool, List, map, Option, None, Result, Ok, Err}
+use Rattle.std.specs.Prelude.{◌≡◌, ◌++◌, Bool, List, map, Result, Ok, Err}
 use Rattle.uno_model.specs.Entities as plain
 use Rattle.uno_model.specs.Kinds.{Kind}
-use Rattle.uno_model.specs.Kinds as kd
 use Rattle.literal_model.specs.Readings.{Fault, misfit}
 use Rattle.literal_model.specs.Readings.{is_comma, opens_square, closes_square, opens_curly, closes_curly}
 use Rattle.literal_model.specs.Literals.{Token}
 use Rattle.literal_model.specs.Shapes.{Placed}
 use Rattle.uno_model.specs.Values.{Plain}
-use Rattle.uno_model.specs.Values as v
 use Rattle.uno_types.specs.Members.{fields_at}
 use Rattle.uno_entities.specs.declared.entity.Field.{Field}
 use Rattle.literal_reading.specs.declared.stop.Stop.{Stop}

@@ -1,5 +1,5 @@
 //! The names of types.
-ghost use Rattle.std.specs.Prelude.{◌≡◌, IfOk, IsTrue, option_map};
+ghost use Rattle.std.specs.Prelude.{◌≡◌, length, IfOk, IsTrue, option_map};
 ghost use Rattle.std.specs.List.{list_all};
 ghost use Rattle.literal_model.specs.Shapes.{is_misnamed, is_name_byte, name_stop, type_at};
 ghost use Rattle.uno_model.specs.NamedTypes.{type_of_text};
@@ -26,10 +26,10 @@ pub(crate) fn type_at<'a>(
 {
     let (run, rest) = split_run(Run::Name, bytes);
     let Some((first, behind)) = rest.split_first() else {
-        return Err(Stop::Bad(name_stop(alloc, registry, bytes)?));
+        return Err(Stop::Bad(name_stop(alloc, registry, run, rest)?));
     };
     if *first != mark {
-        return Err(Stop::Bad(name_stop(alloc, registry, bytes)?));
+        return Err(Stop::Bad(name_stop(alloc, registry, run, rest)?));
     }
     let Some(kind) = type_named(alloc, registry, as_text(Run::Name, run))? else {
         return Err(Stop::Bad(bytes.len()));
@@ -37,20 +37,22 @@ pub(crate) fn type_at<'a>(
     Ok((kind, behind))
 }
 
-/// How many bytes are left from the first at which the name of no type goes on.
-fn name_stop(alloc: Global, registry: &Registry, bytes: &[u8]) -> Result<usize, NoMemory>
-    requires { IsSound registry.now }
-    ensures { IfOk result (λ left. left ≡ name_stop registry.now bytes.now) }
+/// How many bytes are left from the first at which the name of no type goes on, where a run and what is behind it are left.
+fn name_stop(alloc: Global, registry: &Registry, run: &[u8], rest: &[u8]) -> Result<usize, NoMemory>
+    requires sound { IsSound registry.now }
+    requires bytes { IsTrue (list_all is_name_byte run.now) }
+    ensures { IfOk result (λ left. left ≡ name_stop registry.now run.now (length rest.now)) }
 {
-    let behind = behind_name(bytes);
-    if behind.is_empty() {
+    let behind = behind_name(run);
+    let left = behind.len() + rest.len();
+    if left == 0 {
         return Ok(0);
     }
-    let (name, _) = bytes.split_at(bytes.len().saturating_sub(behind.len()));
+    let (name, _) = run.split_at(run.len().saturating_sub(behind.len()));
     if is_misnamed(alloc, registry, name)? {
-        return Ok(bytes.len());
+        return Ok(run.len() + rest.len());
     }
-    Ok(behind.len())
+    Ok(left)
 }
 
 fn is_misnamed(alloc: Global, registry: &Registry, name: &[u8]) -> Result<bool, NoMemory>
