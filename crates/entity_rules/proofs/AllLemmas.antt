@@ -2,7 +2,7 @@
 use Rattle.std.proofs.Common.{◌≡◌, Bool, true, false, not, ◌&&◌, ◌||◌, List, [], ◌∷◌, ◌++◌, map, refl, ap, ◌∙◌}
 use Rattle.std.specs.List.{list_all, list_any, flat_map}
 use Rattle.std.proofs.lemmas.List.Folds.{list_all-append}
-use Rattle.uno_model.specs.Registry.{required}
+use Rattle.uno_model.specs.Registry.{mandatory_bases}
 use Rattle.uno_model.specs.Sound.{is_some_list}
 use Rattle.uno_entities.specs.Entities.{base_of}
 use Rattle.uno_entities.specs.declared.entity.Base.{Base}
@@ -46,12 +46,12 @@ pub all_three : {X : Type 0} (p : X → Bool) (xs ys zs : List X) → list_all p
 all_three p xs ys zs = list_all-append p xs (ys ++ zs) ∙ ap (λ b. list_all p xs && b) (list_all-append p ys zs)
 
 -- a base that is not optional is required
-pub any_required : (bases : List Base) → is_some_list (required (map base_of bases)) ≡ list_any (λ b. not b.optional) bases
+pub any_required : (bases : List Base) → is_some_list (mandatory_bases (map base_of bases)) ≡ list_any (λ b. not b.optional) bases
 any_required [] = refl
 any_required (b ∷ bases) = by_option b.optional (any_required bases)
   where
-    by_option : (optional : Bool) → is_some_list (required (map base_of bases)) ≡ list_any (λ b. not b.optional) bases
-        → is_some_list (required (record { optional = optional; name = b.name } ∷ map base_of bases)) ≡ (not optional || list_any (λ b. not b.optional) bases)
+    by_option : (optional : Bool) → is_some_list (mandatory_bases (map base_of bases)) ≡ list_any (λ b. not b.optional) bases
+        → is_some_list (mandatory_bases (record { optional = optional; name = b.name } ∷ map base_of bases)) ≡ (not optional || list_any (λ b. not b.optional) bases)
     by_option true rest = rest
     by_option false rest = refl
 

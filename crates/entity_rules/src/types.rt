@@ -9,7 +9,7 @@ ghost use Rattle.entity_rules.specs.KindTests.{IsAskable, passes};
 use crate::kind_known;
 use uno_entities::{
     Body, Constant, Constructor, Entity, Field, Member, Param, Part, Service, TypeName,
-    elements_plain, is_target, is_value,
+    elements_storable, is_target, is_value,
 };
 
 /// What is asked of a type.
@@ -164,7 +164,7 @@ fn passes(test: KindTest<'_>, kind: &TypeName) -> bool
     match test {
         KindTest::Known(entities) => kind_known(entities, kind),
         KindTest::Value => is_value(kind),
-        KindTest::Result => elements_plain(kind),
+        KindTest::Result => elements_storable(kind),
         KindTest::Target => is_target(kind),
         KindTest::Namable => kind.is_namable(),
     }

@@ -28,7 +28,7 @@ use Rattle.literal_model.specs.Shapes.{Placed, on_ok}
 use Rattle.uno_model.specs.Sound.{all_differ, items_differ}
 use Rattle.uno_model.specs.Spellable.{AreBytes, IsSpellable, AreSpellable}
 use Rattle.uno_model.specs.Types.{is_type}
-use Rattle.uno_model.specs.Values.{Ref, null, own, peer, Plain, Plains, plains, none, more, refs, refs_in, held}
+use Rattle.uno_model.specs.Values.{Ref, null, own, peer, Plain, Plains, plains, none, more, refs, refs_in, object_in}
 use Rattle.uno_model.specs.Values as v
 
 pub append_none : {A : Type 0} (xs ys : List A) → xs ++ ys ≡ [] → (xs ≡ []) × (ys ≡ [])
@@ -279,7 +279,7 @@ tuple_back reg read vs ks ps ts all fits closed spellable e =
 -- ---- each type
 
 -- a type that a value fits is one of the registry
-null_type : (reg : List Entity) (r : Ref) (k : Kind) → RefFits reg k r → held r ≡ [] → is_type reg k ≡ true
+null_type : (reg : List Entity) (r : Ref) (k : Kind) → RefFits reg k r → object_in r ≡ [] → is_type reg k ≡ true
 null_type reg null (kd.interface name) fits closed = fits
 null_type reg null kd.void fits closed = absurd fits
 null_type reg null _ fits closed = absurd fits
@@ -447,7 +447,7 @@ any_comes reg read t x ps ts all fits closed spellable e = by_void (is_void t) r
         let at = one_token ps (cast t) (tokens_of reg x ++ ts) whole in
         valued at.0 at.1 at.2 at.3 other (all t x at.1 ts fits closed spellable at.4)
 
-null_comes : (reg : List Entity) (read : Kind → Reads Plain) (r : Ref) (k : Kind) (ps : List Placed) (ts : List Token) → RefFits reg k r → held r ≡ []
+null_comes : (reg : List Entity) (read : Kind → Reads Plain) (r : Ref) (k : Kind) (ps : List Placed) (ts : List Token) → RefFits reg k r → object_in r ≡ []
     → bare ps ≡ ref_token r ∷ ts
     → Comes (value_step reg read k ps) (v.ref r) ts
 unfolding value_step

@@ -31,10 +31,10 @@ use Rattle.literal_model.specs.Shapes.{is_first_name, is_own_word, is_known_word
 use Rattle.literal_model.specs.Shapes.{element, separator, behind_cast, behind, opened, separator_at, element_at, token_at, Placed, is_at_end, tokens_at, judge}
 use Rattle.uno_model.specs.Sound.{IsSound, is_named, is_there, is_enum, is_struct, is_exception}
 use Rattle.uno_model.specs.Uses.{inner_names}
-use Rattle.uno_model.specs.Sound.{is_interface, kind_known, elements_plain, is_namable, is_some_list, has_member}
+use Rattle.uno_model.specs.Sound.{is_interface, kind_known, elements_storable, is_namable, is_some_list, has_member}
 use Rattle.uno_model.specs.Spellable.{AreBytes, IsSpellable, AreSpellable}
 use Rattle.uno_model.specs.Types.{is_formed, is_type}
-use Rattle.uno_model.specs.Values.{Ref, null, own, peer, Plain, Plains, none, more, refs, refs_in, held}
+use Rattle.uno_model.specs.Values.{Ref, null, own, peer, Plain, Plains, none, more, refs, refs_in, object_in}
 use Rattle.uno_model.specs.Values as v
 
 -- ---- the bytes of a type's name
@@ -102,7 +102,7 @@ AreTokensOf reg [] = Unit
 AreTokensOf reg (t ∷ ts) = IsToken reg t × AreTokensOf reg ts
 
 known_of : (reg : List Entity) (k : Kind) → is_type reg k ≡ true → kind_known reg k ≡ true
-known_of reg k type = (and_parts (kind_known reg k) (elements_plain k) (and_parts (is_formed reg k) (is_namable k) type).0).0
+known_of reg k type = (and_parts (kind_known reg k) (elements_storable k) (and_parts (is_formed reg k) (is_namable k) type).0).0
 
 -- a token that begins a value
 abbrev pub is_front : Token → Bool

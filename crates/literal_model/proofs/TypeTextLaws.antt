@@ -10,7 +10,7 @@ use Rattle.uno_model.proofs.NameLaws.{one_type, none_at_all, none_behind, none_o
 use Rattle.uno_model.specs.Entities.{Entity}
 use Rattle.uno_model.specs.Kinds.{Kind, name_of, nesting}
 use Rattle.uno_model.specs.NamedTypes.{IsNamed, IsNamedWithin, kind_within, type_of_text, word_of}
-use Rattle.uno_model.specs.Sound.{is_named, is_plain, kind_known, elements_plain, is_namable}
+use Rattle.uno_model.specs.Sound.{is_named, is_storable, kind_known, elements_storable, is_namable}
 use Rattle.uno_model.specs.Types.{is_formed, is_type}
 
 -- it is the type that is named, or there is none
@@ -34,9 +34,9 @@ sequence_finds : (reg : List Entity) (text : List ℕ) (levels : ℕ) → list_a
     → Finds (IsNamedWithin reg text (suc levels)) (kind_within (suc levels) reg text)
 unfolding kind_within
 sequence_finds reg text levels named same None reads found = rw (same, reads) (rw (← add-one) (none_behind reg text (drop 2 text) levels named (begins text same) found))
-sequence_finds reg text levels named same (Some k) reads found = by_plain (is_plain k) refl
+sequence_finds reg text levels named same (Some k) reads found = by_plain (is_storable k) refl
   where
-    by_plain : (b : Bool) → is_plain k ≡ b → Finds (IsNamedWithin reg text (suc levels)) (kind_within (suc levels) reg text)
+    by_plain : (b : Bool) → is_storable k ≡ b → Finds (IsNamedWithin reg text (suc levels)) (kind_within (suc levels) reg text)
     by_plain true plain = rw (same, reads, plain) (rw (← add-one) (one_more reg text (drop 2 text) levels k (begins text same) found plain))
     by_plain false plain = rw (same, reads, plain) (none_of_bad reg text (drop 2 text) (suc levels) levels k named (begins text same) found plain)
 
@@ -95,7 +95,7 @@ pub same_found : (reg : List Entity) (text : List ℕ) (found : Option Kind) →
 same_found reg text found named finds = both found (type_of_text reg text) finds (text_finds reg text named)
   where
     known : (k : Kind) → IsNamed reg text k → kind_known reg k ≡ true
-    known k is = (and_parts (kind_known reg k) (elements_plain k) (and_parts (is_formed reg k) (is_namable k) is.is).0).0
+    known k is = (and_parts (kind_known reg k) (elements_storable k) (and_parts (is_formed reg k) (is_namable k) is.is).0).0
 
     both : (o p : Option Kind) → Finds (IsNamed reg text) o → Finds (IsNamed reg text) p → o ≡ p
     both None None none also = refl

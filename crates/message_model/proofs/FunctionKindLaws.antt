@@ -8,7 +8,7 @@ use Rattle.uno_model.specs.Entities.{Body, interface, struct, exception, enum, c
 use Rattle.uno_model.specs.Functions.{Function, getter, setter, call, accessors_of, calls_of, declared_in, declared_by, interfaces_of, functions_of}
 use Rattle.uno_model.specs.Kinds.{Kind}
 use Rattle.uno_model.specs.Registry.{find_entity}
-use Rattle.uno_model.specs.Sound.{IsSound, is_plain}
+use Rattle.uno_model.specs.Sound.{IsSound, is_storable}
 use Rattle.uno_model.specs.Types.{is_type}
 use Rattle.uno_model.specs.Uses.{value_kinds_of, result_kinds_of, value_kinds, result_kinds}
 use Rattle.uno_model.specs.declared.way.Way.{Way}
@@ -60,7 +60,7 @@ module _ (reg : List Entity) where
   accessors_typed owner (method m) values results = refl
   accessors_typed owner (attribute a) values results =
       let member = (and_parts (is_member reg a.kind) true values).0 in
-      let type = (and_parts (is_plain a.kind) (is_type reg a.kind) member).1 in
+      let type = (and_parts (is_storable a.kind) (is_type reg a.kind) member).1 in
       let get = typed (getter owner a) type refl in
       let set = typed (setter owner a) refl (and_from (is_member reg a.kind) true member refl) in
       elim a.read_only as (λ t. list_all is_typed (if t then getter owner a ∷ [] else getter owner a ∷ (setter owner a ∷ [])) ≡ true) [

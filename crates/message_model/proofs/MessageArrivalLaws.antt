@@ -7,7 +7,7 @@ use Rattle.uno_model.specs.Fits.{Fits, FitEach}
 use Rattle.uno_model.specs.Functions.{Function}
 use Rattle.uno_model.specs.Kinds.{Kind}
 use Rattle.uno_model.specs.Kinds as kd
-use Rattle.uno_model.specs.Sound.{IsSound, is_plain}
+use Rattle.uno_model.specs.Sound.{IsSound, is_storable}
 use Rattle.uno_model.specs.Types.{is_type}
 use Rattle.uno_model.specs.Values.{Plain, plains, depth, depth_in}
 use Rattle.uno_model.proofs.UsedKindLaws.{is_member}
@@ -116,7 +116,7 @@ module _ (reg : List Entity) where
         subst (λ ys. Filled d [] ys t) (sym spelled.0) (record { fit = tt; deep = omega arith; oids = oids })
     each_fills d (k ∷ ks) xs s t b are each spelled =
         let p = and_parts (is_member reg k) (list_all (is_member reg) ks) are in
-        let first = value_arrives reg sound d k s spelled.4 spelled.0 spelled.2 (and_parts (is_plain k) (is_type reg k) p.0).1 each spelled.7 in
+        let first = value_arrives reg sound d k s spelled.4 spelled.0 spelled.2 (and_parts (is_storable k) (is_type reg k) p.0).1 each spelled.7 in
         let others = each_fills d ks spelled.1 spelled.4 t spelled.3 p.1 first.oids spelled.8 in
         subst (λ ys. Filled d (k ∷ ks) ys t) (sym spelled.5)
         (record { fit = (first.fits, others.fit); deep = omega (arith, first.deep, others.deep); oids = others.oids })

@@ -1,6 +1,6 @@
 //! The names on which an entity stands, taken from the last to the first.
 ghost use Rattle.std.specs.Prelude.{◌≡◌, ◌++◌, ◌∷◌, [], map, Some, MatchOption};
-ghost use Rattle.uno_model.specs.Registry.{required, stands_on, stands_on_body};
+ghost use Rattle.uno_model.specs.Registry.{mandatory_bases, stands_on, stands_on_body};
 ghost use Rattle.uno_entities.specs.Entities.{base_of, entity_of};
 ghost use Rattle.type_registry.specs.Bases.{names_left};
 
@@ -56,7 +56,7 @@ pub(crate) fn last_of(bases: Bases<'_>) -> Option<(&str, Bases<'_>)>
 }
 
 fn last_required(bases: &[Base]) -> Option<(&str, &[Base])>
-    ensures { MatchOption result (required (map base_of bases.now) ≡ []) (λ x. required (map base_of bases.now) ≡ required (map base_of x.1.now) ++ x.0.now ∷ []) }
+    ensures { MatchOption result (mandatory_bases (map base_of bases.now) ≡ []) (λ x. mandatory_bases (map base_of bases.now) ≡ mandatory_bases (map base_of x.1.now) ++ x.0.now ∷ []) }
 {
     let mut rest = bases;
     while let Some((last, others)) = rest.split_last() {

@@ -13,7 +13,7 @@ use Rattle.uno_model.specs.Registry.{IsRising, leads_to}
 use Rattle.uno_model.specs.Sound.{HasFewFunctions}
 use Rattle.uno_entities.proofs.CountLemmas.{functions_are_marked, no_more_than_all, fewer_below}
 use Rattle.uno_entities.proofs.SpreadLemmas.{entity_at, replicate_unmarked}
-use Rattle.uno_entities.specs.Counts.{FewAt, AllFewBut, KnownFew, joined, total_functions, marked_functions}
+use Rattle.uno_entities.specs.Counts.{FewAt, AllFewBut, KnownFew, marked_in_either, total_functions, marked_functions}
 use Rattle.uno_entities.specs.Entities.{entities_of, entity_of}
 use Rattle.uno_entities.specs.declared.entity.Entity.{Entity}
 
@@ -116,14 +116,14 @@ few_below : (reg : List plain.Entity) (name : List ℕ) (marks : List Bool) → 
 few_below reg name marks rising none of_name low i mark f at = omega (arith, low, fewer_below reg name f.name rising none ((of_name.marked i f at).0 mark))
 
 -- what is joined is as long as the second list, and marks nothing else
-joined_long : (marks known : List Bool) → length (joined marks known) ≡ length known
-unfolding joined
+joined_long : (marks known : List Bool) → length (marked_in_either marks known) ≡ length known
+unfolding marked_in_either
 joined_long [] known = refl
 joined_long (x ∷ xs) [] = refl
 joined_long (x ∷ xs) (k ∷ ks) = omega (arith, joined_long xs ks)
 
-joined_marked : (marks known : List Bool) (i : ℕ) → Marked (joined marks known) i → Marked marks i ⊎ Marked known i
-unfolding joined
+joined_marked : (marks known : List Bool) (i : ℕ) → Marked (marked_in_either marks known) i → Marked marks i ⊎ Marked known i
+unfolding marked_in_either
 joined_marked [] known i m = inr m
 joined_marked (x ∷ xs) [] i m = inr m
 joined_marked (true ∷ xs) (k ∷ ks) zero m = inl refl
@@ -133,27 +133,27 @@ joined_marked (x ∷ xs) (k ∷ ks) (suc i) m = joined_marked xs ks i m
 
 -- one mark more is joined
 join_at : (marks known : List Bool) (i : ℕ) (d : Bool) → length marks ≡ length known → i < length marks
-    → set (joined (take i marks) known) i (get_or (joined (take i marks) known) i d || get_or marks i d) ≡ joined (take (suc i) marks) known
-unfolding joined
+    → set (marked_in_either (take i marks) known) i (get_or (marked_in_either (take i marks) known) i d || get_or marks i d) ≡ marked_in_either (take (suc i) marks) known
+unfolding marked_in_either
 join_at [] known i d long within = absurd (omega (arith, within))
 join_at (x ∷ xs) [] i d long within = absurd (omega (arith, long))
 join_at (x ∷ xs) (k ∷ ks) zero d long within = refl
 join_at (x ∷ xs) (k ∷ ks) (suc i) d long within = ap (λ l. (k || x) ∷ l) (join_at xs ks i d (omega (arith, long)) (omega (arith, within)))
 
-pub join_step : (marks known row : List Bool) (i : ℕ) (d : Bool) → length marks ≡ length known → i < length marks → row ≡ joined (take i marks) known
-    → set row i (get_or row i d || get_or marks i d) ≡ joined (take (i + 1) marks) known
+pub join_step : (marks known row : List Bool) (i : ℕ) (d : Bool) → length marks ≡ length known → i < length marks → row ≡ marked_in_either (take i marks) known
+    → set row i (get_or row i d || get_or marks i d) ≡ marked_in_either (take (i + 1) marks) known
 join_step marks known row i d long within is =
     let one : suc i ≡ i + 1 = omega arith in
-    ap (λ l. set l i (get_or l i d || get_or marks i d)) is ∙ join_at marks known i d long within ∙ ap (λ n. joined (take n marks) known) one
+    ap (λ l. set l i (get_or l i d || get_or marks i d)) is ∙ join_at marks known i d long within ∙ ap (λ n. marked_in_either (take n marks) known) one
 
-pub join_begins : (known : List Bool) → known ≡ joined [] known
-unfolding joined
+pub join_begins : (known : List Bool) → known ≡ marked_in_either [] known
+unfolding marked_in_either
 join_begins known = refl
 
 -- what is marked by a search that found few is known
 joined_few : (reg : List plain.Entity) (place : ℕ) (marks known : List Bool) → IsRising reg → HasNoCircle (leads_to reg) → place < length reg
     → ((e : plain.Entity) → slice_get reg place ≡ Some e → MarksBases reg e.name marks) → FewAt reg place
-    → KnownFew reg known → KnownFew reg (joined marks known)
+    → KnownFew reg known → KnownFew reg (marked_in_either marks known)
 joined_few reg place marks known rising none within marked few_here before =
     let e = entity_at reg place within in
     record {
@@ -168,9 +168,9 @@ joined_few reg place marks known rising none within marked few_here before =
 pub known_more : (reg : List plain.Entity) (place : ℕ) (few : Bool) (marks shown known after : List Bool) → IsRising reg → HasNoCircle (leads_to reg) → place < length reg
     → ((e : plain.Entity) → slice_get reg place ≡ Some e → MarksBases reg e.name marks) → shown ≡ marks
     → IsTrue few ↔ (marked_functions shown reg ≤ 65536)
-    → KnownFew reg known → after ≡ (if few then joined shown known else known) → KnownFew reg after
+    → KnownFew reg known → after ≡ (if few then marked_in_either shown known else known) → KnownFew reg after
 known_more reg place true marks shown known after rising none within marked same says before joins =
-    subst (KnownFew reg) (sym (joins ∙ ap (λ m. joined m known) same))
+    subst (KnownFew reg) (sym (joins ∙ ap (λ m. marked_in_either m known) same))
     (joined_few reg place marks known rising none within marked ((found_few reg place true marks shown rising none within marked same says).0 refl) before)
 known_more reg place false marks shown known after rising none within marked same says before joins = subst (KnownFew reg) (sym joins) before
 

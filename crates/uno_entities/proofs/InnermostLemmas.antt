@@ -3,13 +3,13 @@ use Rattle.std.proofs.Common.{◌≡◌, ℕ, ◌+◌, ◌*◌, ◌++◌, List, 
 use Rattle.std.specs.Prelude.{Bool, true}
 use Rattle.uno_model.specs.Kinds.{Kind, name_of, nesting}
 use Rattle.uno_model.specs.Kinds as kd
-use Rattle.uno_model.specs.Sound.{is_plain, elements_plain}
+use Rattle.uno_model.specs.Sound.{is_storable, elements_storable}
 use Rattle.uno_model.specs.TypeClasses.{class_of}
 use Rattle.uno_model.specs.declared.type_class.TypeClass.TheVariants as class
 use Rattle.uno_entities.specs.TypeNames.{innermost, front_of}
 
 -- the elements of each sequence are plain where the innermost is
-pub elements_innermost : (k : Kind) → elements_plain (kd.sequence k) ≡ is_plain (innermost k)
+pub elements_innermost : (k : Kind) → elements_storable (kd.sequence k) ≡ is_storable (innermost k)
 elements_innermost (kd.sequence k) = elements_innermost k
 elements_innermost kd.void = refl
 elements_innermost kd.char = refl
@@ -29,7 +29,7 @@ elements_innermost (kd.struct name) = refl
 elements_innermost (kd.exception name) = refl
 elements_innermost (kd.interface name) = refl
 
-pub sequence_plain : (k : Kind) → class_of k ≡ class.Sequence → elements_plain k ≡ is_plain (innermost k)
+pub sequence_plain : (k : Kind) → class_of k ≡ class.Sequence → elements_storable k ≡ is_storable (innermost k)
 sequence_plain k is = grind (arith, elements_innermost)
 
 -- a name is two bytes for each sequence, and the name of the innermost

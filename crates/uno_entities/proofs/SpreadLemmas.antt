@@ -7,7 +7,7 @@ use Rattle.std.proofs.lemmas.List.{length-set, length_push, map_more, length-rep
 use Rattle.std.proofs.lemmas.List.Elements.{Contains-append_left, Contains-append_right, Contains-push, Contains-push_cases, Contains-append_cases}
 use Rattle.uno_model.specs.Entities.{Entity, Base}
 use Rattle.uno_entities.specs.Marks.{Marked, AllMarked, MarksBases}
-use Rattle.uno_model.specs.Registry.{IsRising, find_entity, stands_on, stands_on_body, required, IsBaseOf}
+use Rattle.uno_model.specs.Registry.{IsRising, find_entity, stands_on, stands_on_body, mandatory_bases, IsBaseOf}
 use Rattle.uno_model.specs.Circles.{Leads, step, on}
 use Rattle.uno_model.proofs.FindLaws.{distinct_places}
 use Rattle.uno_model.proofs.ReachLaws.{found_place}
@@ -178,21 +178,21 @@ pub spreads_none : (reg : List Entity) (marks : List Bool) (pending : List ℕ) 
 spreads_none reg marks pending = spreads_nothing reg [] marks pending (λ i e at has. omega (arith, has.1))
 
 -- the names of the required bases, with one base more
-pub required_more : (bases : List Base) (b : Base) → required (bases ++ b ∷ []) ≡ required bases ++ required (b ∷ [])
+pub required_more : (bases : List Base) (b : Base) → mandatory_bases (bases ++ b ∷ []) ≡ mandatory_bases bases ++ mandatory_bases (b ∷ [])
 required_more [] b = refl
 required_more (x ∷ xs) b = by_test (not x.optional) (required_more xs b)
   where
-    by_test : (t : Bool) → required (xs ++ b ∷ []) ≡ required xs ++ required (b ∷ [])
+    by_test : (t : Bool) → mandatory_bases (xs ++ b ∷ []) ≡ mandatory_bases xs ++ mandatory_bases (b ∷ [])
         → map (λ y. y.name) (if t then x ∷ filter (λ y. not y.optional) (xs ++ b ∷ []) else filter (λ y. not y.optional) (xs ++ b ∷ []))
-        ≡ map (λ y. y.name) (if t then x ∷ filter (λ y. not y.optional) xs else filter (λ y. not y.optional) xs) ++ required (b ∷ [])
+        ≡ map (λ y. y.name) (if t then x ∷ filter (λ y. not y.optional) xs else filter (λ y. not y.optional) xs) ++ mandatory_bases (b ∷ [])
     by_test true e = ap (λ ns. x.name ∷ ns) e
     by_test false e = e
 
 -- the names of the required bases, one base further in the list
 pub required_step : (bases : List types.Base) (i : ℕ) (b : types.Base) → i < length bases → b ≡ get_or bases i b
-    → required (map base_of (take (i + 1) bases)) ≡ required (map base_of (take i bases)) ++ required (base_of b ∷ [])
+    → mandatory_bases (map base_of (take (i + 1) bases)) ≡ mandatory_bases (map base_of (take i bases)) ++ mandatory_bases (base_of b ∷ [])
 required_step bases i b within is =
-    ap required (map_more base_of bases i b within ∙ ap (λ x. map base_of (take i bases) ++ base_of x ∷ []) (sym is))
+    ap mandatory_bases (map_more base_of bases i b within ∙ ap (λ x. map base_of (take i bases) ++ base_of x ∷ []) (sym is))
     ∙ required_more (map base_of (take i bases)) (base_of b)
 
 -- a way goes one step further

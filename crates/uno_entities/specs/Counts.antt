@@ -47,7 +47,7 @@ pub record KnownFew (reg : List Entity) (known : List Bool) : Type 0 where
   pub few : (place : ℕ) → Marked known place → FewAt reg place
 
 -- what is marked in the one or the other
-unfoldable pub joined : List Bool → List Bool → List Bool
-joined [] known = known
-joined (mark ∷ marks) [] = []
-joined (mark ∷ marks) (k ∷ ks) = (k || mark) ∷ joined marks ks
+unfoldable pub marked_in_either : List Bool → List Bool → List Bool
+marked_in_either [] known = known
+marked_in_either (mark ∷ marks) [] = []
+marked_in_either (mark ∷ marks) (k ∷ ks) = (k || mark) ∷ marked_in_either marks ks

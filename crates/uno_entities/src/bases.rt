@@ -2,7 +2,7 @@
 ghost use Rattle.std.specs.Prelude.{◌≡◌, ◌<◌, [], ◌∷◌, length, map, take, IfOk, OnOk, slice_get, slice_set, replicate, false, true, Some};
 ghost use Rattle.uno_model.specs.Entities as plain;
 ghost use Rattle.uno_entities.specs.Marks.{MarksBases};
-ghost use Rattle.uno_model.specs.Registry.{IsRising, stands_on_body, required, at_most_one};
+ghost use Rattle.uno_model.specs.Registry.{IsRising, stands_on_body, mandatory_bases, at_most_one};
 ghost use Rattle.uno_entities.specs.Entities.{entity_of, entities_of, base_of, body_of};
 ghost use Rattle.uno_entities.specs.Spreading.{MarksPlace, Spreads, Searched};
 
@@ -47,7 +47,7 @@ fn mark_place(place: usize, search: &mut Search) -> Result<(), NoMemory>
 fn mark_required(entities: &[Entity], bases: &[Base], search: &mut Search) -> Result<(), NoMemory>
     requires rising { IsRising (entities_of entities.now) }
     requires long { length search.old.marks.items ≡ length entities.now }
-    ensures { OnOk result (Spreads (entities_of entities.now) (required (map base_of bases.now)) search.old.marks.items search.old.pending.items search.new.marks.items search.new.pending.items) }
+    ensures { OnOk result (Spreads (entities_of entities.now) (mandatory_bases (map base_of bases.now)) search.old.marks.items search.old.pending.items search.new.marks.items search.new.pending.items) }
 {
     for base in bases {
         mark_unless_optional(entities, base, search)?;
@@ -63,7 +63,7 @@ fn mark_unless_optional(
 ) -> Result<(), NoMemory>
     requires rising { IsRising (entities_of entities.now) }
     requires long { length search.old.marks.items ≡ length entities.now }
-    ensures { OnOk result (Spreads (entities_of entities.now) (required (base_of base.now ∷ [])) search.old.marks.items search.old.pending.items search.new.marks.items search.new.pending.items) }
+    ensures { OnOk result (Spreads (entities_of entities.now) (mandatory_bases (base_of base.now ∷ [])) search.old.marks.items search.old.pending.items search.new.marks.items search.new.pending.items) }
 {
     if base.optional {
         return Ok(());

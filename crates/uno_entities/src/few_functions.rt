@@ -3,7 +3,7 @@ ghost use Rattle.std.specs.Prelude.{◌≡◌, ◌<◌, ◌≤◌, ◌↔◌, le
 ghost use Rattle.uno_model.specs.Circles.{HasNoCircle};
 ghost use Rattle.uno_model.specs.Registry.{IsRising, leads_to};
 ghost use Rattle.uno_model.specs.Sound.{HasFewFunctions};
-ghost use Rattle.uno_entities.specs.Counts.{FewAt, AllFewBut, KnownFew, joined, marked_functions};
+ghost use Rattle.uno_entities.specs.Counts.{FewAt, AllFewBut, KnownFew, marked_in_either, marked_functions};
 ghost use Rattle.uno_entities.specs.Entities.{entities_of};
 
 use crate::Entity;
@@ -130,7 +130,7 @@ fn few_are_marked(marks: &[bool], entities: &[Entity], known: &mut [bool]) -> bo
     requires marks { length marks.now ≡ length entities.now }
     requires known { length marks.now ≡ length known.old }
     ensures few { IsTrue result ↔ (marked_functions marks.now (entities_of entities.now) ≤ 65536) }
-    ensures after { known.new ≡ (if result then joined marks.now known.old else known.old) }
+    ensures after { known.new ≡ (if result then marked_in_either marks.now known.old else known.old) }
 {
     if functions_of_marked(marks, entities) > MOST {
         return false;
@@ -142,7 +142,7 @@ fn few_are_marked(marks: &[bool], entities: &[Entity], known: &mut [bool]) -> bo
 /// Marks in the second list what is marked in the first.
 fn mark_all(marks: &[bool], known: &mut [bool])
     requires { length marks.now ≡ length known.old }
-    ensures { known.new ≡ joined marks.now known.old }
+    ensures { known.new ≡ marked_in_either marks.now known.old }
 {
     for place in 0..marks.len() {
         known[place] = known[place] | marks[place];

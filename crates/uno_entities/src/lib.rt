@@ -36,5 +36,5 @@ pub use text::{Text, is_identity};
 pub use tid::Tid;
 pub use type_limits::{MOST_BYTES, MOST_LEVELS};
 pub use type_name::TypeName;
-pub use type_rules::{elements_plain, is_plain, is_target, is_value};
+pub use type_rules::{elements_storable, is_storable, is_target, is_value};
 pub use uno_model::{Flags, TypeClass, Way};

@@ -1,13 +1,13 @@
 //! What a type may stand for: a value, or the target of a typedef.
 ghost use Rattle.std.specs.Prelude.{◌≡◌};
-ghost use Rattle.uno_model.specs.Sound.{is_plain, elements_plain, is_target, is_value};
+ghost use Rattle.uno_model.specs.Sound.{is_storable, elements_storable, is_target, is_value};
 ghost use Rattle.uno_entities.specs.TypeNames.{kind_of};
 
 use crate::{TypeClass, TypeName};
 
 /// Whether it is neither void nor an exception.
-pub fn is_plain(kind: &TypeName) -> bool
-    ensures { result ≡ is_plain (kind_of kind.now) }
+pub fn is_storable(kind: &TypeName) -> bool
+    ensures { result ≡ is_storable (kind_of kind.now) }
 {
     match kind.class() {
         TypeClass::Void | TypeClass::Exception => false,
@@ -17,20 +17,20 @@ pub fn is_plain(kind: &TypeName) -> bool
 
 /// Whether the elements of each sequence in it are plain.
 #[tactic(auto, using(crate::proofs::InnermostLemmas::sequence_plain))]
-pub fn elements_plain(kind: &TypeName) -> bool
-    ensures { result ≡ elements_plain (kind_of kind.now) }
+pub fn elements_storable(kind: &TypeName) -> bool
+    ensures { result ≡ elements_storable (kind_of kind.now) }
 {
     if kind.class() != TypeClass::Sequence {
         return true;
     }
-    is_plain(kind.innermost())
+    is_storable(kind.innermost())
 }
 
 /// Whether a parameter, an attribute, a member or a constant may have it.
 pub fn is_value(kind: &TypeName) -> bool
     ensures { result ≡ is_value (kind_of kind.now) }
 {
-    is_plain(kind) && elements_plain(kind)
+    is_storable(kind) && elements_storable(kind)
 }
 
 /// Whether a typedef may stand for it.
@@ -40,5 +40,5 @@ pub fn is_target(kind: &TypeName) -> bool
     if kind.class() == TypeClass::Void {
         return false;
     }
-    elements_plain(kind)
+    elements_storable(kind)
 }

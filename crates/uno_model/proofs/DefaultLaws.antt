@@ -14,7 +14,7 @@ use Rattle.uno_model.specs.Fits.{Fits, FitEach, FitAll, member_kinds}
 use Rattle.uno_model.specs.Kinds.{Kind}
 use Rattle.uno_model.specs.Kinds as kd
 use Rattle.uno_model.specs.Registry.{find_entity, at_most_one, contained, struct_in, leads_to, leads_to_body, member_bases, own_members, members_within, all_members}
-use Rattle.uno_model.specs.Sound.{IsSound, is_there, is_struct, bases_known, is_plain, is_namable, elements_plain, kind_known}
+use Rattle.uno_model.specs.Sound.{IsSound, is_there, is_struct, bases_known, is_storable, is_namable, elements_storable, kind_known}
 use Rattle.uno_model.specs.Types.{is_type, is_formed}
 use Rattle.uno_model.specs.Values.{Plain, Plains, plains, refs, refs_in, tuple, bytes, list, none, more}
 use Rattle.uno_model.proofs.CircleLaws.{all_at, led_ends, ends_more, none_ends_at_once}
@@ -139,7 +139,7 @@ module _ (reg : List Entity) (sound : IsSound reg) where
   member_at name k has = all_at (is_member reg) (member_kinds reg name) k (members_ruled reg sound name) has
 
   typed : (k : Kind) → is_member reg k ≡ true → is_type reg k ≡ true
-  typed k is = (and_parts (is_plain k) (is_type reg k) is).1
+  typed k is = (and_parts (is_storable k) (is_type reg k) is).1
 
   abbrev tuple_within : ℕ → List ℕ → Plain
   tuple_within levels name = tuple name (plains (map (default_within levels reg) (member_kinds reg name)))

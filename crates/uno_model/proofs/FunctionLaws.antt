@@ -12,7 +12,7 @@ use Rattle.uno_model.specs.BuiltIn.{x_interface, x_interface_name}
 use Rattle.uno_model.specs.Circles.{Leads, step, on, HasNoCircle, ends_within}
 use Rattle.uno_model.specs.Entities.{Entity, Body, Base, Member, interface, struct, exception}
 use Rattle.uno_model.specs.Functions.{Function, declared_by, declared_in, is_met, visit_all, met_within, visit, interfaces_of, functions_of, root_functions}
-use Rattle.uno_model.specs.Registry.{find_entity, required, at_most_one, stands_on, stands_on_body, leads_to, IsBaseOf}
+use Rattle.uno_model.specs.Registry.{find_entity, mandatory_bases, at_most_one, stands_on, stands_on_body, leads_to, IsBaseOf}
 use Rattle.uno_model.specs.Sound.{IsSound, is_there, is_interface, is_struct, is_exception, bases_known, is_complete, is_some_list}
 use Rattle.uno_model.proofs.CircleLaws.{none_ends_at_once, next_ends, all_at}
 use Rattle.uno_model.proofs.UsedKindLaws.{found_entity}
@@ -88,7 +88,7 @@ RootOrBase reg name = (name ≡ x_interface_name) ⊎ ((first : List ℕ) × (ot
 
 -- a fact of all bases holds of the first that is required
 required_there : (test : List ℕ → Bool) (bases : List Base) (first : List ℕ) (others : List (List ℕ)) → list_all (λ b. test b.name) bases ≡ true
-    → required bases ≡ first ∷ others → test first ≡ true
+    → mandatory_bases bases ≡ first ∷ others → test first ≡ true
 required_there test bases first others all are =
     let named = required_named bases first (subst (λ ns. Contains ns first) (sym are) (contains_head first others)) in
     all_at test (map (λ b. b.name) bases) first (list_all-map test (λ b. b.name) bases ∙ all) named
@@ -104,7 +104,7 @@ of_root name (first ∷ others) has = inr (first, others, refl)
 
 -- an interface keeps the rule that it has a base, or is the root
 has_root : (e : Entity) (bases : List Base) (members : List Member) → e.body ≡ interface bases members → is_complete e ≡ true
-    → (bytes_eq e.name x_interface_name || is_some_list (required bases)) ≡ true
+    → (bytes_eq e.name x_interface_name || is_some_list (mandatory_bases bases)) ≡ true
 has_root e bases members is complete = sym (ap (λ b. is_complete (record { name = e.name; published = e.published; body = b })) is) ∙ complete
 
 interface_of : (body : Body) → is_interface body ≡ true → (bases : List Base) × (members : List Member) × (body ≡ interface bases members)
@@ -129,9 +129,9 @@ interface_there reg name e sound found is =
     let bases = body.0 in
     let complete = found_entity is_complete name reg e sound.complete found in
     let known = found_entity (λ d. bases_known reg d.body) name reg e sound.bases found in
-    let stands : stands_on reg name ≡ required bases = ap stands_on_body found ∙ ap (λ b. stands_on_body (Some (record { name = e.name; published = e.published; body = b }))) body.2 in
+    let stands : stands_on reg name ≡ mandatory_bases bases = ap stands_on_body found ∙ ap (λ b. stands_on_body (Some (record { name = e.name; published = e.published; body = b }))) body.2 in
     let each : list_all (λ b. is_there reg is_interface b.name) bases ≡ true = sym (ap (bases_known reg) body.2) ∙ known.0 in
-    elim (of_root e.name (required bases) (has_root e bases body.1 body.2 complete.0)) [
+    elim (of_root e.name (mandatory_bases bases) (has_root e bases body.1 body.2 complete.0)) [
       | inl root ↦ inl (sym complete.1 ∙ root)
       | inr base ↦ inr (base.0, base.1, stands ∙ base.2, required_there (is_there reg is_interface) bases base.0 base.1 each base.2)
     ]

@@ -8,7 +8,7 @@ use Rattle.uno_model.specs.Fits.{IsTupleKind, member_kinds}
 use Rattle.uno_model.specs.Kinds.{Kind}
 use Rattle.uno_model.specs.Kinds as kd
 use Rattle.uno_model.specs.Registry.{find_entity, member_bases, own_members, members_within, all_members}
-use Rattle.uno_model.specs.Sound.{IsSound, is_struct, is_exception, is_there, has_member, is_some_list, kind_known, is_namable, is_plain}
+use Rattle.uno_model.specs.Sound.{IsSound, is_struct, is_exception, is_there, has_member, is_some_list, kind_known, is_namable, is_storable}
 use Rattle.uno_model.specs.Types.{is_type, is_formed}
 use Rattle.uno_model.specs.Uses.{value_kinds}
 use Rattle.uno_model.proofs.AllLaws.{all_append, all_flat, all_pass, each_of_both}
@@ -91,4 +91,4 @@ members_some reg name k sound at is = some_kinds (all_members reg name) (elim at
 pub members_formed : (reg : List Entity) (name : List ℕ) → IsSound reg → list_all (is_formed reg) (member_kinds reg name) ≡ true
 members_formed reg name sound =
     (each_of_both (is_formed reg) is_namable (member_kinds reg name)
-    (each_of_both is_plain (is_type reg) (member_kinds reg name) (members_ruled reg sound name)).1).0
+    (each_of_both is_storable (is_type reg) (member_kinds reg name) (members_ruled reg sound name)).1).0

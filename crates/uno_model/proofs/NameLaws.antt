@@ -11,7 +11,7 @@ use Rattle.uno_model.specs.Kinds as kd
 use Rattle.uno_model.specs.NamedTypes.{IsNamedWithin, kind_of_body, kind_of_entity, simple_of, word_of}
 use Rattle.uno_model.specs.Names.{is_entity_name, parts_of}
 use Rattle.uno_model.specs.Registry.{find_entity}
-use Rattle.uno_model.specs.Sound.{is_named, is_there, is_enum, is_struct, is_exception, is_interface, kind_known, elements_plain, is_plain}
+use Rattle.uno_model.specs.Sound.{is_named, is_there, is_enum, is_struct, is_exception, is_interface, kind_known, elements_storable, is_storable}
 
 -- what is found has the name that was asked
 pub found_name : (reg : List Entity) (name : List ℕ) (e : Entity) → list_all is_named reg ≡ true → find_entity name reg ≡ Some e → is_entity_name name ≡ true
@@ -185,9 +185,9 @@ pub none_behind : (reg : List Entity) (text rest : List ℕ) (levels : ℕ) → 
 none_behind reg text rest levels named split none (kd.sequence k) is =
     let whole : codes "[]" ++ name_of k ≡ codes "[]" ++ rest = is.named ∙ split in
     let behind : name_of k ≡ rest = cc in
-    let plain = and_parts (is_plain k) (elements_plain k) (and_parts (kind_known reg k) _ is.formed).1 in
+    let plain = and_parts (is_storable k) (elements_storable k) (and_parts (kind_known reg k) _ is.formed).1 in
     let known = (and_parts (kind_known reg k) _ is.formed).0 in
-    none k (record { named = behind; formed = and_from (kind_known reg k) (elements_plain k) known plain.1; within = omega (arith, is.within) })
+    none k (record { named = behind; formed = and_from (kind_known reg k) (elements_storable k) known plain.1; within = omega (arith, is.within) })
 none_behind reg text rest levels named split none k is = no_front reg k (93 ∷ rest) named refl (and_parts (kind_known reg k) _ is.formed).0 (is.named ∙ split)
 
 -- within no levels nothing that begins with `[]` is named
@@ -197,31 +197,31 @@ none_at_all reg text rest named split k is = no_front reg k (93 ∷ rest) named 
 
 -- where the type behind `[]` may be no element, nothing is named by the whole
 pub none_of_bad : (reg : List Entity) (text rest : List ℕ) (levels below : ℕ) (j : Kind) → list_all is_named reg ≡ true → text ≡ codes "[]" ++ rest
-    → IsNamedWithin reg rest below j → is_plain j ≡ false → (k : Kind) → IsNamedWithin reg text levels k → ⊥
+    → IsNamedWithin reg rest below j → is_storable j ≡ false → (k : Kind) → IsNamedWithin reg text levels k → ⊥
 none_of_bad reg text rest levels below j named split found bad (kd.sequence k) is =
     let whole : codes "[]" ++ name_of k ≡ codes "[]" ++ rest = is.named ∙ split in
     let behind : name_of k ≡ rest = cc in
     let parts = and_parts (kind_known reg k) _ is.formed in
     let known = (and_parts (kind_known reg j) _ found.formed).0 in
     let same = one_type reg k j named parts.0 known (behind ∙ sym found.named) in
-    both_ways (is_plain k) (ap is_plain same ∙ bad) (and_parts (is_plain k) (elements_plain k) parts.1).0
+    both_ways (is_storable k) (ap is_storable same ∙ bad) (and_parts (is_storable k) (elements_storable k) parts.1).0
 none_of_bad reg text rest levels below j named split found bad k is = no_front reg k (93 ∷ rest) named refl (and_parts (kind_known reg k) _ is.formed).0 (is.named ∙ split)
 
 -- a type behind `[]` that may be an element gives the type of the whole
 pub one_more : (reg : List Entity) (text rest : List ℕ) (levels : ℕ) (j : Kind) → text ≡ codes "[]" ++ rest → IsNamedWithin reg rest levels j
-    → is_plain j ≡ true → IsNamedWithin reg text (levels + 1) (kd.sequence j)
+    → is_storable j ≡ true → IsNamedWithin reg text (levels + 1) (kd.sequence j)
 one_more reg text rest levels j split found good =
     let parts = and_parts (kind_known reg j) _ found.formed in
     record {
       named = ap (λ t. codes "[]" ++ t) found.named ∙ sym split;
-      formed = and_from (kind_known reg j) _ parts.0 (and_from (is_plain j) (elements_plain j) good parts.1);
+      formed = and_from (kind_known reg j) _ parts.0 (and_from (is_storable j) (elements_storable j) good parts.1);
       within = omega (arith, found.within);
     }
 
 -- ---- the word behind the brackets
 
 -- one word more that a text may be
-simple_step : (reg : List Entity) (text : List ℕ) (k j : Kind) → kind_known reg k ≡ true → elements_plain k ≡ true → nesting k ≡ 0
+simple_step : (reg : List Entity) (text : List ℕ) (k j : Kind) → kind_known reg k ≡ true → elements_storable k ≡ true → nesting k ≡ 0
     → (rest : Option Kind) → (rest ≡ Some j → IsNamedWithin reg text 0 j)
     → (if bytes_eq text (name_of k) then Some k else rest) ≡ Some j → IsNamedWithin reg text 0 j
 simple_step reg text k j known flat level rest behind found = by_test (bytes_eq text (name_of k)) refl
@@ -233,7 +233,7 @@ simple_step reg text k j known flat level rest behind found = by_test (bytes_eq 
         subst (IsNamedWithin reg text 0) is
         (record {
           named = sym ((bytes_eq-Decides text (name_of k)).0 same);
-          formed = and_from (kind_known reg k) (elements_plain k) known flat;
+          formed = and_from (kind_known reg k) (elements_storable k) known flat;
           within = omega (arith, level);
         })
     by_test false other = behind (rw other at found)

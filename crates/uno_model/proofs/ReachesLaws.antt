@@ -10,7 +10,7 @@ use Rattle.std.proofs.lemmas.Slice.Eq.{bytes_eq-Decides}
 use Rattle.uno_model.specs.Circles.{Leads, step, on, HasNoCircle, ends_within}
 use Rattle.uno_model.specs.Entities.{Entity, Base, Body, interface, struct, exception}
 use Rattle.uno_model.specs.Reaches.{reaches_within}
-use Rattle.uno_model.specs.Registry.{find_entity, required, at_most_one, contained, stands_on, stands_on_body, leads_to, leads_to_body, IsBaseOf}
+use Rattle.uno_model.specs.Registry.{find_entity, mandatory_bases, at_most_one, contained, stands_on, stands_on_body, leads_to, leads_to_body, IsBaseOf}
 use Rattle.uno_model.proofs.CircleLaws.{next_ends, none_ends_at_once, no_circle_ends}
 use Rattle.uno_model.proofs.FindLaws.{same_equal}
 use Rattle.uno_model.proofs.PlaceLaws.{contains_cases, contains_head, contains_behind, at_slice}
@@ -85,13 +85,13 @@ base_is_reached levels reg to from ends (inl same) = subst (λ n. reaches_within
 base_is_reached levels reg to from ends (inr way) = led_is_reached levels reg to from ends way
 
 -- what is required is among the bases
-pub required_named : (bases : List Base) (name : List ℕ) → Contains (required bases) name → Contains (map (λ b. b.name) bases) name
+pub required_named : (bases : List Base) (name : List ℕ) → Contains (mandatory_bases bases) name → Contains (map (λ b. b.name) bases) name
 required_named [] name has = has
 required_named (b ∷ bases) name has = by_test (not b.optional) has (required_named bases name)
   where
     by_test : (t : Bool) → Contains (map (λ x. x.name) (if t then b ∷ filter (λ x. not x.optional) bases else filter (λ x. not x.optional) bases)) name
-        → (Contains (required bases) name → Contains (map (λ x. x.name) bases) name) → Contains (map (λ x. x.name) (b ∷ bases)) name
-    by_test true it behind = elim (contains_cases b.name (required bases) name it) [
+        → (Contains (mandatory_bases bases) name → Contains (map (λ x. x.name) bases) name) → Contains (map (λ x. x.name) (b ∷ bases)) name
+    by_test true it behind = elim (contains_cases b.name (mandatory_bases bases) name it) [
       | inl here ↦ subst (Contains (map (λ x. x.name) (b ∷ bases))) here (contains_head b.name (map (λ x. x.name) bases))
       | inr more ↦ contains_behind b.name (map (λ x. x.name) bases) name (behind more)
     ]

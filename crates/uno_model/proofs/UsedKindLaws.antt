@@ -7,7 +7,7 @@ use Rattle.std.proofs.lemmas.Slice.Eq.{bytes_eq-Decides}
 use Rattle.uno_model.specs.Entities.{Entity, Body}
 use Rattle.uno_model.specs.Kinds.{Kind}
 use Rattle.uno_model.specs.Registry.{find_entity}
-use Rattle.uno_model.specs.Sound.{IsSound, types_known, types_allowed, is_within_limits, is_plain, elements_plain, is_value, is_target, is_namable, kind_known}
+use Rattle.uno_model.specs.Sound.{IsSound, types_known, types_allowed, is_within_limits, is_storable, elements_storable, is_value, is_target, is_namable, kind_known}
 use Rattle.uno_model.specs.Sound.{few_modules, short_name, few_params, is_type_body}
 use Rattle.uno_model.specs.Types.{is_type, is_formed}
 use Rattle.uno_model.specs.Uses.{value_kinds, result_kinds, target_kinds, kinds_in, param_counts}
@@ -28,17 +28,17 @@ found_entity P name (d ∷ ds) e all found = by_test (bytes_eq name d.name) refl
 
 -- what a member may be: a type of the registry, neither void nor an exception
 abbrev pub is_member : List Entity → Kind → Bool
-is_member reg k = is_plain k && is_type reg k
+is_member reg k = is_storable k && is_type reg k
 
 module _ (reg : List Entity) where
   -- types whose names are known and short, and whose elements are allowed
-  all_types : (ks : List Kind) → list_all (kind_known reg) ks ≡ true → list_all is_namable ks ≡ true → list_all elements_plain ks ≡ true → list_all (is_type reg) ks ≡ true
-  all_types ks known namable plain = all_both (is_formed reg) is_namable ks (all_both (kind_known reg) elements_plain ks known plain) namable
+  all_types : (ks : List Kind) → list_all (kind_known reg) ks ≡ true → list_all is_namable ks ≡ true → list_all elements_storable ks ≡ true → list_all (is_type reg) ks ≡ true
+  all_types ks known namable plain = all_both (is_formed reg) is_namable ks (all_both (kind_known reg) elements_storable ks known plain) namable
 
   all_members_are : (ks : List Kind) → list_all (kind_known reg) ks ≡ true → list_all is_namable ks ≡ true → list_all is_value ks ≡ true → list_all (is_member reg) ks ≡ true
   all_members_are ks known namable values =
-      let parts = each_of_both is_plain elements_plain ks values in
-      all_both is_plain (is_type reg) ks parts.0 (all_types ks known namable parts.1)
+      let parts = each_of_both is_storable elements_storable ks values in
+      all_both is_storable (is_type reg) ks parts.0 (all_types ks known namable parts.1)
 
   module _ (sound : IsSound reg) (name : List ℕ) (e : Entity) (found : find_entity name reg ≡ Some e) where
     -- of all its types: that they are known, and that they are short
@@ -52,10 +52,10 @@ module _ (reg : List Entity) where
         let params = list_all few_params (param_counts e.body) in
         (and_parts namable params (and_parts own (namable && params) (found_entity is_within_limits name reg e sound.limits found).0).1).0
 
-    allowed : (list_all is_value (value_kinds e.body) ≡ true) × (list_all elements_plain (result_kinds e.body) ≡ true)
+    allowed : (list_all is_value (value_kinds e.body) ≡ true) × (list_all elements_storable (result_kinds e.body) ≡ true)
     allowed =
         let values = list_all is_value (value_kinds e.body) in
-        let results = list_all elements_plain (result_kinds e.body) in
+        let results = list_all elements_storable (result_kinds e.body) in
         let targets = list_all is_target (target_kinds e.body) in
         let parts = and_parts values (results && targets) (found_entity (λ d. types_allowed d.body) name reg e sound.allowed found).0 in
         (parts.0, (and_parts results targets parts.1).0)

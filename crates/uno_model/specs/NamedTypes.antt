@@ -6,7 +6,7 @@ use Rattle.uno_model.specs.Entities as plain
 use Rattle.uno_model.specs.Kinds.{Kind, name_of, nesting}
 use Rattle.uno_model.specs.Kinds as kd
 use Rattle.uno_model.specs.Registry.{find_entity}
-use Rattle.uno_model.specs.Sound.{is_plain}
+use Rattle.uno_model.specs.Sound.{is_storable}
 use Rattle.uno_model.specs.Types.{is_formed, is_type}
 
 -- the text is the name of this type of the registry
@@ -65,7 +65,7 @@ kind_within (suc levels) reg text = if bytes_eq (take 2 text) (codes "[]") then 
   where
     sequence_of : Option Kind → Option Kind
     sequence_of None = None
-    sequence_of (Some k) = if is_plain k then Some (kd.sequence k) else None
+    sequence_of (Some k) = if is_storable k then Some (kd.sequence k) else None
 
 -- the type of the registry of this name
 unfoldable pub type_of_text : List Entity → List ℕ → Option Kind

@@ -27,8 +27,8 @@ pub record Adds (old new : List Entity) (entity : Entity) : Type 0 where
   pub after : new ≡ front ++ entity ∷ back
 
 -- the names of the bases that are not optional
-abbrev pub required : List Base → List (List ℕ)
-required bases = map (λ b. b.name) (filter (λ b. not b.optional) bases)
+abbrev pub mandatory_bases : List Base → List (List ℕ)
+mandatory_bases bases = map (λ b. b.name) (filter (λ b. not b.optional) bases)
 
 -- a base, where there is one
 abbrev pub at_most_one : Option (List ℕ) → List (List ℕ)
@@ -41,7 +41,7 @@ stands_on_body None = []
 stands_on_body (Some e) = bases_of e.body
   where
     bases_of : Body → List (List ℕ)
-    bases_of (interface bases members) = required bases
+    bases_of (interface bases members) = mandatory_bases bases
     bases_of (struct base members) = at_most_one base
     bases_of (exception base members) = at_most_one base
     bases_of _ = []

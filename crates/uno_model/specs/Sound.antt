@@ -8,7 +8,7 @@ use Rattle.uno_model.specs.Kinds as kd
 use Rattle.uno_model.specs.Names.{is_identifier, is_entity_name, parts_of}
 use Rattle.uno_model.specs.Entities.{Entity, Body, Base, Member, attribute, method, interface}
 use Rattle.uno_model.specs.Entities.{struct, exception, enum, constants, typedef, new_service, old_service, new_singleton, old_singleton}
-use Rattle.uno_model.specs.Registry.{find_entity, at_most_one, required, all_members, leads_to}
+use Rattle.uno_model.specs.Registry.{find_entity, at_most_one, mandatory_bases, all_members, leads_to}
 use Rattle.uno_model.specs.Uses.{inner_names, raised_names, interfaces_used, services_used, value_kinds, result_kinds, target_kinds, kinds_in, param_counts}
 use Rattle.uno_model.specs.Functions.{functions_of}
 
@@ -91,28 +91,28 @@ types_known reg body = list_all (kind_known reg) (kinds_in body)
 
 -- ---- void is a method's result alone, and exceptions are no members, parameters or elements
 
--- neither void nor an exception
-abbrev pub is_plain : Kind → Bool
-is_plain kd.void = false
-is_plain (kd.exception name) = false
-is_plain _ = true
+-- its values may be members, parameters and elements: neither void nor an exception
+abbrev pub is_storable : Kind → Bool
+is_storable kd.void = false
+is_storable (kd.exception name) = false
+is_storable _ = true
 
--- the elements of each sequence in it are plain
-abbrev pub elements_plain : Kind → Bool
-elements_plain (kd.sequence k) = is_plain k && elements_plain k
-elements_plain _ = true
+-- so may the elements of each sequence in it
+abbrev pub elements_storable : Kind → Bool
+elements_storable (kd.sequence k) = is_storable k && elements_storable k
+elements_storable _ = true
 
 -- what a member, an attribute, a parameter, a constant or a property may be
 abbrev pub is_value : Kind → Bool
-is_value k = is_plain k && elements_plain k
+is_value k = is_storable k && elements_storable k
 
 -- what a typedef may stand for
 abbrev pub is_target : Kind → Bool
 is_target kd.void = false
-is_target k = elements_plain k
+is_target k = elements_storable k
 
 abbrev pub types_allowed : Body → Bool
-types_allowed body = list_all is_value (value_kinds body) && (list_all elements_plain (result_kinds body) && list_all is_target (target_kinds body))
+types_allowed body = list_all is_value (value_kinds body) && (list_all elements_storable (result_kinds body) && list_all is_target (target_kinds body))
 
 -- ---- what an entity may not be without
 
@@ -126,7 +126,7 @@ abbrev pub is_complete : Entity → Bool
 is_complete e = of_body e.body
   where
     of_body : Body → Bool
-    of_body (interface bases members) = bytes_eq e.name (codes "com.sun.star.uno.XInterface") || is_some_list (required bases)
+    of_body (interface bases members) = bytes_eq e.name (codes "com.sun.star.uno.XInterface") || is_some_list (mandatory_bases bases)
     of_body (enum items) = is_some_list items
     of_body (new_service base constructors) = is_some_list constructors
     of_body _ = true

@@ -40,10 +40,10 @@ plains [] = none
 plains (v ∷ vs) = more v (plains vs)
 
 -- a reference that is not null, as a list
-abbrev pub held : Ref → List Ref
-held null = []
-held (own oid face) = own oid face ∷ []
-held (peer oid face) = peer oid face ∷ []
+abbrev pub object_in : Ref → List Ref
+object_in null = []
+object_in (own oid face) = own oid face ∷ []
+object_in (peer oid face) = peer oid face ∷ []
 
 -- the references of a value that are not null, from left to right
 unfoldable mutual
@@ -51,7 +51,7 @@ unfoldable mutual
   refs (any k v) = refs v
   refs (tuple name vs) = refs_in vs
   refs (list k vs) = refs_in vs
-  refs (ref r) = held r
+  refs (ref r) = object_in r
   refs _ = []
 
   pub refs_in : Plains → List Ref

@@ -10,7 +10,7 @@ use Rattle.std.proofs.lemmas.Slice.Eq.{bytes_eq-Decides}
 use Rattle.uno_model.specs.Circles.{Leads, step, on}
 use Rattle.uno_model.specs.Entities as plain
 use Rattle.uno_model.specs.Entities.{Entity}
-use Rattle.uno_model.specs.Registry.{stands_on, IsBaseOf, required}
+use Rattle.uno_model.specs.Registry.{stands_on, IsBaseOf, mandatory_bases}
 use Rattle.uno_model.proofs.PlaceLaws.{contains_cases, contains_head, contains_behind}
 use Rattle.uno_model.proofs.ReachesLaws.{base_of_base}
 use Rattle.uno_entities.specs.Entities.{base_of}
@@ -100,18 +100,18 @@ names_popped old new result next name is was some =
     ap names_in is ∙ names_in-append new (option_to_list result) ∙ ap (λ o. names_in new ++ names_in (option_to_list o)) (was ∙ ap (λ o. Some o) some)
 
 -- the bases that are not optional, one further
-required-append : (xs ys : List plain.Base) → required (xs ++ ys) ≡ required xs ++ required ys
-required-append [] ys = refl
-required-append (x ∷ xs) ys = by_option x.optional (required-append xs ys)
+mandatory_bases-append : (xs ys : List plain.Base) → mandatory_bases (xs ++ ys) ≡ mandatory_bases xs ++ mandatory_bases ys
+mandatory_bases-append [] ys = refl
+mandatory_bases-append (x ∷ xs) ys = by_option x.optional (mandatory_bases-append xs ys)
   where
-    by_option : (optional : Bool) → required (xs ++ ys) ≡ required xs ++ required ys
-        → required (record { optional = optional; name = x.name } ∷ (xs ++ ys)) ≡ required (record { optional = optional; name = x.name } ∷ xs) ++ required ys
+    by_option : (optional : Bool) → mandatory_bases (xs ++ ys) ≡ mandatory_bases xs ++ mandatory_bases ys
+        → mandatory_bases (record { optional = optional; name = x.name } ∷ (xs ++ ys)) ≡ mandatory_bases (record { optional = optional; name = x.name } ∷ xs) ++ mandatory_bases ys
     by_option true rest = rest
     by_option false rest = ap (λ ns. x.name ∷ ns) rest
 
-pub required_more : (old before after : List (List ℕ)) (bases : List Base) (i : ℕ) (b : Base) → before ≡ old ++ required (map base_of (take i bases))
-    → after ≡ before ++ required (base_of b ∷ []) → i < length bases → b ≡ get_or bases i b → after ≡ old ++ required (map base_of (take (i + 1) bases))
+pub required_more : (old before after : List (List ℕ)) (bases : List Base) (i : ℕ) (b : Base) → before ≡ old ++ mandatory_bases (map base_of (take i bases))
+    → after ≡ before ++ mandatory_bases (base_of b ∷ []) → i < length bases → b ≡ get_or bases i b → after ≡ old ++ mandatory_bases (map base_of (take (i + 1) bases))
 required_more old before after bases i b so_far added within is =
     let one = map_more base_of bases i b within ∙ ap (λ x. map base_of (take i bases) ++ base_of x ∷ []) (sym is) in
-    added ∙ ap (λ ns. ns ++ required (base_of b ∷ [])) so_far ∙ append_assoc old (required (map base_of (take i bases))) (required (base_of b ∷ []))
-    ∙ ap (λ ns. old ++ ns) (sym (required-append (map base_of (take i bases)) (base_of b ∷ [])) ∙ ap required (sym one))
+    added ∙ ap (λ ns. ns ++ mandatory_bases (base_of b ∷ [])) so_far ∙ append_assoc old (mandatory_bases (map base_of (take i bases))) (mandatory_bases (base_of b ∷ []))
+    ∙ ap (λ ns. old ++ ns) (sym (mandatory_bases-append (map base_of (take i bases)) (base_of b ∷ [])) ∙ ap mandatory_bases (sym one))

@@ -8,7 +8,7 @@ use Rattle.std.proofs.lemmas.Slice.Eq.{bytes_eq-Decides}
 use Rattle.uno_model.specs.BuiltIn.{x_interface_name}
 use Rattle.uno_model.specs.Circles.{ends_within}
 use Rattle.uno_model.specs.Entities.{Entity, Base, Body, interface, struct, exception, enum, constants, typedef, new_service, old_service, new_singleton, old_singleton}
-use Rattle.uno_model.specs.Registry.{find_entity, stands_on, stands_on_body, required, IsBaseOf}
+use Rattle.uno_model.specs.Registry.{find_entity, stands_on, stands_on_body, mandatory_bases, IsBaseOf}
 use Rattle.uno_model.specs.Sound.{IsSound, is_there, is_interface, is_complete, is_some_list, bases_known}
 use Rattle.uno_model.proofs.CircleLaws.{next_ends, none_ends_at_once}
 use Rattle.uno_model.proofs.PlaceLaws.{contains_head}
@@ -27,7 +27,7 @@ StandsOnInterface reg name body = (base : List ℕ) × Contains (stands_on_body 
 stands_on_one : (reg : List Entity) (name : List ℕ) (body : Body) → is_interface body ≡ true → bytes_eq name x_interface_name ≡ false
     → is_complete (record { name = name; published = true; body = body }) ≡ true → bases_known reg body ≡ true → StandsOnInterface reg name body
 stands_on_one reg name (interface bases members) is other complete known =
-    let base = some_first (required bases) (rw other at complete) in
+    let base = some_first (mandatory_bases bases) (rw other at complete) in
     (base.0, base.1, interfaces_there reg bases base.0 known (required_named bases base.0 base.1))
 stands_on_one reg name (struct b ms) is other complete known = absurd cc
 stands_on_one reg name (exception b ms) is other complete known = absurd cc

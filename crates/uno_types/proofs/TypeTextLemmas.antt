@@ -9,7 +9,7 @@ use Rattle.uno_model.proofs.NameLaws.{word_gives, more_levels, none_of_word, non
 use Rattle.uno_model.specs.Entities.{Entity}
 use Rattle.uno_model.specs.Kinds.{Kind}
 use Rattle.uno_model.specs.NamedTypes.{IsNamedWithin, word_of, simple_of}
-use Rattle.uno_model.specs.Sound.{is_named, is_plain}
+use Rattle.uno_model.specs.Sound.{is_named, is_storable}
 use Rattle.uno_entities.specs.TypeNames.{kind_of}
 use Rattle.uno_entities.specs.declared.type_name.TypeName.{TypeName}
 
@@ -34,10 +34,10 @@ nothing_behind reg text rest levels named split some none =
     subst (λ n. (k : Kind) → IsNamedWithin reg text n k → ⊥) is (none_behind reg text rest (levels - 1) named split none)
 
 pub no_element : (reg : List Entity) (text rest : List ℕ) (levels below : ℕ) (t : TypeName) (plain : Bool) → IsTrue (list_all is_named reg)
-    → text ≡ codes "[]" ++ rest → IsNamedWithin reg rest below (kind_of t) → plain ≡ is_plain (kind_of t)
+    → text ≡ codes "[]" ++ rest → IsNamedWithin reg rest below (kind_of t) → plain ≡ is_storable (kind_of t)
     → plain ≡ false → (k : Kind) → IsNamedWithin reg text levels k → ⊥
 no_element reg text rest levels below t plain named split found is no_plain =
-    let bad : is_plain (kind_of t) ≡ false = cc in
+    let bad : is_storable (kind_of t) ≡ false = cc in
     none_of_bad reg text rest levels below (kind_of t) named split found bad
 
 -- the same of a reading that may want memory

@@ -4,7 +4,7 @@ ghost use Rattle.std.specs.List.{list_any};
 ghost use Rattle.std.specs.Str.{bytes_eq};
 ghost use Rattle.uno_model.specs.BuiltIn.{x_interface_name};
 ghost use Rattle.uno_model.specs.Reaches.{reaches_within};
-ghost use Rattle.uno_model.specs.Registry.{IsRising, IsBaseOf, Assignable, stands_on_body, required, at_most_one};
+ghost use Rattle.uno_model.specs.Registry.{IsRising, IsBaseOf, Assignable, stands_on_body, mandatory_bases, at_most_one};
 ghost use Rattle.uno_model.specs.Sound.{IsSound, is_interface, is_there};
 ghost use Rattle.uno_entities.specs.Entities.{entity_of, entities_of, base_of};
 ghost use Rattle.uno_entities.specs.Finding.{IsBaseAt};
@@ -148,7 +148,7 @@ fn bases_reach(registry: &Registry, to: &str, entity: &Entity, levels: usize) ->
 /// Whether a base of an interface that is not optional reaches it.
 #[cycle(reach)]
 fn required_reach(registry: &Registry, to: &str, bases: &[Base], levels: usize) -> bool
-    ensures { result ≡ list_any (reaches_within levels registry.now to.now) (required (map base_of bases.now)) }
+    ensures { result ≡ list_any (reaches_within levels registry.now to.now) (mandatory_bases (map base_of bases.now)) }
 {
     for base in bases {
         if !base.optional && reaches(registry, to, base.name.as_str(), levels) {

@@ -6,7 +6,7 @@ ghost use Rattle.uno_entities.specs.TypeNames.{kind_of};
 
 use crate::{Registry, TypeName};
 use entity_rules::{Wanted, is_there, kind_known};
-use uno_entities::{MOST_BYTES, elements_plain};
+use uno_entities::{MOST_BYTES, elements_storable};
 
 impl Registry {
     /// Whether it is a simple type, an entity of the registry that is a type, or a sequence of such a type other than void
@@ -21,7 +21,7 @@ impl Registry {
     pub fn has_form(&self, kind: &TypeName) -> bool
         ensures { result ≡ is_formed self.now (kind_of kind.now) }
     {
-        kind_known(self.entities(), kind) && elements_plain(kind)
+        kind_known(self.entities(), kind) && elements_storable(kind)
     }
 
     /// Whether an interface of the registry has the name.

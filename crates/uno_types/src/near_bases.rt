@@ -1,7 +1,7 @@
 //! Whether one entity is a base of another near by: a walk over a few bases that takes no memory.
 ghost use Rattle.std.specs.Prelude.{◌≡◌, ◌++◌, ◌∷◌, [], ◌↔◌, IfSome, IsTrue, Some, map};
 ghost use Rattle.std.specs.Bool.{OnTrue};
-ghost use Rattle.uno_model.specs.Registry.{IsBaseOf, at_most_one, required, stands_on, stands_on_body};
+ghost use Rattle.uno_model.specs.Registry.{IsBaseOf, at_most_one, mandatory_bases, stands_on, stands_on_body};
 ghost use Rattle.uno_entities.specs.Entities.{base_of, entity_of};
 ghost use Rattle.uno_types.specs.NearBases.{names_in};
 
@@ -71,7 +71,7 @@ fn push_required<'a>(
     bases: &'a [Base],
     pending: &mut ArrayVec<Option<&'a Name>, MOST_PENDING>,
 ) -> bool
-    ensures { OnTrue result (names_in pending.new.items ≡ names_in pending.old.items ++ required (map base_of bases.now)) }
+    ensures { OnTrue result (names_in pending.new.items ≡ names_in pending.old.items ++ mandatory_bases (map base_of bases.now)) }
 {
     for base in bases {
         if !push_unless_optional(base, pending) {
@@ -85,7 +85,7 @@ fn push_unless_optional<'a>(
     base: &'a Base,
     pending: &mut ArrayVec<Option<&'a Name>, MOST_PENDING>,
 ) -> bool
-    ensures { OnTrue result (names_in pending.new.items ≡ names_in pending.old.items ++ required (base_of base.now ∷ [])) }
+    ensures { OnTrue result (names_in pending.new.items ≡ names_in pending.old.items ++ mandatory_bases (base_of base.now ∷ [])) }
 {
     if base.optional {
         return true;

@@ -10,7 +10,7 @@ ghost use Rattle.uno_entities.specs.TypeNames.{kind_of};
 use crate::{Body, Name, Registry, TypeName};
 use std::alloc::Global;
 use uno_base::NoMemory;
-use uno_entities::{MOST_BYTES, MOST_LEVELS, is_plain};
+use uno_entities::{MOST_BYTES, MOST_LEVELS, is_storable};
 
 impl Registry {
     /// The type of this name.
@@ -44,7 +44,7 @@ fn within_levels(
     let Some(inner) = within_levels(alloc, registry, behind, levels - 1)? else {
         return Ok(None);
     };
-    if !is_plain(&inner) {
+    if !is_storable(&inner) {
         drop(inner);
         return Ok(None);
     }

@@ -1,6 +1,6 @@
 //! The references in a value.
 ghost use Rattle.std.specs.Prelude.{◌≡◌, ◌++◌, IfOk, OnOk, map};
-ghost use Rattle.uno_model.specs.Values.{refs, refs_in, held};
+ghost use Rattle.uno_model.specs.Values.{refs, refs_in, object_in};
 ghost use Rattle.uno_values.specs.References.{ref_of};
 ghost use Rattle.uno_values.specs.Values.{plain_of, plains_of};
 
@@ -69,7 +69,7 @@ fn push_held(
     alloc: Global,
     reference: &Reference,
 ) -> Result<(), NoMemory>
-    ensures { OnOk result (map ref_of found.new.items ≡ map ref_of found.old.items ++ held (ref_of reference.now)) }
+    ensures { OnOk result (map ref_of found.new.items ≡ map ref_of found.old.items ++ object_in (ref_of reference.now)) }
 {
     if matches!(reference, Reference::Null) {
         return Ok(());

@@ -6,7 +6,7 @@ use Rattle.uno_model.specs.Entities.{Entity}
 use Rattle.uno_model.specs.Fits.{Fits, FitEach, FitAll, IsTupleKind, member_kinds}
 use Rattle.uno_model.specs.Kinds.{Kind}
 use Rattle.uno_model.specs.Kinds as kd
-use Rattle.uno_model.specs.Sound.{IsSound, is_plain}
+use Rattle.uno_model.specs.Sound.{IsSound, is_storable}
 use Rattle.uno_model.specs.Types.{is_type}
 use Rattle.uno_model.specs.Values.{Plain, plains, depth, depth_in, null, peer}
 use Rattle.uno_model.specs.Values as plain
@@ -49,7 +49,7 @@ module _ (reg : List Entity) (sound : IsSound reg) where
         (tt, omega arith, subst (λ (u : Tables). MeansIdentities u.oids) (sym spelled.2) each)
     each_arrives (k ∷ ks) xs s t b are each spelled =
         let p = and_parts (is_member reg k) (list_all (is_member reg) ks) are in
-        let first = h k s spelled.4 spelled.0 spelled.2 (and_parts (is_plain k) (is_type reg k) p.0).1 each spelled.7 in
+        let first = h k s spelled.4 spelled.0 spelled.2 (and_parts (is_storable k) (is_type reg k) p.0).1 each spelled.7 in
         let others = each_arrives ks spelled.1 spelled.4 t spelled.3 p.1 first.oids spelled.8 in
         subst (λ ys. FitEach reg (plains ys) (k ∷ ks) × (depth_in (plains ys) ≤ d) × MeansIdentities t.oids) (sym spelled.5)
         ((first.fits, others.0), omega (arith, first.deep), others.2)

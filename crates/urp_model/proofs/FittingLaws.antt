@@ -7,7 +7,7 @@ use Rattle.uno_model.specs.Entities.{Entity}
 use Rattle.uno_model.specs.Fits.{IsIdentity}
 use Rattle.uno_model.specs.Kinds.{Kind, name_of, nesting}
 use Rattle.uno_model.specs.Kinds as kd
-use Rattle.uno_model.specs.Sound.{kind_known, elements_plain, is_plain, is_namable}
+use Rattle.uno_model.specs.Sound.{kind_known, elements_storable, is_storable, is_namable}
 use Rattle.uno_model.specs.Types.{is_type, is_formed}
 use Rattle.urp_model.specs.Carried.{MeansOnly, MeansIdentities}
 use Rattle.urp_model.specs.NamedKinds.{is_simple}
@@ -39,12 +39,12 @@ spelled_type reg table k b after (spell.written q p slot other is split slot_is 
 pub element_type : (reg : List Entity) (t : Kind) → is_type reg (kd.sequence t) ≡ true → is_type reg t ≡ true
 element_type reg t is =
     let parts = and_parts (is_formed reg (kd.sequence t)) (is_namable (kd.sequence t)) is in
-    let formed = and_parts (kind_known reg t) (is_plain t && elements_plain t) parts.0 in
+    let formed = and_parts (kind_known reg t) (is_storable t && elements_storable t) parts.0 in
     let named = and_parts (nat_le (length (name_of (kd.sequence t))) 4096) (nat_le (nesting (kd.sequence t)) 64) parts.1 in
     let long : length (name_of (kd.sequence t)) ≤ 4096 = leb-true (length (name_of (kd.sequence t))) 4096 named.0 in
     let deep : nesting (kd.sequence t) ≤ 64 = leb-true (nesting (kd.sequence t)) 64 named.1 in
     and_from (is_formed reg t) (is_namable t)
-    (and_from (kind_known reg t) (elements_plain t) formed.0 (and_parts (is_plain t) (elements_plain t) formed.1).1)
+    (and_from (kind_known reg t) (elements_storable t) formed.0 (and_parts (is_storable t) (elements_storable t) formed.1).1)
     (and_from (nat_le (length (name_of t)) 4096) (nat_le (nesting t) 64) (le-leb (length (name_of t)) 4096 (omega arith)) (le-leb (nesting t) 64 (omega arith)))
 
 -- ---- objects

@@ -6,7 +6,7 @@ use Rattle.uno_model.specs.Entities.{Entity}
 use Rattle.uno_model.specs.Fits.{Fits, FitEach, FitAll, member_kinds}
 use Rattle.uno_model.specs.Kinds.{Kind}
 use Rattle.uno_model.specs.Kinds as kd
-use Rattle.uno_model.specs.Sound.{IsSound, is_plain, is_some_list, elements_plain, kind_known, is_namable}
+use Rattle.uno_model.specs.Sound.{IsSound, is_storable, is_some_list, elements_storable, kind_known, is_namable}
 use Rattle.uno_model.specs.Types.{is_type, is_formed}
 use Rattle.uno_model.specs.Values.{Ref, null, own, peer, Plain, Plains, void, str, kind, any, tuple, list, bytes, ref, none, more}
 use Rattle.uno_model.specs.Weights.{kind_weight, ref_weight, count, weight, weights}
@@ -30,20 +30,20 @@ ref_some (own oid face) = omega arith
 ref_some (peer oid face) = omega arith
 
 -- the elements of a sequence that is a type are plain
-element_plain : (reg : List Entity) (t : Kind) → is_type reg (kd.sequence t) ≡ true → is_plain t ≡ true
+element_plain : (reg : List Entity) (t : Kind) → is_type reg (kd.sequence t) ≡ true → is_storable t ≡ true
 element_plain reg t is =
     let formed = (and_parts (is_formed reg (kd.sequence t)) (is_namable (kd.sequence t)) is).0 in
-    (and_parts (is_plain t) (elements_plain t) (and_parts (kind_known reg t) (is_plain t && elements_plain t) formed).1).0
+    (and_parts (is_storable t) (elements_storable t) (and_parts (kind_known reg t) (is_storable t && elements_storable t) formed).1).0
 
-void_not_plain : (k : Kind) → k ≡ kd.void → is_plain k ≡ true → ⊥
-void_not_plain k at is = let bad : false ≡ true = ap is_plain (sym at) ∙ is in absurd cc
+void_not_plain : (k : Kind) → k ≡ kd.void → is_storable k ≡ true → ⊥
+void_not_plain k at is = let bad : false ≡ true = ap is_storable (sym at) ∙ is in absurd cc
 
 module _ (reg : List Entity) (sound : IsSound reg) where
   -- each value of a plain type weighs something
   mutual
     unfolding weight weights Fits FitEach
 
-    value_some : (v : Plain) (k : Kind) → Fits reg v k → is_plain k ≡ true → 1 ≤ weight v
+    value_some : (v : Plain) (k : Kind) → Fits reg v k → is_storable k ≡ true → 1 ≤ weight v
     value_some void k fits is = absurd (void_not_plain k fits is)
     value_some (str s) k fits is = omega (arith, compressed_some (length s))
     value_some (kind t) k fits is = kind_some t
@@ -57,10 +57,10 @@ module _ (reg : List Entity) (sound : IsSound reg) where
     first_some : (vs : Plains) (ks : List Kind) → FitEach reg vs ks → list_all (is_member reg) ks ≡ true → is_some_list ks ≡ true → 1 ≤ weights vs
     first_some vs [] fits is some = absurd cc
     first_some none (k ∷ ks) fits is some = absurd fits
-    first_some (more v vs) (k ∷ ks) fits is some = omega (arith, value_some v k fits.0 (and_parts (is_plain k) (is_type reg k) (and_parts (is_member reg k) (list_all (is_member reg) ks) is).0).0)
+    first_some (more v vs) (k ∷ ks) fits is some = omega (arith, value_some v k fits.0 (and_parts (is_storable k) (is_type reg k) (and_parts (is_member reg k) (list_all (is_member reg) ks) is).0).0)
 
   -- so there are at most as many as they weigh
-  all_counted : (vs : Plains) (t : Kind) → FitAll reg vs t → is_plain t ≡ true → count vs ≤ weights vs
+  all_counted : (vs : Plains) (t : Kind) → FitAll reg vs t → is_storable t ≡ true → count vs ≤ weights vs
   unfolding weights FitAll
   all_counted none t fits is = omega arith
   all_counted (more v vs) t fits is = omega (arith, value_some v t fits.0 is, all_counted vs t fits.1 is)

@@ -1,7 +1,7 @@
 use Rattle.std.proofs.Common.{◌≡◌, ◌+◌, ◌*◌, map, drop}
 use Rattle.std.specs.List.{list_any}
 use Rattle.uno_model.specs.Reaches.{reaches_within}
-use Rattle.uno_model.specs.Registry.{required}
+use Rattle.uno_model.specs.Registry.{mandatory_bases}
 use Rattle.uno_entities.specs.Entities.{base_of}
 use Rattle.uno_types.proofs.assignable.+reach.Given as goal
 
@@ -19,5 +19,5 @@ decreases-base_reaches l = 3 * l.levels + 1
 
 abbrev pub invariant-required_reach-loop-base : goal.invariant-required_reach-loop-base
 invariant-required_reach-loop-base l =
-    list_any (reaches_within l.levels l.registry l.to) (required (map base_of (drop l.base-index l.bases)))
-    ≡ list_any (reaches_within l.levels l.registry l.to) (required (map base_of l.bases))
+    list_any (reaches_within l.levels l.registry l.to) (mandatory_bases (map base_of (drop l.base-index l.bases)))
+    ≡ list_any (reaches_within l.levels l.registry l.to) (mandatory_bases (map base_of l.bases))

@@ -15,8 +15,8 @@ returns-in_default-2 t c =
     nothing_behind c.args.registry.now c.args.text.now c.in-Some.behind.now c.args.levels (search rules) c.in-Some.ensures
     (omega (arith, c.if-levels-eq0.false)) (rw c.in_default-2.is at c.in_ok-inner.ensures)
 
-pub returns-then-not-is_plain : goal.returns-then-not-is_plain
-returns-then-not-is_plain t c =
-    no_element c.args.registry.now c.args.text.now c.in-Some.behind.now c.args.levels (c.args.levels - 1) c.in-Some-2.inner c.is_plain.result (search rules)
-    c.in-Some.ensures (rw c.in-Some-2.is at c.in_ok-inner.ensures) c.is_plain.ensures
-    c.if-not-is_plain.true
+pub returns-then-not-is_storable : goal.returns-then-not-is_storable
+returns-then-not-is_storable t c =
+    no_element c.args.registry.now c.args.text.now c.in-Some.behind.now c.args.levels (c.args.levels - 1) c.in-Some-2.inner c.is_storable.result (search rules)
+    c.in-Some.ensures (rw c.in-Some-2.is at c.in_ok-inner.ensures) c.is_storable.ensures
+    c.if-not-is_storable.true
