@@ -8,7 +8,7 @@ use Rattle.uno_model.specs.TypeClasses.{class_of}
 use Rattle.uno_model.specs.declared.type_class.TypeClass.TheVariants as class
 use Rattle.uno_entities.specs.TypeNames.{innermost, front_of}
 
--- the elements of each sequence are plain where the innermost is
+-- the elements of each sequence are storable where the innermost is
 pub elements_innermost : (k : Kind) → elements_storable (kd.sequence k) ≡ is_storable (innermost k)
 elements_innermost (kd.sequence k) = elements_innermost k
 elements_innermost kd.void = refl

@@ -15,7 +15,7 @@ pub fn is_storable(kind: &TypeName) -> bool
     }
 }
 
-/// Whether the elements of each sequence in it are plain.
+/// Whether the elements of each sequence in it are storable.
 #[tactic(auto, using(crate::proofs::InnermostLemmas::sequence_plain))]
 pub fn elements_storable(kind: &TypeName) -> bool
     ensures { result ≡ elements_storable (kind_of kind.now) }

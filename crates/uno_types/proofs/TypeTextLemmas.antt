@@ -25,7 +25,7 @@ pub no_level : (reg : List Entity) (text rest : List ℕ) (levels : ℕ) → IsT
     → IsNamedWithin reg text levels k → ⊥
 no_level reg text rest levels named split none = subst (λ n. (k : Kind) → IsNamedWithin reg text n k → ⊥) (sym none) (none_at_all reg text rest named split)
 
--- with `[]` in front, and nothing or no plain type behind
+-- with `[]` in front, and nothing or no storable type behind
 pub nothing_behind : (reg : List Entity) (text rest : List ℕ) (levels : ℕ) → IsTrue (list_all is_named reg) → text ≡ codes "[]" ++ rest → 0 < levels
     → ((k : Kind) → IsNamedWithin reg rest (levels - 1) k → ⊥)
     → (k : Kind) → IsNamedWithin reg text levels k → ⊥

@@ -29,7 +29,7 @@ ref_some null = omega arith
 ref_some (own oid face) = omega arith
 ref_some (peer oid face) = omega arith
 
--- the elements of a sequence that is a type are plain
+-- the elements of a sequence that is a type are storable
 element_plain : (reg : List Entity) (t : Kind) → is_type reg (kd.sequence t) ≡ true → is_storable t ≡ true
 element_plain reg t is =
     let formed = (and_parts (is_formed reg (kd.sequence t)) (is_namable (kd.sequence t)) is).0 in
@@ -39,7 +39,7 @@ void_not_plain : (k : Kind) → k ≡ kd.void → is_storable k ≡ true → ⊥
 void_not_plain k at is = let bad : false ≡ true = ap is_storable (sym at) ∙ is in absurd cc
 
 module _ (reg : List Entity) (sound : IsSound reg) where
-  -- each value of a plain type weighs something
+  -- each value of a storable type weighs something
   mutual
     unfolding weight weights Fits FitEach
 
