@@ -132,16 +132,18 @@ module _ (reg : List Entity) where
     asked_fits o target heard m b after fits (a_call face f args s is no_release no_acquire found oneway said spelled same) =
         let kinds = on_way_typed reg goes f.params (numbered_typed reg sound face o.function f found).1 in
         let a = each_fills 64 (argument_kinds f) args heard.tables s b kinds fits.heard.oids spelled in (
-          subst (MessageFits reg) (sym said)
-              (fits.thread, record {
-                f = f;
-                interface = subst (λ (k : Kind). is_type reg k ≡ true) is fits.type;
-                found = found;
-                no_release = no_release;
-                no_acquire = no_acquire;
-                object = fits.object;
-                fill = record { fit = a.fit; deep = a.deep };
-              }),
+          subst (MessageFits reg) (sym said) (
+            fits.thread,
+            record {
+              f = f;
+              interface = subst (λ (k : Kind). is_type reg k ≡ true) is fits.type;
+              found = found;
+              no_release = no_release;
+              no_acquire = no_acquire;
+              object = fits.object;
+              fill = record { fit = a.fit; deep = a.deep };
+            },
+          ),
           subst (IsHeard reg) (sym same) (heard_on heard s fits.heard a.oids (each_keeps (Spells 64 reg) (value_keeps reg 64) (argument_kinds f) args heard.tables s b spelled)),
         )
 

@@ -86,6 +86,7 @@ further new newer old names is = is ∙ ap held_after (sym (append_assoc newer n
 -- the types that a value names
 mutual
   unfolding after afters type_uses types_used
+
   types_left : (x : Plain) (h : HeldNames) (us : List (List ℕ)) → h.types ≡ held_after us → (after x h).types ≡ held_after (type_uses x ++ us)
   types_left (v.kind k) h us is = kind_left k h.types us is
   types_left (v.any k x) h us is =
@@ -102,6 +103,7 @@ mutual
 -- and the objects
 mutual
   unfolding after afters oid_uses oids_used
+
   oids_left : (x : Plain) (h : HeldNames) (us : List (List ℕ)) → h.oids ≡ held_after us → (after x h).oids ≡ held_after (oid_uses x ++ us)
   oids_left (v.any k x) h us is = oids_left x (record { types = kind_after k h.types; oids = h.oids; tids = h.tids }) us is
   oids_left (v.tuple name xs) h us is = all_oids_left xs h us is
@@ -116,6 +118,7 @@ mutual
 -- a value names no thread
 mutual
   unfolding after afters
+
   tids_stay : (x : Plain) (h : HeldNames) → (after x h).tids ≡ h.tids
   tids_stay (v.any k x) h = tids_stay x (record { types = kind_after k h.types; oids = h.oids; tids = h.tids })
   tids_stay (v.tuple name xs) h = all_tids_stay xs h
@@ -169,7 +172,7 @@ reply_left tid answer spoken uses is =
     = record { types = is.types; oids = is.oids; tids = name_left (is_new tid spoken.last.tid) tid spoken.names.tids uses.tids is.tids } in
     let all = values_left (answer_values answer) held [] [] (name_use (is_new tid spoken.last.tid) tid) uses before in
     let left : AreLeftBy (afters (answer_values answer) held)
-        (behind_uses (record { types = types_used (answer_values answer); oids = oids_used (answer_values answer); tids = name_use (is_new tid spoken.last.tid) tid }) uses)
+    (behind_uses (record { types = types_used (answer_values answer); oids = oids_used (answer_values answer); tids = name_use (is_new tid spoken.last.tid) tid }) uses)
     = rw (append-nil (types_used (answer_values answer)), append-nil (oids_used (answer_values answer))) at all in
     subst (λ n. AreLeftBy n (behind_uses (record { types = types_used (answer_values answer); oids = oids_used (answer_values answer); tids = name_use (is_new tid spoken.last.tid) tid }) uses))
     (sym (answer_after answer held)) left

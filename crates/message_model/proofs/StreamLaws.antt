@@ -45,15 +45,27 @@ module _ (reg : List Entity) where
       → SpellsStream reg wss bytes heard mss t → IsStreamBlock (length ms) body → SpellsBody reg ws body t ms u
       → SpellsStream reg (wss ++ ws ∷ []) (bytes ++ spell_block (length ms) body) heard (mss ++ ms ∷ []) u
   unfolding SpellsStream
-  stream_more [] bytes heard t u [] ws ms body spelled block one =
-      (body, [], u, ap (λ b. b ++ spell_block (length ms) body) spelled.0 ∙ sym (append-nil (spell_block (length ms) body)), block,
-      subst (λ h. SpellsBody reg ws body h ms u) spelled.1 one, (refl, refl))
+  stream_more [] bytes heard t u [] ws ms body spelled block one = (
+    body,
+    [],
+    u,
+    ap (λ b. b ++ spell_block (length ms) body) spelled.0 ∙ sym (append-nil (spell_block (length ms) body)),
+    block,
+    subst (λ h. SpellsBody reg ws body h ms u) spelled.1 one,
+    (refl, refl),
+  )
   stream_more [] bytes heard t u (ns ∷ nss) ws ms body spelled block one = absurd spelled
   stream_more (vs ∷ wss) bytes heard t u [] ws ms body spelled block one = absurd spelled
   stream_more (vs ∷ wss) bytes heard t u (ns ∷ nss) ws ms body (first, rest, between, is, first_block, spelled, others) block one =
-      let more = spell_block (length ms) body in
-      (first, rest ++ more, between, ap (λ b. b ++ more) is ∙ append_assoc (spell_block (length ns) first) rest more, first_block, spelled,
-      stream_more wss rest between t u nss ws ms body others block one)
+      let more = spell_block (length ms) body in (
+        first,
+        rest ++ more,
+        between,
+        ap (λ b. b ++ more) is ∙ append_assoc (spell_block (length ns) first) rest more,
+        first_block,
+        spelled,
+        stream_more wss rest between t u nss ws ms body others block one,
+      )
 
 module _ (reg : List Entity) (sound : IsSound reg) where
   -- ---- what is spelled is determined

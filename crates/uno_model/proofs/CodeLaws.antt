@@ -29,6 +29,7 @@ itself (gcons a b) = and_from (same_tree a a) (same_tree b b) (itself a) (itself
 
 pub same_kind_told : (k j : Kind) → Decides (same_kind k j) (k ≡ j)
 unfolding same_kind
-same_kind_told k j =
-    (λ same. sym (kind_back k) ∙ ap kind_in (one_tree (store_kind k) (store_kind j) same) ∙ kind_back j,
-    λ is. rw (← is) (itself (store_kind k)))
+same_kind_told k j = (
+  λ same. sym (kind_back k) ∙ ap kind_in (one_tree (store_kind k) (store_kind j) same) ∙ kind_back j,
+  λ is. rw (← is) (itself (store_kind k)),
+)

@@ -53,7 +53,7 @@ module _ (reg : List Entity) (sound : IsSound reg) where
       let own = members_within levels reg b in
       let there = (and_parts (is_there reg is_struct b) true known).0 in
       let has_own : Contains (map (λ f. f.kind) own) (kd.struct m) = elim (Contains-append_cases (map (λ f. f.kind) own) [] (kd.struct m)
-          (subst (λ ks. Contains ks (kd.struct m)) (map-append (λ f. f.kind) own []) has)) [ inl front ↦ front | inr back ↦ absurd (nothing_in _ back) ] in
+      (subst (λ ks. Contains ks (kd.struct m)) (map-append (λ f. f.kind) own []) has)) [ inl front ↦ front | inr back ↦ absurd (nothing_in _ back) ] in
       on name b m (leads b (contains_head b [])) (inner b m there has_own)
 
   body_inner : (levels : ℕ) (name m : List ℕ) (own : List ℕ) (published : Bool) (body : Body) → Inner levels → find_entity name reg ≡ Some (entity own published body)
@@ -64,7 +64,7 @@ module _ (reg : List Entity) (sound : IsSound reg) where
       let leads : leads_to reg name ≡ at_most_one base ++ contained members = ap leads_to_body found in
       let above = flat_map (members_within levels reg) (at_most_one base) in
       let parts = Contains-append_cases (map (λ f. f.kind) above) (map (λ f. f.kind) members) (kd.struct m)
-          (subst (λ ks. Contains ks (kd.struct m)) (map-append (λ f. f.kind) above members) has) in
+      (subst (λ ks. Contains ks (kd.struct m)) (map-append (λ f. f.kind) above members) has) in
       elim parts [
         | inl inherited ↦
             base_inner levels name m base inner known (λ b b_has. subst (λ ns. Contains ns b) (sym leads) (Contains-append_left (at_most_one base) (contained members) b b_has)) inherited

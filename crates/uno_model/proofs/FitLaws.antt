@@ -68,6 +68,7 @@ module _ (reg : List Entity) (no_circle : HasNoCircle (leads_to reg)) where
 
   mutual
     unfolding Fits FitEach FitAll does_fit do_fit_each do_fit_all
+
     pub fit_told : (v : Plain) (k : Kind) → Decides (does_fit reg v k) (Fits reg v k)
     fit_told void k = same_kind_told k kd.void
     fit_told (char n) k = same_kind_told k kd.char

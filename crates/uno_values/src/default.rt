@@ -95,7 +95,9 @@ fn is_byte(kind: &TypeName) -> bool
 fn first_number(registry: &Registry, name: &str) -> i32
     ensures { result ≡ first_number (items_of (find_entity name.now registry.now)) }
 {
-    let Some(entity) = registry.find(name) else { return 0 };
+    let Some(entity) = registry.find(name) else {
+        return 0
+    };
     let Body::Enum { items } = &entity.body else {
         return 0
     };
