@@ -207,6 +207,12 @@ fn texts_are_read_and_printed_or_refused_at_their_places(rt: HostRuntime) {
     see(&rt, bad == Ok(true), "four million brackets");
     let deepest = nested(rt.alloc(), &registry, 512, "", Ok(()));
     see(&rt, deepest == Ok(true), "1,024 levels");
-    let deeper = nested(rt.alloc(), &registry, 512, "(void)", Err(TextError::NoMemory));
+    let deeper = nested(
+        rt.alloc(),
+        &registry,
+        512,
+        "(void)",
+        Err(TextError::NoMemory),
+    );
     see(&rt, deeper == Ok(true), "one more is no memory");
 }
