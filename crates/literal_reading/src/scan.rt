@@ -21,6 +21,7 @@ use number::number_at;
 use std::alloc::Global;
 use string::{string_at, text_of};
 use types::type_at;
+use uno_entities::begins_identifier;
 use uno_types::{Registry, TypeName};
 use words::word_at;
 
@@ -51,7 +52,7 @@ pub(crate) fn value_at<'a>(alloc: Global, registry: &Registry, bytes: &'a [u8]) 
         let (kind, rest) = type_at(alloc, registry, b')', behind)?;
         return cast_of(behind.len(), kind, rest);
     }
-    if begins_word(*first) {
+    if begins_identifier(*first) {
         return word_at(alloc, registry, bytes);
     }
     number_at(bytes)
@@ -65,10 +66,4 @@ fn cast_of<'a>(left: usize, kind: TypeName, rest: &'a [u8]) -> Scan<'a, Token>
         TypeName::Any => Err(Stop::Bad(left)),
         _ => Ok((Token::Cast(kind), rest)),
     }
-}
-
-pub(crate) fn begins_word(byte: u8) -> bool
-    ensures { result ≡ begins_identifier byte }
-{
-    byte.is_ascii_alphabetic() || byte == b'_'
 }

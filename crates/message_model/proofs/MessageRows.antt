@@ -1,5 +1,6 @@
 -- Messages that are written out, and what is read of them.
 use Rattle.std.proofs.Common.{◌≡◌, ℕ, pos, Bool, true, false, List, [], ◌∷◌, None, Some, Ok, Err, refl, codes}
+use Rattle.uno_model.specs.Reaches.{is_base_of}
 use Rattle.uno_model.specs.Entities.{Entity, Method, method, interface, exception}
 use Rattle.uno_model.specs.Functions.{Function, call, is_met, visit_all, met_within}
 use Rattle.uno_model.specs.Kinds as kd
@@ -17,7 +18,7 @@ use Rattle.urp_model.specs.Tables.{Tables, meaning}
 use Rattle.urp_model.specs.declared.fault.Fault.TheVariants.{Short, Bad}
 use Rattle.urp_model.specs.declared.reason.Reason.TheVariants.{BadFlags, NoLast, NotInterface, UnknownFunction, Acquire, OneWay}
 use Rattle.urp_model.specs.declared.reason.Reason.TheVariants.{NobodyWaits, BadAny, BadException}
-use Rattle.message_model.specs.Calls.{numbered, kinds_on, is_base, may_raise, Waits}
+use Rattle.message_model.specs.Calls.{numbered, kinds_on, may_raise, Waits}
 use Rattle.message_model.specs.Headers.{nothing_said, Heard}
 use Rattle.message_model.specs.Messages.{returned, raised, request, release, reply}
 use Rattle.message_model.specs.ReadingMessages.{function_at, answered_at, long_opening_at, short_opening, two_byte_opening_at, opening_at}
@@ -144,7 +145,7 @@ nothing_is_there = refl
 
 -- f may raise what derives from an exception that it declares
 f_may_raise_d : may_raise tiny f d ≡ true
-unfolding may_raise is_base reaches_within find_entity
+unfolding may_raise is_base_of reaches_within find_entity
 f_may_raise_d = refl
 
 -- types in slots

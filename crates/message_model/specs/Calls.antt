@@ -7,7 +7,7 @@ use Rattle.uno_model.specs.Entities.{Entity, Param}
 use Rattle.uno_model.specs.Functions.{Function, functions_of}
 use Rattle.uno_model.specs.Kinds.{Kind}
 use Rattle.uno_model.specs.Kinds as kd
-use Rattle.uno_model.specs.Reaches.{reaches_within}
+use Rattle.uno_model.specs.Reaches.{is_base_of}
 use Rattle.uno_model.specs.declared.way.Way.{Way}
 use Rattle.uno_model.specs.declared.way.Way.TheVariants as way
 
@@ -56,17 +56,13 @@ out_kinds f = kinds_on comes f.params
 
 -- ---- exceptions
 
--- the one entity is the other, or one of its bases, in a sound registry
-unfoldable pub is_base : List Entity → List ℕ → List ℕ → Bool
-is_base reg base name = reaches_within (length reg) reg base name
-
 -- the exception that every function may raise
 abbrev pub runtime_exception : List ℕ
 runtime_exception = codes "com.sun.star.uno.RuntimeException"
 
 -- a function may raise an exception that it declares, or that derives from one of these or from RuntimeException
 unfoldable pub may_raise : List Entity → Function → Kind → Bool
-may_raise reg f (kd.exception name) = is_base reg runtime_exception name || list_any (λ declared. is_base reg declared name) f.raises
+may_raise reg f (kd.exception name) = is_base_of reg runtime_exception name || list_any (λ declared. is_base_of reg declared name) f.raises
 may_raise reg f k = false
 
 -- ---- calls that wait

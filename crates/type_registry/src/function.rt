@@ -6,6 +6,7 @@ ghost use Rattle.type_registry.specs.Functions.{function_of, lent_function, lent
 
 use std::alloc::Global;
 use uno_base::NoMemory;
+use uno_entities::{copy_names, copy_params};
 use uno_types::{Attribute, Method, Name, Param, TypeName, Way};
 
 /// A function: a method, or one that reads or writes an attribute. Its owner is the interface that declares it.
@@ -138,7 +139,7 @@ impl<'a> FunctionRef<'a> {
     {
         let owner = self.owner().copy(alloc)?;
         let name = prefixed(alloc, self.prefix(), self.member_name())?;
-        let raises = copies(alloc, self.raises())?;
+        let raises = copy_names(alloc, self.raises())?;
         let params = parameters(alloc, self)?;
         let result = result_of(alloc, self)?;
         Ok(Function {
@@ -161,16 +162,6 @@ fn prefixed(alloc: Global, prefix: &str, name: &Name) -> Result<Name, NoMemory>
     Name::of(alloc, text.as_str())
 }
 
-fn copies(alloc: Global, names: &[Name]) -> Result<Vec<Name>, NoMemory>
-    ensures { IfOk result (λ copies. copies.items ≡ names.now) }
-{
-    let mut copies = Vec::new(alloc);
-    for name in names {
-        copies.push(name.copy(alloc)?)?;
-    }
-    Ok(copies)
-}
-
 fn result_of(alloc: Global, function: &FunctionRef) -> Result<TypeName, NoMemory>
     ensures { IfOk result (λ kind. kind_of kind ≡ (lent_function function.now).result_kind) }
 {
@@ -183,23 +174,26 @@ fn result_of(alloc: Global, function: &FunctionRef) -> Result<TypeName, NoMemory
 fn parameters(alloc: Global, function: &FunctionRef) -> Result<Vec<Param>, NoMemory>
     ensures { IfOk result (λ copies. map param_of copies.items ≡ (lent_function function.now).params) }
 {
-    let mut copies = Vec::new(alloc);
-    while let Some(param) = function.param(copies.len()) {
-        copies.push(parameter(alloc, &param)?)?;
+    match function {
+        FunctionRef::Getter { .. } => Ok(Vec::new(alloc)),
+        FunctionRef::Setter { attribute, .. } => written_alone(alloc, attribute),
+        FunctionRef::Method { method, .. } => copy_params(alloc, &method.params),
     }
-    Ok(copies)
 }
 
-fn parameter(alloc: Global, param: &ParamRef) -> Result<Param, NoMemory>
-    ensures { IfOk result (λ copy. param_of copy ≡ lent_param param.now) }
+/// The parameter of the function that writes an attribute, alone.
+fn written_alone(alloc: Global, attribute: &Attribute) -> Result<Vec<Param>, NoMemory>
+    ensures { IfOk result (λ params. map param_of params.items ≡ record { way = Way.Into; name = (attribute_of attribute.now).name; kind = (attribute_of attribute.now).kind } ∷ []) }
 {
-    let name = param.name.copy(alloc)?;
-    let kind = param.kind.copy(alloc)?;
-    Ok(Param {
-        way: param.way,
+    let name = attribute.name.copy(alloc)?;
+    let kind = attribute.kind.copy(alloc)?;
+    let mut params = Vec::new(alloc);
+    params.push(Param {
+        way: Way::Into,
         name,
         kind,
-    })
+    })?;
+    Ok(params)
 }
 
 /// The one parameter of the function that writes an attribute.

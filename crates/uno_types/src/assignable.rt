@@ -2,7 +2,7 @@
 ghost use Rattle.std.specs.Prelude.{◌≡◌, ◌↔◌, ◌<◌, ◌&&◌, Some, length, map, IfOk, IsTrue};
 ghost use Rattle.std.specs.List.{list_any};
 ghost use Rattle.std.specs.Str.{bytes_eq};
-ghost use Rattle.uno_model.specs.BuiltIn.{x_interface_name};
+ghost use Rattle.uno_model.specs.BuiltIn.{x_interface_name, HasBuiltIn};
 ghost use Rattle.uno_model.specs.Reaches.{reaches_within};
 ghost use Rattle.uno_model.specs.Registry.{IsRising, IsBaseOf, Assignable, stands_on_body, mandatory_bases, at_most_one};
 ghost use Rattle.uno_model.specs.Sound.{IsSound, is_interface, is_there};
@@ -74,9 +74,11 @@ fn is_base_of(alloc: Global, registry: &Registry, to: &str, from: &str) -> bool
 
 /// Whether the one is the interface on which all stand, and the other an interface.
 fn is_root_over(registry: &Registry, to: &str, from: &str) -> bool
-    ensures { result ≡ (bytes_eq to.now x_interface_name && is_there registry.now is_interface from.now) }
+    ensures is { result ≡ (bytes_eq to.now x_interface_name && is_there registry.now is_interface from.now) }
+    ensures built_in { HasBuiltIn registry.now }
 {
-    to == X_INTERFACE && is_there(registry.entities(), Wanted::Interface, from)
+    let entities = registry.entities();
+    to == X_INTERFACE && is_there(entities, Wanted::Interface, from)
 }
 
 /// By a mark for each entity; where there is no room for them, by a walk that takes none and may take long.

@@ -1,6 +1,6 @@
 //! Which values fit a type.
 ghost use Rattle.std.specs.Prelude.{◌≡◌, ◌≢◌, ◌↔◌, ◌+◌, ◌≤◌, IsTrue, length, take, drop};
-ghost use Rattle.uno_model.specs.Fits.{Fits, FitEach, FitAll, RefFits, InterfaceFits, HeldFits, IsIdentity, IsTupleKind, member_kinds};
+ghost use Rattle.uno_model.specs.Fits.{Fits, FitEach, FitAll, RefFits, InterfaceFits, HeldFits, IsTupleKind, member_kinds};
 ghost use Rattle.uno_model.specs.Kinds as kd;
 ghost use Rattle.uno_model.specs.Sound.{IsSound};
 ghost use Rattle.uno_model.specs.Types.{is_type};
@@ -10,6 +10,7 @@ ghost use Rattle.uno_values.specs.Fitting.{kinds_of};
 ghost use Rattle.uno_values.specs.Values.{plain_of, plains_of};
 
 use crate::{AnyValue, Reference, Value};
+use uno_entities::is_identity;
 use uno_types::{Field, Level, Name, Registry, TypeName};
 
 /// Whether the value is one of this type: null and the objects that the interface may stand for, and of each other type the
@@ -265,14 +266,4 @@ fn held_fits(registry: &Registry, oid: &str, face: &Name, wanted: &Name) -> bool
         return false;
     }
     registry.has_base(wanted.as_str(), face.as_str())
-}
-
-/// An object identity has 1 to 4,096 bytes.
-fn is_identity(oid: &str) -> bool
-    ensures { IsTrue result ↔ IsIdentity oid.now }
-{
-    if oid.is_empty() {
-        return false;
-    }
-    oid.len() <= 4096
 }

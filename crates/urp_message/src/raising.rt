@@ -1,8 +1,9 @@
 //! Which exceptions answer a call (Developer's Guide, exceptions).
 ghost use Rattle.std.specs.Prelude.{◌≡◌, map};
 ghost use Rattle.std.specs.List.{list_any};
-ghost use Rattle.message_model.specs.Calls.{is_base, runtime_exception, may_raise};
+ghost use Rattle.message_model.specs.Calls.{runtime_exception, may_raise};
 ghost use Rattle.type_registry.specs.Functions.{lent_function};
+ghost use Rattle.uno_model.specs.Reaches.{is_base_of};
 ghost use Rattle.uno_model.specs.Kinds as kd;
 ghost use Rattle.uno_model.specs.Sound.{IsSound};
 ghost use Rattle.uno_entities.specs.TypeNames.{kind_of};
@@ -57,7 +58,7 @@ fn may_raise_named(registry: &Registry, function: &FunctionRef, name: &Name) -> 
 /// Whether an exception is one of these, or derives from one.
 fn is_declared(registry: &Registry, declared: &[Name], name: &Name) -> bool
     requires { IsSound registry.now }
-    ensures { result ≡ list_any (λ base. is_base registry.now base name.now) declared.now }
+    ensures { result ≡ list_any (λ base. is_base_of registry.now base name.now) declared.now }
 {
     for base in declared {
         if has_base(registry, base.as_str(), name) {
@@ -69,7 +70,7 @@ fn is_declared(registry: &Registry, declared: &[Name], name: &Name) -> bool
 
 fn has_base(registry: &Registry, base: &str, name: &Name) -> bool
     requires { IsSound registry.now }
-    ensures { result ≡ is_base registry.now base.now name.now }
+    ensures { result ≡ is_base_of registry.now base.now name.now }
 {
     registry.has_base(base, name.as_str())
 }

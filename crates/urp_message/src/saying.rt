@@ -25,9 +25,7 @@ use uno_base::NoMemory;
 use uno_types::{Name, Registry, Text, Tid, TypeName};
 use uno_values::{AnyValue, Value, depth_of, fits};
 
-/// The most bytes of an identity, of an object and of a thread, and the most levels of a value.
-const MOST_OID: usize = 4096;
-
+/// The most bytes of the identity of a thread, and the most levels of a value.
 const MOST_TID: usize = 1024;
 
 const MOST_LEVELS: u64 = 64;
@@ -83,7 +81,7 @@ fn are_names(tid: &Tid, oid: &Text) -> bool
     if !is_thread(tid) {
         return false;
     }
-    is_identity(oid)
+    oid.is_identity()
 }
 
 fn is_thread(tid: &Tid) -> bool
@@ -91,13 +89,6 @@ fn is_thread(tid: &Tid) -> bool
 {
     let count = tid.as_bytes().len();
     count > 0 && count <= MOST_TID
-}
-
-fn is_identity(oid: &Text) -> bool
-    ensures { IsTrue result ↔ IsIdentity oid.now }
-{
-    let count = oid.as_str().len();
-    count > 0 && count <= MOST_OID
 }
 
 /// Whether a request calls a function like others, with arguments that fit.

@@ -33,7 +33,7 @@ pub fn write_kind(
         return put_byte(class, to);
     }
     let mut name = Vec::new(alloc);
-    put_kind_name(kind, &mut name)?;
+    kind.push_name(&mut name)?;
     let (slot, known) = types.slot_of(&name)?;
     let written = put_class_and_name(known, class, slot, &name, to);
     drop(name);
@@ -83,15 +83,4 @@ fn is_simple(kind: &TypeName) -> bool
             | TypeName::Interface(_)
             | TypeName::Sequence(_)
     )
-}
-
-/// The name of a type.
-fn put_kind_name(kind: &TypeName, to: &mut Vec<u8>) -> Result<(), NoMemory>
-    ensures { OnOk result (to.new.items ≡ to.old.items ++ name_of (kind_of kind.now)) }
-{
-    to.extend_from_slice(kind.front().as_bytes())?;
-    let TypeName::Sequence(element) = kind else {
-        return Ok(());
-    };
-    put_kind_name(element, to)
 }

@@ -3,8 +3,8 @@ ghost use Rattle.std.specs.Prelude.{◌≡◌};
 ghost use Rattle.literal_model.specs.Shapes.{behind_bracket, behind_letters, behind_name, behind_plain, behind_second, behind_words, shorter};
 ghost use Rattle.uno_model.specs.Names.{begins_identifier};
 
-use crate::scan::begins_word;
 use crate::scan::run::{Run, split_run};
+use uno_entities::begins_identifier;
 
 /// The word in front of each unsigned type.
 const UNSIGNED: &[u8] = b"unsigned ";
@@ -88,7 +88,7 @@ fn behind_words(bytes: &[u8]) -> &[u8]
 {
     let mut rest = bytes;
     while let Some((first, _)) = rest.split_first() {
-        if !begins_word(*first) {
+        if !begins_identifier(*first) {
             return rest;
         }
         let (_, behind) = split_run(Run::Word, rest);

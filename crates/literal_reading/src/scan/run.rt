@@ -5,6 +5,8 @@ ghost use Rattle.uno_model.specs.Names.{goes_on_identifier};
 ghost use Rattle.literal_model.specs.Shapes.{run_of, behind_run};
 ghost use Rattle.literal_reading.specs.Scanning.{test_of};
 
+use uno_entities::goes_on_identifier;
+
 /// The bytes of a word are letters, digits and `_`, those of a type's name also `.`, `[`, `]` and blanks.
 #[derive(Clone, Copy)]
 pub(crate) enum Run {
@@ -30,13 +32,7 @@ fn goes_on(run: Run, byte: u8) -> bool
     ensures { result ≡ test_of run byte }
 {
     match run {
-        Run::Word => is_word_byte(byte),
-        Run::Name => is_word_byte(byte) || matches!(byte, b'.' | b'[' | b']' | b' '),
+        Run::Word => goes_on_identifier(byte),
+        Run::Name => goes_on_identifier(byte) || matches!(byte, b'.' | b'[' | b']' | b' '),
     }
-}
-
-pub(crate) fn is_word_byte(byte: u8) -> bool
-    ensures { result ≡ goes_on_identifier byte }
-{
-    byte.is_ascii_alphanumeric() || byte == b'_'
 }

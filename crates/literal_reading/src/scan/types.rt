@@ -8,10 +8,11 @@ ghost use Rattle.uno_entities.specs.TypeNames.{kind_of};
 ghost use Rattle.literal_reading.specs.Scanning.{Scans, test_of};
 
 use crate::scan::name::behind_name;
-use crate::scan::run::{Run, is_word_byte, split_run};
+use crate::scan::run::{Run, split_run};
 use crate::stop::{Scan, Stop};
 use std::alloc::Global;
 use uno_base::NoMemory;
+use uno_entities::goes_on_identifier;
 use uno_types::{Registry, TypeName};
 
 /// A type of the registry; where the mark stands behind another name, the name is bad from its first byte on.
@@ -63,7 +64,7 @@ fn is_misnamed(alloc: Global, registry: &Registry, name: &[u8]) -> Result<bool, 
     let Some(last) = name.last() else {
         return Ok(false);
     };
-    if !is_word_byte(*last) {
+    if !goes_on_identifier(*last) {
         return Ok(false);
     }
     match type_named(alloc, registry, as_text(Run::Name, name))? {

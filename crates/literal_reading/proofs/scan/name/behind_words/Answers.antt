@@ -9,12 +9,12 @@ taken {letters = letters} {first = first} split begun is = record { first = firs
 
 pub returns-in_default-split_first : goal.returns-in_default-split_first
 returns-in_default-split_first c =
-    let at = taken c.in-Some.ensures.cases.0 (sym c.begins_word.ensures ∙ c.if-not-begins_word.false) c.split_run.ensures.rest in
+    let at = taken c.in-Some.ensures.cases.0 (sym c.begins_identifier.ensures ∙ c.if-not-begins_identifier.false) c.split_run.ensures.rest in
     words_end c.loop-first.rest.now c.split_run.result.1.now at c.in_default-split_first.ensures.cases ∙ c.loop-first.invariant
 
 pub returns-then-point-ne46 : goal.returns-then-point-ne46
 returns-then-point-ne46 c =
-    let at = taken c.in-Some.ensures.cases.0 (sym c.begins_word.ensures ∙ c.if-not-begins_word.false) c.split_run.ensures.rest in
+    let at = taken c.in-Some.ensures.cases.0 (sym c.begins_identifier.ensures ∙ c.if-not-begins_identifier.false) c.split_run.ensures.rest in
     words_stop c.loop-first.rest.now c.split_run.result.1.now _ _ at c.in-Some-split_first.ensures.cases.0 c.if-point-ne46.true ∙ c.loop-first.invariant
 
 pub loop-first-smaller : goal.loop-first-smaller
@@ -22,5 +22,5 @@ loop-first-smaller c = words_shrink c.loop-first.rest.now c.split_run.result.1.n
 
 pub loop-first-preserved : goal.loop-first-preserved
 loop-first-preserved c =
-    let at = taken c.in-Some.ensures.cases.0 (sym c.begins_word.ensures ∙ c.if-not-begins_word.false) c.split_run.ensures.rest in
+    let at = taken c.in-Some.ensures.cases.0 (sym c.begins_identifier.ensures ∙ c.if-not-begins_identifier.false) c.split_run.ensures.rest in
     words_next c.loop-first.rest.now c.split_run.result.1.now _ _ at c.in-Some-split_first.ensures.cases.0 c.if-point-ne46.false ∙ c.loop-first.invariant
