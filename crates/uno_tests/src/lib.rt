@@ -12,6 +12,8 @@ mod entities;
 #[cfg(test)]
 mod fitting;
 #[cfg(test)]
+mod front_page;
+#[cfg(test)]
 mod judging;
 #[cfg(test)]
 mod limits;
