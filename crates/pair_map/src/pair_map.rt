@@ -1,5 +1,5 @@
 //! The map itself, as rows in rising order of their pairs.
-ghost use Rattle.std.specs.Prelude.{◌≡◌, [], None, Some, OnOk, OnErr, IsSome, option_copied};
+ghost use Rattle.std.specs.Prelude.{◌≡◌, [], None, Some, OnOk, OnErr, IsSome, T, option_copied};
 ghost use Rattle.std.specs.FinMap.{find, put, is_sorted};
 ghost use Rattle.std.specs.List.{list_any};
 ghost use Rattle.std.specs.Str.{bytes_eq};
@@ -48,7 +48,8 @@ impl<V> PairMap<V> {
 
     /// The value at a pair.
     pub fn get(&self, oid: &Text, face: &Name) -> Option<&V>
-        ensures { option_copied result ≡ find pair_cmp (pair oid.now face.now) self.now }
+        ensures found { option_copied result ≡ find pair_cmp (pair oid.now face.now) self.now }
+        ensures rises { T (is_sorted pair_cmp self.now) }
     {
         by_oid::at_pair(&self.by_oid, oid.as_str(), face.as_str())
     }

@@ -1,2 +1,4 @@
+pub mod BagLaws
+pub mod HoldLaws
 pub mod PairLaws
 pub mod RowLaws

@@ -17,15 +17,15 @@ same_text = slice_cmp-IsAntisymmetric nat_cmp-IsAntisymmetric
 pub pair_order : IsTotalOrder pair_cmp
 pair_order = then_total (on_total (λ p. p.oid) nat_list_cmp_total) (on_total (λ p. p.face) nat_list_cmp_total)
 
-first_tied : (r s : Ordering) → ordering_then r s ≡ Equal → (r ≡ Equal) × (s ≡ Equal)
-first_tied Less s e = (e, cc)
-first_tied Equal s e = (refl, e)
-first_tied Greater s e = (e, cc)
+pub both_equal : (r s : Ordering) → ordering_then r s ≡ Equal → (r ≡ Equal) × (s ≡ Equal)
+both_equal Less s e = (e, cc)
+both_equal Equal s e = (refl, e)
+both_equal Greater s e = (e, cc)
 
 -- pairs that the order does not tell apart are the same
 pub same_pair : IsAntisymmetric pair_cmp
 same_pair p q e =
-    let tied = first_tied (slice_cmp nat_cmp p.oid q.oid) (slice_cmp nat_cmp p.face q.face) e in
+    let tied = both_equal (slice_cmp nat_cmp p.oid q.oid) (slice_cmp nat_cmp p.face q.face) e in
     let oids = same_text p.oid q.oid tied.0 in
     let faces = same_text p.face q.face tied.1 in
     λ i. record { oid = oids i; face = faces i }

@@ -1,13 +1,13 @@
 -- Rows in rising order are told by what is found in them.
-use Rattle.std.proofs.Common.{◌≡◌, Bool, true, false, cond, not, ◌||◌, List, [], ◌∷◌, Option, None, Some, IfSome, refl, sym, ap, ◌∙◌, subst}
+use Rattle.std.proofs.Common.{◌≡◌, Bool, true, false, cond, not, ◌&&◌, ◌||◌, List, [], ◌∷◌, Option, None, Some, IfSome, refl, sym, ap, ◌∙◌, subst}
 use Rattle.std.specs.Prelude.{T}
 use Rattle.std.specs.declared.cmp.Ordering.{Ordering}
 use Rattle.std.specs.declared.cmp.Ordering.TheVariants.{Less, Equal, Greater}
-use Rattle.std.specs.Ordering.{eq_by_cmp, is_eq}
+use Rattle.std.specs.Ordering.{eq_by_cmp, is_eq, is_lt}
 use Rattle.std.specs.List.{list_any}
-use Rattle.std.specs.Cmp.{IsTotalOrder, eq_by_cmp_equiv, alike_right}
+use Rattle.std.specs.Cmp.{IsTotalOrder, Equal-is, eq_by_cmp_equiv, alike_right, tied_itself}
 use Rattle.std.specs.FinMap.{find, put, is_sorted, IsAntisymmetric}
-use Rattle.std.specs.FinMap.Entries.{by_order, is_sorted-put, is_sorted-where_key, find-put, find-where_key, same_entries}
+use Rattle.std.specs.FinMap.Entries.{by_order, below_all, is_sorted-put, is_sorted-where_key, find-put, find-where_key, same_entries}
 use Rattle.table_model.specs.Rows.{without, in_order}
 
 module _ {K X : Type 0} {cmp : K → K → Ordering} (order : IsTotalOrder cmp) where
@@ -84,3 +84,37 @@ module _ {K X : Type 0} {cmp : K → K → Ordering} (order : IsTotalOrder cmp) 
   -- and after a row is gone
   pub all_without : (q : K) → IfSome (find cmp q (without cmp k rows)) P
   all_without q = subst (λ found. IfSome found P) (sym (found_without order q k rows)) (either_way (λ found. IfSome found P) (eq_by_cmp cmp q k) None (find cmp q rows) tt (all q))
+
+module _ {K X : Type 0} {cmp : K → K → Ordering} (order : IsTotalOrder cmp) (k : K) where
+  -- the last value that is put stays
+  pub put_twice : (v w : X) (rows : List (K × X)) → put cmp k w (put cmp k v rows) ≡ put cmp k w rows
+  put_twice v w [] = ap (λ o. by_order o ((k, w) ∷ (k, v) ∷ []) ((k, w) ∷ []) ((k, v) ∷ (k, w) ∷ [])) (tied_itself order k)
+  put_twice v w (row ∷ rows) =
+      elim (cmp k row.0) as (λ o. cmp k row.0 ≡ o → put cmp k w (by_order o ((k, v) ∷ row ∷ rows) ((row.0, v) ∷ rows) (row ∷ put cmp k v rows)) ≡ by_order o ((k, w) ∷ row ∷ rows) ((row.0, w) ∷ rows) (row ∷ put cmp k w rows)) [
+        | Less ↦ λ _. ap (λ o. by_order o ((k, w) ∷ (k, v) ∷ row ∷ rows) ((k, w) ∷ row ∷ rows) ((k, v) ∷ put cmp k w (row ∷ rows))) (tied_itself order k)
+        | Equal ↦ λ is. ap (λ o. by_order o ((k, w) ∷ (row.0, v) ∷ rows) ((row.0, w) ∷ rows) ((row.0, v) ∷ put cmp k w rows)) is
+        | Greater ↦ λ is. ap (λ o. by_order o ((k, w) ∷ row ∷ put cmp k v rows) ((row.0, w) ∷ put cmp k v rows) (row ∷ put cmp k w (put cmp k v rows))) is ∙ ap (λ rest. row ∷ rest) (put_twice v w rows)
+      ] refl
+
+  -- a row that was put and is gone leaves the others
+  pub without_put : (v : X) (rows : List (K × X)) → without cmp k (put cmp k v rows) ≡ without cmp k rows
+  without_put v [] = ap (λ o. cond (not (is_eq o)) ((k, v) ∷ []) []) (tied_itself order k)
+  without_put v (row ∷ rows) =
+      elim (cmp k row.0) as (λ o. cmp k row.0 ≡ o → without cmp k (by_order o ((k, v) ∷ row ∷ rows) ((row.0, v) ∷ rows) (row ∷ put cmp k v rows)) ≡ without cmp k (row ∷ rows)) [
+        | Less ↦ λ _. ap (λ o. cond (not (is_eq o)) ((k, v) ∷ without cmp k (row ∷ rows)) (without cmp k (row ∷ rows))) (tied_itself order k)
+        | Equal ↦ λ is. ap (λ o. cond (not (is_eq o)) ((row.0, v) ∷ without cmp k rows) (without cmp k rows)) is ∙ sym (ap (λ o. cond (not (is_eq o)) (row ∷ without cmp k rows) (without cmp k rows)) is)
+        | Greater ↦ λ _. ap (λ rest. cond (not (eq_by_cmp cmp k row.0)) (row ∷ rest) rest) (without_put v rows)
+      ] refl
+
+  -- the value that is there, put again, changes nothing
+  pub put_same : IsAntisymmetric cmp → (v : X) (rows : List (K × X)) → T (is_sorted cmp rows) → find cmp k rows ≡ Some v → put cmp k v rows ≡ rows
+  put_same same v rows rises is =
+      same_entries cmp order same _ _ (is_sorted-put cmp order k v rows rises) rises
+        (λ q. find-put cmp order q k v rows
+          ∙ elim (eq_by_cmp cmp q k) as (λ b. eq_by_cmp cmp q k ≡ b → cond b (Some v) (find cmp q rows) ≡ find cmp q rows) [ true ↦ λ e. sym is ∙ ap (λ q. find cmp q rows) (sym (same q k ((Equal-is _).0 e))) | false ↦ λ _. refl ] refl)
+
+  -- nothing is found below all rows
+  pub find_below : (rows : List (K × X)) → T (below_all cmp k rows) → find cmp k rows ≡ None
+  find_below [] h = refl
+  find_below (row ∷ rows) h =
+      elim (cmp k row.0) as (λ o. T (is_lt o && below_all cmp k rows) → cond (is_eq o) (Some row.1) (find cmp k rows) ≡ None) [ Less ↦ λ h. find_below rows h | Equal ↦ λ h. absurd h | Greater ↦ λ h. absurd h ] h

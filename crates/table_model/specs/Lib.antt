@@ -1,3 +1,5 @@
 pub mod Pair
 pub mod Rows
 pub mod Stubs
+pub mod Bags
+pub mod Holdings
