@@ -3,3 +3,4 @@ pub mod Rows
 pub mod Stubs
 pub mod Bags
 pub mod Holdings
+pub mod Proxies
