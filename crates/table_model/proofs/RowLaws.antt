@@ -110,8 +110,8 @@ module _ {K X : Type 0} {cmp : K → K → Ordering} (order : IsTotalOrder cmp) 
   pub put_same : IsAntisymmetric cmp → (v : X) (rows : List (K × X)) → T (is_sorted cmp rows) → find cmp k rows ≡ Some v → put cmp k v rows ≡ rows
   put_same same v rows rises is =
       same_entries cmp order same _ _ (is_sorted-put cmp order k v rows rises) rises
-        (λ q. find-put cmp order q k v rows
-          ∙ elim (eq_by_cmp cmp q k) as (λ b. eq_by_cmp cmp q k ≡ b → cond b (Some v) (find cmp q rows) ≡ find cmp q rows) [ true ↦ λ e. sym is ∙ ap (λ q. find cmp q rows) (sym (same q k ((Equal-is _).0 e))) | false ↦ λ _. refl ] refl)
+      (λ q. find-put cmp order q k v rows
+      ∙ elim (eq_by_cmp cmp q k) as (λ b. eq_by_cmp cmp q k ≡ b → cond b (Some v) (find cmp q rows) ≡ find cmp q rows) [ true ↦ λ e. sym is ∙ ap (λ q. find cmp q rows) (sym (same q k ((Equal-is _).0 e))) | false ↦ λ _. refl ] refl)
 
   -- nothing is found below all rows
   pub find_below : (rows : List (K × X)) → T (below_all cmp k rows) → find cmp k rows ≡ None

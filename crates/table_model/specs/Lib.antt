@@ -4,3 +4,5 @@ pub mod Stubs
 pub mod Bags
 pub mod Holdings
 pub mod Proxies
+pub mod Marks
+pub mod Objects
