@@ -1,14 +1,13 @@
 -- The holders that a map stands for, before and after one of them is counted more or less.
-use Rattle.std.proofs.Common.{◌≡◌, ℕ, ◌+◌, ◌-◌, ◌≤◌, ◌<◌, false, List, Option, None, Some, IsSome, length, sym, ap, ◌∙◌, subst, arith, refl}
+use Rattle.std.proofs.Common.{◌≡◌, ℕ, ◌+◌, ◌-◌, ◌<◌, false, List, Option, None, Some, IsSome, length, sym, ap, ◌∙◌, subst, arith, refl}
 use Rattle.std.specs.HashMap.{HashMap, get, IsUnique, UpdatesBy}
 use Rattle.std.specs.Option.{unwrap_or}
 use Rattle.std.specs.Ordering.{eq_by_cmp}
-use Rattle.std.specs.Cmp.{eq_by_cmp_equiv}
 use Rattle.table_model.specs.Bags.{how_often, bag_of, one_more, one_less}
 use Rattle.table_model.specs.Holdings.{holder_cmp}
 use Rattle.table_model.specs.declared.holder.Holder.{Holder}
 use Rattle.table_model.specs.contracts.holder.HolderPartialEq.TheImpl as derived
-use Rattle.table_model.proofs.BagLaws.{how_many_bag_of, how_many_at_most, one_less_one_more, length_one_more}
+use Rattle.table_model.proofs.BagLaws.{how_many_bag_of, one_less_one_more, length_one_more}
 use Rattle.table_model.proofs.HoldLaws.{holder_order}
 use Rattle.env_table.specs.Holders.{spread}
 use Rattle.env_table.proofs.Spread.{often_spread, counted_more}

@@ -1,5 +1,5 @@
 -- The rows of pairs with their holders, after one of them is counted more or less.
-use Rattle.std.proofs.Common.{◌≡◌, ℕ, ◌+◌, ◌<◌, Bool, true, false, cond, List, [], ◌∷◌, length, Option, None, Some, IsSome, Result, Ok, Err, OnOk, OnErr, refl, sym, ap, ◌∙◌, subst, arith, nat_eq, nat_lt, if◌then◌else◌}
+use Rattle.std.proofs.Common.{◌≡◌, ℕ, ◌+◌, ◌<◌, true, false, cond, List, [], ◌∷◌, length, Option, None, Some, IsSome, Result, Ok, Err, OnOk, OnErr, refl, sym, ap, ◌∙◌, subst, arith, nat_eq, nat_lt, if◌then◌else◌}
 use borrow.Author.Tests.{lt-ltb}
 use Rattle.std.specs.Prelude.{T}
 use Rattle.std.proofs.lemmas.Bool.Decides.{nat_tests}
@@ -8,7 +8,7 @@ use Rattle.std.specs.Cmp.{tied_itself}
 use Rattle.std.specs.FinMap.{find, put, is_sorted}
 use Rattle.std.specs.FinMap.Entries.{find-put, is_sorted-put, is_sorted-where_key}
 use Rattle.table_model.specs.Bags.{how_often, bag_of, one_more, one_less}
-use Rattle.table_model.specs.Holdings.{Hold, Holdings, hold, holder_cmp, hold_cmp}
+use Rattle.table_model.specs.Holdings.{hold, holder_cmp, hold_cmp}
 use Rattle.table_model.specs.Pair.{Pair, pair_cmp, is_pair}
 use Rattle.table_model.specs.Rows.{without}
 use Rattle.table_model.specs.declared.holder.Holder.{Holder}

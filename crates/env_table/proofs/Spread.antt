@@ -1,14 +1,14 @@
 -- How often a holder is among the holders that a map stands for.
-use Rattle.std.proofs.Common.{◌≡◌, ℕ, ◌+◌, ◌≤◌, Bool, true, false, cond, List, [], ◌∷◌, ◌++◌, replicate, suc, zero, Option, None, Some, refl, sym, ap, ◌∙◌, subst, arith}
+use Rattle.std.proofs.Common.{◌≡◌, ℕ, ◌+◌, Bool, true, false, cond, List, [], ◌∷◌, replicate, suc, zero, None, Some, refl, sym, ap, ◌∙◌, subst, arith}
 use Rattle.std.specs.Option.{unwrap_or}
-use Rattle.std.specs.Ordering.{eq_by_cmp, is_eq}
+use Rattle.std.specs.Ordering.{eq_by_cmp}
 use Rattle.std.specs.List.{IsDistinct, AllByRecursion}
 use Rattle.std.specs.Map.{lookup, keys_of}
 use Rattle.std.specs.Cmp.{eq_by_cmp_equiv, Equal-is}
-use Rattle.table_model.specs.Bags.{how_many, how_often, bag_of, one_more, one_less}
+use Rattle.table_model.specs.Bags.{how_often, bag_of, one_more}
 use Rattle.table_model.specs.Holdings.{holder_cmp}
 use Rattle.table_model.specs.declared.holder.Holder.{Holder}
-use Rattle.table_model.proofs.BagLaws.{how_many_append, same_bag, one_less_one_more}
+use Rattle.table_model.proofs.BagLaws.{how_many_append, same_bag}
 use Rattle.table_model.proofs.HoldLaws.{holder_order, same_holder}
 use Rattle.env_table.specs.Holders.{spread}
 

@@ -1,16 +1,16 @@
 -- What is read of the rows of nested maps.
-use Rattle.std.proofs.Common.{◌≡◌, ℕ, Bool, true, false, cond, ◌&&◌, ◌||◌, not, List, [], ◌∷◌, ◌++◌, map, Option, None, Some, refl, sym, ap, ◌∙◌, subst, length, arith, IsTrue, ◌↔◌}
-use Rattle.std.specs.HashMap.{HashMap, get_by_text, IsUnique}
-use Rattle.std.specs.List.{list_any, flat_map, IsDistinct, AllByRecursion}
+use Rattle.std.proofs.Common.{◌≡◌, ℕ, Bool, true, false, cond, ◌&&◌, ◌||◌, not, List, [], ◌∷◌, ◌++◌, Option, None, Some, refl, sym, ap, ◌∙◌, length, arith, IsTrue, ◌↔◌}
+use Rattle.std.specs.HashMap.{HashMap}
+use Rattle.std.specs.List.{list_any, IsDistinct, AllByRecursion}
 use Rattle.std.specs.Map.{lookup, keys_of}
 use Rattle.std.specs.String.{string_bytes, string_eq}
 use Rattle.std.specs.Str.{bytes_eq}
 use Rattle.std.specs.declared.string.String.{String}
 use Rattle.std.specs.Cmp.Lexicographic.{nat_list_eq_equiv}
 use Rattle.std.specs.FinMap.{find}
-use Rattle.table_model.specs.Pair.{Pair, pair, pair_cmp, is_pair}
+use Rattle.table_model.specs.Pair.{Pair, pair, pair_cmp}
 use Rattle.table_model.proofs.PairLaws.{is_pair_by_texts}
-use Rattle.pair_map.specs.ByOid.{at_face, at_pair, face_rows, pair_rows}
+use Rattle.pair_map.specs.ByOid.{at_face, face_rows, pair_rows}
 
 -- the first of two options that has a value
 abbrev or_else : {X : Type 0} → Option X → Option X → Option X

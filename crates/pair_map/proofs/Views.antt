@@ -1,6 +1,6 @@
 -- Nested maps as rows in order, before and after a change.
-use Rattle.std.proofs.Common.{◌≡◌, ℕ, Bool, cond, List, Option, None, Some, sym, ap, ◌∙◌}
-use Rattle.std.specs.HashMap.{HashMap, IsUnique, get_by_text}
+use Rattle.std.proofs.Common.{◌≡◌, ℕ, cond, List, Option, None, Some, sym, ap, ◌∙◌}
+use Rattle.std.specs.HashMap.{HashMap, IsUnique}
 use Rattle.std.specs.List.{list_any}
 use Rattle.std.specs.Str.{bytes_eq}
 use Rattle.std.specs.String.{string_eq}
@@ -11,7 +11,7 @@ use Rattle.table_model.specs.Rows.{in_order, without}
 use Rattle.table_model.proofs.PairLaws.{pair_order, same_pair}
 use Rattle.table_model.proofs.RowLaws.{found_in_order, in_order_put, in_order_without, in_order_same, any_in_order}
 use Rattle.pair_map.specs.ByOid.{at_pair, pair_rows}
-use Rattle.pair_map.proofs.Reading.{found_rows, any_row, has_faces}
+use Rattle.pair_map.proofs.Reading.{found_rows}
 
 -- pairs of the same texts are the same
 pub same_texts : {a b x y : List ℕ} → a ≡ b → x ≡ y → pair a x ≡ pair b y

@@ -1,9 +1,9 @@
 -- Numbers of pairs and pairs of numbers agree, before and after one of them changes.
-use Rattle.std.proofs.Common.{◌≡◌, ℕ, ◌+◌, ◌<◌, Bool, true, false, cond, Option, None, Some, nat_eq, refl, sym, ap, ◌∙◌, subst, arith}
+use Rattle.std.proofs.Common.{◌≡◌, ℕ, ◌+◌, Bool, true, false, cond, Option, None, Some, nat_eq, refl, sym, ap, ◌∙◌, subst, arith}
 use Rattle.std.specs.Cmp.{Equal-is, tied_itself}
 use Rattle.std.specs.Ordering.{is_eq}
 use borrow.Author.Tests.{eqb-true, eq-eqb}
-use Rattle.table_model.specs.Pair.{Pair, pair_cmp, is_pair}
+use Rattle.table_model.specs.Pair.{Pair, is_pair}
 use Rattle.table_model.proofs.PairLaws.{pair_order, same_pair}
 use Rattle.proxy_table.specs.Releases.{AreOne}
 

@@ -4,12 +4,12 @@ use Rattle.std.specs.HashMap.{HashMap, get, UpdatesBy}
 use Rattle.std.specs.Map.{lookup}
 use Rattle.std.specs.FinMap.{find, put}
 use Rattle.std.specs.FinMap.Entries.{find-put}
-use Rattle.table_model.specs.Pair.{Pair, pair_cmp, is_pair}
+use Rattle.table_model.specs.Pair.{Pair, pair_cmp}
 use Rattle.table_model.specs.Rows.{without}
 use Rattle.table_model.specs.Proxies.{Proxies, proxy, freed, HasNumber}
 use Rattle.table_model.proofs.PairLaws.{pair_order}
 use Rattle.table_model.proofs.RowLaws.{found_without}
-use Rattle.proxy_table.specs.Releases.{AreOne, Agrees, pair_at, pair_of}
+use Rattle.proxy_table.specs.Releases.{Agrees, pair_at, pair_of}
 use Rattle.proxy_table.specs.declared.release.Release.{Release}
 use Rattle.proxy_table.proofs.Agreeing.{one_arrived, one_freed, within, apart}
 

@@ -1,7 +1,4 @@
-use Rattle.std.proofs.Common.{rules, subst, sym, ◌<◌, ◌∙◌}
-use Rattle.table_model.specs.Bags.{how_often}
-use Rattle.table_model.specs.Holdings.{holder_cmp}
-use Rattle.env_table.specs.Holders.{holders_or_none}
+use Rattle.std.proofs.Common.{rules, sym, ◌∙◌}
 use Rattle.env_table.proofs.RowChanges.{some_after, gone_with_last, gone_with_others, left_of, last_told, others_told, there_in}
 use Rattle.env_table.proofs.rows.let_go.Goals as goal
 

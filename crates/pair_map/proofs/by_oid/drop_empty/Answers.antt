@@ -1,5 +1,4 @@
 use Rattle.pair_map.proofs.Changes.{emptied}
-use Rattle.std.proofs.Common.{sym}
 use Rattle.pair_map.proofs.by_oid.drop_empty.Goals as goal
 
 pub returns-then-is_empty-clause-kept : goal.returns-then-is_empty-clause-kept

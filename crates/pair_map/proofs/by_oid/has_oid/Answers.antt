@@ -1,4 +1,4 @@
-use Rattle.std.proofs.Common.{rules, sym, ap, ◌∙◌}
+use Rattle.std.proofs.Common.{sym, ap, ◌∙◌}
 use Rattle.pair_map.proofs.Reading.{any_row, has_faces, filled}
 use Rattle.pair_map.proofs.by_oid.has_oid.Goals as goal
 

@@ -1,4 +1,4 @@
-use Rattle.std.proofs.Common.{◌∙◌, ap, sym, subst, arith, length, ◌<◌, ◌-◌, ◌^◌}
+use Rattle.std.proofs.Common.{◌∙◌, ap, arith, length}
 use Rattle.std.specs.Ordering.{eq_by_cmp}
 use Rattle.table_model.specs.Holdings.{holder_cmp}
 use Rattle.table_model.proofs.BagLaws.{how_many_at_most, length_one_more}

@@ -1,7 +1,4 @@
-use Rattle.std.proofs.Common.{◌∙◌, sym, ap}
-use Rattle.std.specs.List.{list_any}
-use Rattle.std.specs.Str.{bytes_eq}
-use Rattle.pair_map.specs.ByOid.{pair_rows}
+use Rattle.std.proofs.Common.{◌∙◌}
 use Rattle.pair_map.proofs.Views.{any_at}
 use Rattle.pair_map.proofs.pair_map.PairMap.has_oid.Goals as goal
 

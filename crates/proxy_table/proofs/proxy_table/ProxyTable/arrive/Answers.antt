@@ -1,4 +1,4 @@
-use Rattle.std.proofs.Common.{rules, sym, ◌∙◌, ap}
+use Rattle.std.proofs.Common.{sym, ◌∙◌, ap}
 use Rattle.table_model.specs.Proxies.{proxy}
 use Rattle.proxy_table.proofs.Steps.{agrees_arrived, sure}
 use Rattle.proxy_table.proofs.proxy_table.ProxyTable.arrive.Goals as goal

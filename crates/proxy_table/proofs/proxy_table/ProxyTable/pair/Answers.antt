@@ -1,4 +1,4 @@
-use Rattle.std.proofs.Common.{sym, ◌∙◌}
+use Rattle.std.proofs.Common.{sym}
 use Rattle.proxy_table.proofs.Steps.{has_release, has_number, inside, outside, at_none}
 use Rattle.proxy_table.proofs.proxy_table.ProxyTable.pair.Goals as goal
 
