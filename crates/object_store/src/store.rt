@@ -120,6 +120,13 @@ impl<V: Drop> Store<V> {
         marks::lowest(&self.marks)
     }
 
+    /// How many objects were made.
+    pub fn made(&self) -> u32
+        ensures { result ≡ self.now.made }
+    {
+        self.made
+    }
+
     /// How many objects live.
     pub fn living(&self) -> u64
         ensures { result ≡ length self.now.rows }

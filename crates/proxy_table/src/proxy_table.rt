@@ -95,6 +95,13 @@ impl ProxyTable {
         Some(ProxyId { number })
     }
 
+    /// How many numbers were given.
+    pub fn made(&self) -> u64
+        ensures { result ≡ self.now.made }
+    {
+        self.made
+    }
+
     /// The pair of a proxy's number.
     pub fn pair(&self, proxy: ProxyId) -> Option<(&Text, &Name)>
         ensures found { IfSome result (λ r. HasNumber (pair r.0.now r.1.now) proxy self.now) }
