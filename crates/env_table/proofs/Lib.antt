@@ -1,0 +1,5 @@
+mod Counted
+mod Occurrences
+mod RowChanges
+mod Spread
+mod Ties

@@ -1,0 +1,14 @@
+use Rattle.std.proofs.Common.{◌∙◌, ap, nat_eq, refl, subst, sym, ◌<◌, ◌-◌, ◌^◌}
+use Rattle.table_model.specs.Holdings.{held}
+use Rattle.env_table.proofs.Occurrences.{holders_are}
+use Rattle.env_table.proofs.RowChanges.{view_more}
+use Rattle.env_table.proofs.environment.Environment.hold.Goals as goal
+
+pub hold-requires : goal.hold-requires
+hold-requires c = subst (λ n. n < 2 ^ 64 - 1) (sym (holders_are c.self.inside.pairs c.number-first.ensures.rises c.args.self.now c.self.view_is _ _ refl)) c.requires
+
+pub returns-clause-held : goal.returns-clause-held
+returns-clause-held c = view_more c.args.holder _ c.self.inside.pairs c.hold.new.pairs c.number-first.ensures.rises c.in_ok-hold.ensures.held ∙ ap (held _) c.self.view_is
+
+pub returns-clause-first : goal.returns-clause-first
+returns-clause-first c = ap (λ n. nat_eq n 0) (holders_are c.self.inside.pairs c.number-first.ensures.rises c.args.self.now c.self.view_is _ _ c.number-first.ensures.number)

@@ -1,0 +1,12 @@
+//! What may be sent to threads.
+
+use crate::Environment;
+
+fn may_go_between_threads(table: &Environment) {
+    sent(table);
+    shared(table);
+}
+
+fn sent<T: Send>(_: &T) {}
+
+fn shared<T: Sync>(_: &T) {}

@@ -1,0 +1,143 @@
+//! Nested maps, from OIDs to maps from faces, read and changed at one pair.
+ghost use Rattle.std.specs.Prelude.{◌≡◌, None, Some, cond, OnOk, OnErr, IsSome, option_copied};
+ghost use Rattle.indexmap.specs.IndexMap.{IsUnique};
+ghost use Rattle.std.specs.HashMap.{get_by_text};
+ghost use Rattle.std.specs.List.{list_any};
+ghost use Rattle.std.specs.Str.{bytes_eq};
+ghost use Rattle.std.specs.String.{string_eq};
+ghost use Rattle.table_model.specs.Pair.{Pair, pair, is_pair};
+ghost use Rattle.pair_map.specs.ByOid.{at_pair, pair_rows};
+
+use indexmap::IndexMap;
+use std::alloc::Global;
+use std::mem;
+use uno_base::NoMemory;
+
+/// Maps from faces, each at its OID.
+pub type ByOid<V> = IndexMap<String, IndexMap<String, V>>;
+
+/// The value at a pair.
+pub fn at_pair<'a, V>(by_oid: &'a ByOid<V>, oid: &str, face: &str) -> Option<&'a V>
+    ensures { option_copied result ≡ at_pair by_oid.now (pair oid.now face.now) }
+{
+    by_oid.get(oid)?.get(face)
+}
+
+/// Whether a pair with this OID is there.
+pub fn has_oid<V>(by_oid: &ByOid<V>, oid: &str) -> bool
+    requires { IsUnique string_eq by_oid.now }
+    ensures { result ≡ list_any (λ row. bytes_eq oid.now row.0.oid) (pair_rows by_oid.now.entries) }
+{
+    let Some(faces) = by_oid.get(oid) else {
+        return false
+    };
+    !faces.is_empty()
+}
+
+/// Puts a value at a pair.
+pub fn insert<V: Drop>(
+    alloc: Global,
+    by_oid: &mut ByOid<V>,
+    oid: &str,
+    face: &str,
+    value: V,
+) -> Result<(), NoMemory>
+    requires { IsUnique string_eq by_oid.old }
+    ensures put { OnOk result ((q : Pair) → at_pair by_oid.new q ≡ cond (is_pair q (pair oid.now face.now)) (Some value) (at_pair by_oid.old q)) }
+    ensures kept { OnErr result ((q : Pair) → at_pair by_oid.new q ≡ at_pair by_oid.old q) }
+    ensures unique { IsUnique string_eq by_oid.new }
+{
+    if by_oid.contains_key(oid) {
+        insert_face(alloc, by_oid, oid, face, value)
+    } else {
+        insert_oid(alloc, by_oid, oid, face, value)
+    }
+}
+
+/// Puts a value at a pair whose OID is there.
+fn insert_face<V: Drop>(
+    alloc: Global,
+    by_oid: &mut ByOid<V>,
+    oid: &str,
+    face: &str,
+    value: V,
+) -> Result<(), NoMemory>
+    requires there { IsSome (get_by_text by_oid.old oid.now) }
+    requires unique { IsUnique string_eq by_oid.old }
+    ensures put { OnOk result ((q : Pair) → at_pair by_oid.new q ≡ cond (is_pair q (pair oid.now face.now)) (Some value) (at_pair by_oid.old q)) }
+    ensures kept { OnErr result ((q : Pair) → at_pair by_oid.new q ≡ at_pair by_oid.old q) }
+    ensures unique { IsUnique string_eq by_oid.new }
+{
+    let key = String::from_str(alloc, face)?;
+    let Some(faces) = by_oid.get_mut(oid) else {
+        unreachable!()
+    };
+    faces.insert(key, value)?;
+    Ok(())
+}
+
+/// Puts a value at a pair whose OID is not there.
+fn insert_oid<V: Drop>(
+    alloc: Global,
+    by_oid: &mut ByOid<V>,
+    oid: &str,
+    face: &str,
+    value: V,
+) -> Result<(), NoMemory>
+    requires absent { get_by_text by_oid.old oid.now ≡ None }
+    requires unique { IsUnique string_eq by_oid.old }
+    ensures put { OnOk result ((q : Pair) → at_pair by_oid.new q ≡ cond (is_pair q (pair oid.now face.now)) (Some value) (at_pair by_oid.old q)) }
+    ensures kept { OnErr result ((q : Pair) → at_pair by_oid.new q ≡ at_pair by_oid.old q) }
+    ensures unique { IsUnique string_eq by_oid.new }
+{
+    let oid_key = String::from_str(alloc, oid)?;
+    let face_key = String::from_str(alloc, face)?;
+    let mut faces = IndexMap::new(alloc);
+    faces.insert(face_key, value)?;
+    by_oid.insert(oid_key, faces)?;
+    Ok(())
+}
+
+/// Puts a value in the place of the one at a pair, which is given back.
+pub fn replace<V>(by_oid: &mut ByOid<V>, oid: &str, face: &str, value: V) -> V
+    requires { IsSome (at_pair by_oid.old (pair oid.now face.now)) }
+    ensures was { Some result ≡ at_pair by_oid.old (pair oid.now face.now) }
+    ensures put { (q : Pair) → at_pair by_oid.new q ≡ cond (is_pair q (pair oid.now face.now)) (Some value) (at_pair by_oid.old q) }
+    ensures unique { IsUnique string_eq by_oid.new }
+{
+    let Some(faces) = by_oid.get_mut(oid) else {
+        unreachable!()
+    };
+    let Some(place) = faces.get_mut(face) else {
+        unreachable!()
+    };
+    mem::replace(place, value)
+}
+
+/// Takes out the value at a pair.
+pub fn remove<V>(by_oid: &mut ByOid<V>, oid: &str, face: &str) -> V
+    requires { IsSome (at_pair by_oid.old (pair oid.now face.now)) }
+    ensures was { Some result ≡ at_pair by_oid.old (pair oid.now face.now) }
+    ensures without { (q : Pair) → at_pair by_oid.new q ≡ cond (is_pair q (pair oid.now face.now)) None (at_pair by_oid.old q) }
+    ensures unique { IsUnique string_eq by_oid.new }
+{
+    let Some(faces) = by_oid.get_mut(oid) else {
+        unreachable!()
+    };
+    let Some(value) = faces.swap_remove(face) else {
+        unreachable!()
+    };
+    value
+}
+
+/// Takes out the map at an OID where it is empty.
+pub fn drop_empty<V: Drop>(by_oid: &mut ByOid<V>, oid: &str)
+    requires { IsUnique string_eq by_oid.old }
+    ensures kept { (q : Pair) → at_pair by_oid.new q ≡ at_pair by_oid.old q }
+    ensures unique { IsUnique string_eq by_oid.new }
+{
+    let Some(faces) = by_oid.get(oid) else { return };
+    if faces.is_empty() {
+        by_oid.swap_remove(oid);
+    }
+}

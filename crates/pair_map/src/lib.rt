@@ -1,0 +1,7 @@
+//! A map from pairs of an OID and a face, whose look-ups by borrowed texts take no memory.
+#![tactic(auto)]
+
+mod by_oid;
+mod pair_map;
+
+pub use pair_map::PairMap;

@@ -1,0 +1,98 @@
+//! The table of stubs, which contracts see as rows in rising order of their pairs.
+ghost use Rattle.std.specs.Prelude.{◌≡◌, ℕ, ◌<◌, ◌-◌, ◌^◌, [], IsSome, IfSome, IsOk, OnOk, OnErr, option_map};
+ghost use Rattle.std.specs.List.{list_any};
+ghost use Rattle.std.specs.Result.{result_ok};
+ghost use Rattle.std.specs.Str.{bytes_eq};
+ghost use Rattle.table_model.specs.Pair.{pair};
+ghost use Rattle.table_model.specs.Stubs.{stub, sent_one, released_one, sent_count, is_last, IsOwed};
+
+use crate::Unowed;
+use pair_map::PairMap;
+use std::alloc::Global;
+use std::marker::Model;
+use table_model::Stub;
+use uno_base::NoMemory;
+use uno_entities::{Name, Text};
+
+/// The stubs of an endpoint.
+#[derive(Drop)]
+pub struct StubTable {
+    stubs: PairMap<Stub>,
+}
+
+impl Model for StubTable {
+    ghost use Rattle.std.specs.Prelude.{IfSome};
+    ghost use Rattle.table_model.specs.Pair.{Pair};
+    ghost use Rattle.table_model.specs.Stubs.{Stubs, stub, IsOwed};
+
+    ghost Value = { Stubs };
+
+    ghost view = { λ t. t.stubs };
+
+    ghost invariant = { λ t. (p : Pair) → IfSome (stub p t.stubs) IsOwed };
+}
+
+impl StubTable {
+    /// An empty table.
+    pub fn new(alloc: Global) -> StubTable
+        ensures { result ≡ [] }
+    {
+        StubTable {
+            stubs: PairMap::new(alloc),
+        }
+    }
+
+    /// Counts a sending of a pair.
+    pub fn sent_one(&mut self, oid: &Text, face: &Name) -> Result<(), NoMemory>
+        requires { sent_count (stub (pair oid.now face.now) self.old) < 2 ^ 64 - 1 }
+        ensures sent { OnOk result (self.new ≡ sent_one (pair oid.now face.now) self.old) }
+        ensures kept { OnErr result (self.new ≡ self.old) }
+        ensures again { IsSome (stub (pair oid.now face.now) self.old) → IsOk result }
+    {
+        let Some(stub) = self.stub(oid, face) else {
+            return self.stubs.insert(
+                oid,
+                face,
+                Stub {
+                    sent: 1,
+                    released: 0,
+                },
+            );
+        };
+        let sent = stub.sent + 1;
+        self.stubs.replace(oid, face, Stub { sent, ..stub });
+        Ok(())
+    }
+
+    /// Counts a release of a pair, and tells whether its stub is gone.
+    pub fn released_one(&mut self, oid: &Text, face: &Name) -> Result<bool, Unowed>
+        ensures answer { result_ok result ≡ option_map is_last (stub (pair oid.now face.now) self.old) }
+        ensures released { self.new ≡ released_one (pair oid.now face.now) self.old }
+    {
+        let Some(stub) = self.stub(oid, face) else {
+            return Err(Unowed)
+        };
+        let released = stub.released + 1;
+        if released == stub.sent {
+            self.stubs.remove(oid, face);
+            return Ok(true);
+        }
+        self.stubs.replace(oid, face, Stub { released, ..stub });
+        Ok(false)
+    }
+
+    /// The stub of a pair.
+    pub fn stub(&self, oid: &Text, face: &Name) -> Option<Stub>
+        ensures same { result ≡ stub (pair oid.now face.now) self.now }
+        ensures owed { IfSome result IsOwed }
+    {
+        self.stubs.get(oid, face).copied()
+    }
+
+    /// Whether a pair with this OID has a stub.
+    pub fn any_for(&self, oid: &Text) -> bool
+        ensures { result ≡ list_any (λ row. bytes_eq oid.now row.0.oid) self.now }
+    {
+        self.stubs.has_oid(oid)
+    }
+}
