@@ -1,12 +1,10 @@
 -- The orders of holders and of occurrences are total, and tell unequal ones apart.
-use Rattle.std.proofs.Common.{◌≡◌, ℕ, Bool, ◌&&◌, refl, sym, ap, ◌∙◌}
-use Rattle.std.specs.declared.cmp.Ordering.{Ordering}
-use Rattle.std.specs.declared.cmp.Ordering.TheVariants.{Less, Equal, Greater}
-use Rattle.std.specs.Ordering.{ordering_then, nat_cmp, eq_by_cmp}
+use Rattle.std.proofs.Common.{◌≡◌, ◌&&◌, refl, sym, ap}
+use Rattle.std.specs.Ordering.{nat_cmp, eq_by_cmp}
 use Rattle.std.specs.Cmp.{IsTotalOrder, on_total, then_total, both_tied, nat_cmp_total}
 use Rattle.std.specs.FinMap.{IsAntisymmetric, nat_cmp-IsAntisymmetric}
-use Rattle.table_model.specs.Pair.{Pair, is_pair}
-use Rattle.table_model.specs.Holdings.{Hold, hold, holder_kind, holder_number, holder_cmp, hold_cmp}
+use Rattle.table_model.specs.Pair.{is_pair}
+use Rattle.table_model.specs.Holdings.{Hold, holder_kind, holder_number, holder_cmp, hold_cmp}
 use Rattle.table_model.specs.declared.holder.Holder.{Holder}
 use Rattle.table_model.specs.declared.holder.Holder.TheVariants.{Frame, Object, Root}
 use Rattle.table_model.proofs.PairLaws.{pair_order, same_pair, both_equal}

@@ -1,5 +1,5 @@
 -- Objects: each living one at its number, in rising order, and how many were made.
-use Rattle.std.specs.Prelude.{ℕ, ◌+◌, Bool, false, cond, List, [], ◌∷◌, Option, None, Some, nat_lt, nat_eq}
+use Rattle.std.specs.Prelude.{ℕ, ◌+◌, Bool, false, cond, List, [], ◌∷◌, Option, None, Some}
 use Rattle.std.specs.FinMap.{find, put}
 use Rattle.std.specs.Ordering.{nat_cmp}
 use Rattle.table_model.specs.Rows.{without}

@@ -1,8 +1,8 @@
 -- Rows with one key each, in rising order of the keys.
-use Rattle.std.specs.Prelude.{List, [], ◌∷◌, not, Option}
+use Rattle.std.specs.Prelude.{List, [], ◌∷◌, not}
 use Rattle.std.specs.declared.cmp.Ordering.{Ordering}
 use Rattle.std.specs.Ordering.{eq_by_cmp}
-use Rattle.std.specs.FinMap.{find, put}
+use Rattle.std.specs.FinMap.{put}
 use Rattle.std.specs.FinMap.Entries.{where_key}
 
 module _ {K X : Type 0} (cmp : K → K → Ordering) where

@@ -1,5 +1,5 @@
 -- Stubs: for each pair that was sent and is not all released, its two numbers, in rising order of the pairs.
-use Rattle.std.specs.Prelude.{◌≡◌, ℕ, ◌+◌, ◌-◌, ◌<◌, Bool, cond, List, [], ◌∷◌, Option, None, Some, nat_eq}
+use Rattle.std.specs.Prelude.{ℕ, ◌+◌, ◌<◌, Bool, cond, List, Option, None, Some, nat_eq}
 use Rattle.std.specs.FinMap.{find, put}
 use Rattle.table_model.specs.Pair.{Pair, pair_cmp}
 use Rattle.table_model.specs.Rows.{without}

@@ -1,5 +1,6 @@
 //! Tables beside plain lists, over operations that are drawn.
 use env_table::{Environment, Holder};
+use object_store::Store;
 use proxy_table::ProxyTable;
 use rand_core::SeedableRng;
 use rand_core::utils::NextWord;
@@ -166,11 +167,108 @@ fn proxies_follow(alloc: Global, operations: u32) -> Result<bool, NoMemory> {
     Ok(true)
 }
 
+/// An object with one field: its number, the field, and its mark.
+#[derive(Clone, Copy)]
+struct Row {
+    number: u32,
+    field: u32,
+    may_go: bool,
+}
+
+/// Whether the store has just the objects of a list, of which one is drawn.
+fn has_rows(store: &Store<u32>, list: &[Row], drawn: u32) -> bool {
+    let lowest = list.iter().find(|row| row.may_go).map(|row| row.number);
+    let field = list
+        .iter()
+        .find(|row| row.number == drawn)
+        .map(|row| row.field);
+    let found = store
+        .object(drawn)
+        .and_then(|(_, fields)| fields.first().copied());
+    store.living() == list.len() as u64 && store.lowest() == lowest && found == field
+}
+
+/// What is listed are living objects in the order in which they were made.
+fn objects_follow(alloc: Global, operations: u32) -> Result<bool, NoMemory> {
+    let mut rng = Lcg64Xsh32::seed_from_u64(21);
+    let mut store = Store::new(alloc);
+    let mut list = Vec::new(alloc);
+    for _ in 0..operations {
+        let drawn = rng.next_word() % 8;
+        let field = rng.next_word();
+        let number = store.made().saturating_sub(drawn);
+        let place = list.iter().position(|row: &Row| row.number == number);
+        if !has_rows(&store, &list, number) || store.made() == u32::MAX {
+            return Ok(false);
+        }
+        match (place, rng.next_word() % 4) {
+            (Some(place), 0) => {
+                list.remove(place);
+                if !removes(&mut store, number) {
+                    return Ok(false);
+                }
+            }
+            (Some(place), 1) => {
+                let row = &mut list[place];
+                if !sets(&mut store, number, row.field, field) {
+                    return Ok(false);
+                }
+                row.field = field;
+            }
+            (Some(place), 2) => {
+                let row = &mut list[place];
+                row.may_go = !row.may_go;
+                if !marks(&mut store, number, row.may_go) {
+                    return Ok(false);
+                }
+            }
+            _ => {
+                let mut fields = Vec::new(alloc);
+                fields.push(field)?;
+                let number = store.make(0, fields)?;
+                list.push(Row {
+                    number,
+                    field,
+                    may_go: false,
+                })?;
+            }
+        }
+    }
+    Ok(true)
+}
+
+/// Takes an object out, if it is there.
+fn removes(store: &mut Store<u32>, number: u32) -> bool {
+    let there = store.object(number).is_some();
+    if there {
+        store.remove(number);
+    }
+    there
+}
+
+/// Sets the field of an object, if it is there and the field was as it should be.
+fn sets(store: &mut Store<u32>, number: u32, old: u32, new: u32) -> bool {
+    let Some((_, fields)) = store.object(number) else {
+        return false;
+    };
+    !fields.is_empty() && store.set_field(number, 0, new) == old
+}
+
+/// Marks an object, or takes its mark away, if it is there.
+fn marks(store: &mut Store<u32>, number: u32, may_go: bool) -> bool {
+    let there = store.object(number).is_some();
+    if there {
+        store.set_may_go(number, may_go);
+    }
+    there
+}
+
 #[test]
 fn tables_answer_as_lists_do(rt: HostRuntime) {
     see(&rt, environment_follows(rt.alloc(), 3000) == Ok(true));
     see(&rt, stubs_follow(rt.alloc(), 3000) == Ok(true));
     see(&rt, proxies_follow(rt.alloc(), 3000) == Ok(true));
+    see(&rt, objects_follow(rt.alloc(), 3000) == Ok(true));
 }
 
 fn see(rt: &impl Abort, right: bool) {
