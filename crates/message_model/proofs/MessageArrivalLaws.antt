@@ -45,7 +45,7 @@ oid_named : (table : Table) (oid : Option (List ℕ)) (x b : List ℕ) (after : 
     → IsObject x × MeansIdentities after
 oid_named table None x b after each is spelled = (inl is, subst MeansIdentities (sym spelled.5) each)
 oid_named table (Some oid) x b after each is spelled =
-    let o = oid_fits table oid b after spelled each in
+    let o = oid_fits table oid b after spelled.0 each in
     (subst IsObject (sym is) (inr o.0), o.1)
 
 new_oid_named : (new : Bool) (last : Option (List ℕ)) (table : Table) (x b : List ℕ) (after : Table) → MeansIdentities table

@@ -37,7 +37,7 @@ impl SendCache {
         ensures stands { IfOk result (λ cache. StandsFor cache []) }
     {
         let Some(slots) = NonZeroUsize::new(SLOTS) else {
-            return Err(NoMemory);
+            unreachable!()
         };
         let names = LruCache::new(alloc, slots)?;
         Ok(SendCache { alloc, names })
@@ -109,7 +109,7 @@ impl SendCache {
         }
         match self.names.peek_lru() {
             Some((_, slot)) => *slot,
-            None => 0,
+            None => unreachable!(),
         }
     }
 }

@@ -1,8 +1,7 @@
--- The types of parameters, one parameter after the other.
+-- The types of the values that are carried for parameters, one parameter after the other.
 use Rattle.std.proofs.Common.{◌≡◌, ℕ, zero, suc, ◌+◌, ◌<◌, ◌≤◌, Bool, true, false, List, [], ◌∷◌, ◌++◌, length, drop, if◌then◌else◌, refl, sym, ap, ◌∙◌, arith}
-use Rattle.std.proofs.Common.{append_assoc}
 use Rattle.std.specs.Prelude.{slice_get}
-use Rattle.std.proofs.lemmas.List.{append-nil, drop_all}
+use Rattle.std.proofs.lemmas.List.{drop_all}
 use Rattle.message_model.specs.Calls.{kinds_on}
 use Rattle.uno_model.specs.Entities.{Param}
 use Rattle.uno_model.specs.Kinds.{Kind}
@@ -26,17 +25,13 @@ kinds_at_place test (p ∷ ps) zero within = kinds_step test p ps
 kinds_at_place test (p ∷ ps) (suc i) within = kinds_at_place test ps i (omega (arith, within))
 
 module _ (test : Way → Bool) (ps : List Param) (i : ℕ) where
-  -- one more parameter is passed
-  pub one_more : (before after whole : List Kind) → i < length ps → before ++ kinds_on test (drop i ps) ≡ whole
-      → after ≡ before ++ kinds_on test (one_or_none (slice_get ps i)) → after ++ kinds_on test (drop (i + 1) ps) ≡ whole
-  one_more before after whole within all grows =
-      let next : i + 1 ≡ suc i = omega arith in
-      let here = kinds_on test (one_or_none (slice_get ps i)) in
-      let behind = kinds_on test (drop (suc i) ps) in
-      ap (λ n. after ++ kinds_on test (drop n ps)) next ∙ ap (λ z. z ++ behind) grows ∙ append_assoc before here behind
-      ∙ ap (λ z. before ++ z) (sym (kinds_at_place test ps i within)) ∙ all
+  -- the types of these, and then of those behind
+  pub at_place : (here : List Kind) → i < length ps → here ≡ kinds_on test (one_or_none (slice_get ps i)) → kinds_on test (drop i ps) ≡ here ++ kinds_on test (drop (i + 1) ps)
+  at_place here within is =
+      let next : suc i ≡ i + 1 = omega arith in
+      kinds_at_place test ps i within ∙ ap (λ z. z ++ kinds_on test (drop (suc i) ps)) (sym is) ∙ ap (λ n. here ++ kinds_on test (drop n ps)) next
 
   -- none is left
-  pub none_left : (before whole : List Kind) → length ps ≤ i → before ++ kinds_on test (drop i ps) ≡ whole → before ≡ whole
+  pub none_left : length ps ≤ i → kinds_on test (drop i ps) ≡ []
   unfolding kinds_on
-  none_left before whole past all = sym (append-nil before) ∙ ap (λ xs. before ++ kinds_on test xs) (sym (drop_all i ps past)) ∙ all
+  none_left past = ap (λ xs. kinds_on test xs) (drop_all i ps past)

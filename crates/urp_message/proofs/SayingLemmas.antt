@@ -1,4 +1,6 @@
 -- What a message may say, test by test.
+use Rattle.std.specs.Prelude.{◌==◌}
+use Rattle.std.proofs.lemmas.Bool.{eqb-true}
 use Rattle.std.proofs.Common.{◌≡◌, ◌≢◌, ℕ, suc, ◌+◌, ◌^◌, ◌<◌, ◌≤◌, Bool, true, false, List, [], ◌∷◌, length, map, drop, get_or, slice_get, Option}
 use Rattle.std.proofs.Common.{None, Some, option_map, IsTrue, ◌↔◌, refl, sym, ap, subst, ◌∙◌, arith}
 use Rattle.std.proofs.lemmas.List.{at_drop_more, drop_all, length-map}
@@ -19,7 +21,6 @@ use Rattle.uno_entities.specs.TypeNames.{kind_of}
 use Rattle.uno_entities.specs.declared.type_name.TypeName.{TypeName}
 use Rattle.uno_values.specs.Values.{plain_of}
 use Rattle.uno_values.specs.declared.value.Value.{Value}
-use Rattle.urp_message.specs.Params.{kinds_at}
 use Rattle.urp_message.specs.Saying.{FindsCalled, ExceptionFits}
 
 -- ---- functions
@@ -59,61 +60,56 @@ through x y = ((λ a. y.0 (x.0 a)), (λ c. x.1 (y.1 c)))
 
 -- ---- values
 
-module _ (reg : List Entity) where
-  long : (vs : List Plain) (ks : List Kind) → FitEach reg (plains vs) ks → length vs ≡ length ks
-  unfolding FitEach
-  long [] [] fit = refl
-  long [] (k ∷ ks) fit = absurd fit
-  long (v ∷ vs) [] fit = absurd fit
-  long (v ∷ vs) (k ∷ ks) fit = ap suc (long vs ks fit.1)
+-- the first value and the others
+one_filled : (reg : List Entity) (v : Plain) (vs : List Plain) (k : Kind) (ks : List Kind) → ((Fits reg v k × (depth v ≤ 64)) × Fill reg vs ks) ↔ Fill reg (v ∷ vs) (k ∷ ks)
+unfolding FitEach depth_in
+one_filled reg v vs k ks = (
+  (λ p. record { fit = (p.0.0, p.1.fit); deep = omega (arith, p.0.1, p.1.deep) }),
+  (λ f. ((f.fit.0, omega (arith, f.deep)), record { fit = f.fit.1; deep = omega (arith, f.deep) })),
+)
 
-  pub filled_long : (vs : List Plain) (ks : List Kind) → Fill reg vs ks → length vs ≡ length ks
-  filled_long vs ks fill = long vs ks fill.fit
+-- no values fit no types, and no others do
+nothing_fills : (reg : List Entity) (vs : List Plain) → (length vs == 0) ≡ true → Fill reg vs []
+unfolding FitEach depth_in
+nothing_fills reg [] none = record { fit = tt; deep = omega arith }
+nothing_fills reg (v ∷ vs) none = let bad : ⊥ = omega (arith, eqb-true (length (v ∷ vs)) 0 none) in absurd bad
 
-  none_filled : Fill reg [] []
-  unfolding FitEach depth_in
-  none_filled = record { fit = tt; deep = omega arith }
+fills_nothing : (reg : List Entity) (vs : List Plain) → Fill reg vs [] → (length vs == 0) ≡ true
+unfolding FitEach
+fills_nothing reg [] fill = refl
+fills_nothing reg (v ∷ vs) fill = absurd fill.fit
 
-  -- the first value and the others
-  one_filled : (v : Plain) (vs : List Plain) (k : Kind) (ks : List Kind) → ((Fits reg v k × (depth v ≤ 64)) × Fill reg vs ks) ↔ Fill reg (v ∷ vs) (k ∷ ks)
-  unfolding FitEach depth_in
-  one_filled v vs k ks = (
-    (λ p. record { fit = (p.0.0, p.1.fit); deep = omega (arith, p.0.1, p.1.deep) }),
-    (λ f. ((f.fit.0, omega (arith, f.deep)), record { fit = f.fit.1; deep = omega (arith, f.deep) })),
-  )
+-- values that are left, the types of those that are left, and those behind the next parameter
+module _ (reg : List Entity) (left : List Plain) (ks after : List Kind) (all : Type 0) (kept : Fill reg left ks ↔ all) where
+  -- the next parameter carries no value
+  pub passed_over : ks ≡ after → Fill reg left after ↔ all
+  passed_over is = subst (λ zs. Fill reg left zs ↔ all) is kept
 
-  module _ (vs : List Value) (ks : List (Bor TypeName)) where
-    -- values fit types only where there are as many of the one as of the other
-    pub other_long : (length vs ≡ length ks → ⊥) → IsTrue false ↔ Fill reg (map plain_of vs) (kinds_at ks)
-    other_long differ =
-        ((λ bad. cc), (λ f. absurd (differ (sym (length-map vs plain_of) ∙ filled_long (map plain_of vs) (kinds_at ks) f ∙ length-map ks (λ (k : Bor TypeName). kind_of k.now)))))
+  module _ (k : Kind) (is : ks ≡ k ∷ after) where
+    -- no value is left for it
+    pub lacks_one : left ≡ [] → IsTrue false ↔ all
+    unfolding FitEach
+    lacks_one none = ((λ bad. cc), (λ a. absurd (none_fits (subst (λ zs. Fill reg zs (k ∷ after)) none (subst (λ zs. Fill reg left zs) is (kept.1 a))))))
+      where
+        none_fits : Fill reg [] (k ∷ after) → ⊥
+        none_fits f = f.fit
 
-    -- at the end nothing is left that may not fit
-    pub nothing_left : (i : ℕ) → length vs ≤ i → length vs ≡ length ks → (Fill reg (map plain_of (drop i vs)) (kinds_at (drop i ks)) ↔ Fill reg (map plain_of vs) (kinds_at ks))
-        → IsTrue true ↔ Fill reg (map plain_of vs) (kinds_at ks)
-    nothing_left i past same kept =
-        let values : drop i vs ≡ [] = drop_all i vs past in
-        let types : drop i ks ≡ [] = drop_all i ks (omega arith) in
-        ((λ t. kept.0 (rw (values, types) none_filled)), (λ f. refl))
-
-    module _ (i : ℕ) (v : Value) (k : Bor TypeName) (within : i < length vs) (same : length vs ≡ length ks) (v_is : v ≡ get_or vs i v) (k_is : k ≡ get_or ks i k)
-        (kept : Fill reg (map plain_of (drop i vs)) (kinds_at (drop i ks)) ↔ Fill reg (map plain_of vs) (kinds_at ks)) where
+    module _ (v : Plain) (vs : List Plain) (split : left ≡ v ∷ vs) where
       -- what is left is its first value and the others
-      next_left : ((Fits reg (plain_of v) (kind_of k.now) × (depth (plain_of v) ≤ 64)) × Fill reg (map plain_of (drop (i + 1) vs)) (kinds_at (drop (i + 1) ks)))
-          ↔ Fill reg (map plain_of (drop i vs)) (kinds_at (drop i ks))
-      next_left =
-          let values : map plain_of (drop i vs) ≡ plain_of v ∷ map plain_of (drop (i + 1) vs)
-          = at_drop_more (λ xs. map plain_of xs) vs i v within ∙ ap (λ x. plain_of x ∷ map plain_of (drop (i + 1) vs)) (sym v_is) in
-          let types : kinds_at (drop i ks) ≡ kind_of k.now ∷ kinds_at (drop (i + 1) ks)
-          = at_drop_more (λ xs. kinds_at xs) ks i k (omega arith) ∙ ap (λ (x : Bor TypeName). kind_of x.now ∷ kinds_at (drop (i + 1) ks)) (sym k_is) in
-          rw (values, types) (one_filled (plain_of v) (map plain_of (drop (i + 1) vs)) (kind_of k.now) (kinds_at (drop (i + 1) ks)))
+      next_left : ((Fits reg v k × (depth v ≤ 64)) × Fill reg vs after) ↔ Fill reg left ks
+      next_left = rw (split, is) (one_filled reg v vs k after)
 
       -- the first one fits, and the others are left
-      pub goes_on : (answer : Bool) → (IsTrue answer ↔ (Fits reg (plain_of v) (kind_of k.now) × (depth (plain_of v) ≤ 64))) → answer ≡ true
-          → Fill reg (map plain_of (drop (i + 1) vs)) (kinds_at (drop (i + 1) ks)) ↔ Fill reg (map plain_of vs) (kinds_at ks)
-      goes_on answer told yes_is = ((λ f. kept.0 (next_left.0 (told.0 yes_is, f))), (λ f. (next_left.1 (kept.1 f)).1))
+      pub goes_on : (answer : Bool) → (IsTrue answer ↔ (Fits reg v k × (depth v ≤ 64))) → answer ≡ true → Fill reg vs after ↔ all
+      goes_on answer told yes_is = ((λ f. kept.0 (next_left.0 (told.0 yes_is, f))), (λ a. (next_left.1 (kept.1 a)).1))
 
       -- the first one does not fit, and so not all do
-      pub stops : (answer : Bool) → (IsTrue answer ↔ (Fits reg (plain_of v) (kind_of k.now) × (depth (plain_of v) ≤ 64))) → answer ≡ false
-          → IsTrue false ↔ Fill reg (map plain_of vs) (kinds_at ks)
-      stops answer told no_is = ((λ bad. cc), (λ f. sym no_is ∙ told.1 (next_left.1 (kept.1 f)).0))
+      pub stops : (answer : Bool) → (IsTrue answer ↔ (Fits reg v k × (depth v ≤ 64))) → answer ≡ false → IsTrue false ↔ all
+      stops answer told no_is = ((λ bad. cc), (λ a. sym no_is ∙ told.1 (next_left.1 (kept.1 a)).0))
+
+  -- at the end nothing may be left
+  pub none_left : ks ≡ [] → (answer : Bool) → answer ≡ (length left == 0) → IsTrue answer ↔ all
+  none_left none answer told = (
+    (λ t. kept.0 (rw none (nothing_fills reg left (sym told ∙ t)))),
+    (λ a. told ∙ fills_nothing reg left (subst (λ zs. Fill reg left zs) none (kept.1 a))),
+  )

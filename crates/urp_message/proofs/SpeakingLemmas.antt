@@ -1,5 +1,7 @@
 -- A message that may be said has parts that can be written, and what is written of it is read again.
-use Rattle.std.proofs.Common.{◌≡◌, ℕ, ◌^◌, ◌<◌, ◌≤◌, List, ◌++◌, ◌∷◌, length, drop, [], Ok, refl, sym, ap, subst, ◌∙◌, arith}
+use Rattle.std.specs.Int.{w32, to_be_bytes}
+use Rattle.std.proofs.lemmas.List.{length-drop, take_at}
+use Rattle.std.proofs.Common.{◌≡◌, ℕ, take, ◌+◌, ◌-◌, ◌^◌, ◌<◌, ◌≤◌, List, ◌++◌, ◌∷◌, length, drop, [], Ok, refl, sym, ap, subst, ◌∙◌, arith}
 use Rattle.uno_model.specs.Entities.{Entity}
 use Rattle.uno_model.specs.Functions.{Function}
 use Rattle.uno_model.specs.Kinds.{Kind, name_of}
@@ -66,12 +68,37 @@ read_again reg m spoken now block sound may light carried bytes remembered waits
     body_of : (body : List ℕ) → drop 8 (spell_block 1 body) ≡ body
     body_of body = body_behind 1 body
 
--- a body that was written into nothing is no longer than the message weighs
-pub short_body : (reg : List Entity) (m : Message) (spoken : Spoken) (nothing written body : List ℕ) → message_weight m ≤ 16777216 → nothing ≡ []
-    → written ≡ nothing ++ message_spelling reg m spoken → body ≡ written → length body < 2 ^ 32
-short_body reg m spoken nothing written body light none all is =
-    let same : body ≡ message_spelling reg m spoken = is ∙ all ∙ ap (λ z. z ++ message_spelling reg m spoken) none in
-    rw same (omega (arith, message_bounded reg m spoken))
+-- a header that says one message, and not yet its size
+abbrev pub no_size : List ℕ
+no_size = 0 ∷ 0 ∷ 0 ∷ 0 ∷ 0 ∷ 0 ∷ 0 ∷ 1 ∷ []
+
+-- a block with such a header is longer than it by its body, which is no longer than the message weighs
+pub size_fits : (reg : List Entity) (m : Message) (spoken : Spoken) (header written block : List ℕ) → message_weight m ≤ 16777216 → header ≡ no_size
+    → written ≡ header ++ message_spelling reg m spoken → block ≡ written → (8 ≤ length block) × (length block < 2 ^ 32)
+size_fits reg m spoken header written block light of_none all is =
+    let long : length block ≡ length (no_size ++ message_spelling reg m spoken) = ap length (is ∙ all ∙ ap (λ z. z ++ message_spelling reg m spoken) of_none) in
+    let bounded = message_bounded reg m spoken in
+    (omega (arith, long), omega (arith, long, bounded, light))
+
+-- with the size in its first four bytes, it is the block of its body
+pub size_filled : (body header written block now : List ℕ) → header ≡ no_size → written ≡ header ++ body → block ≡ written
+    → now ≡ to_be_bytes w32 (length block - 8) ++ drop 4 block → now ≡ spell_block 1 body
+unfolding spell_block
+size_filled body header written block now of_none all is filled =
+    let whole : block ≡ no_size ++ body = is ∙ all ∙ ap (λ z. z ++ body) of_none in
+    let size : length (no_size ++ body) - 8 ≡ length body = omega arith in
+    filled ∙ ap (λ z. to_be_bytes w32 (length z - 8) ++ drop 4 z) whole ∙ ap (λ n. to_be_bytes w32 n ++ drop 4 (no_size ++ body)) size
+
+-- and it is so where it was written back over what was there
+pub written_back : (body header written block now rest : List ℕ) (count : ℕ) → header ≡ no_size → written ≡ header ++ body → block ≡ written
+    → now ≡ to_be_bytes w32 (length block - 8) ++ drop 4 block → length written ≡ count → take count (now ++ rest) ≡ spell_block 1 body
+written_back body header written block now rest count of_none all is filled counted =
+    let same = size_filled body header written block now of_none all is filled in
+    let long : length now ≡ length written = ap length filled ∙ long_as block (ap length (is ∙ all ∙ ap (λ z. z ++ body) of_none)) ∙ ap length is in
+    take_at now rest count (long ∙ counted) ∙ same
+  where
+    long_as : (block : List ℕ) → length block ≡ length (no_size ++ body) → length (to_be_bytes w32 (length block - 8) ++ drop 4 block) ≡ length block
+    long_as block long = rw length-drop (omega (arith, long))
 
 -- where all messages before were said from the beginning, a block is what their bytes grow by, and names stand as all uses leave them
 pub block_more : (reg : List Entity) (m : Message) (spoken old : Spoken) (block : List ℕ) → block ≡ spell_block 1 (message_spelling reg m spoken) → spoken ≡ old

@@ -1,5 +1,5 @@
 -- Which parameters a request or a reply carries.
-use Rattle.std.specs.Prelude.{Bool, List, map}
+use Rattle.std.specs.Prelude.{Bool, List, [], ◌∷◌, Option, None, Some}
 use Rattle.std.specs.Borrow.{Bor}
 use Rattle.message_model.specs.Calls.{goes, comes}
 use Rattle.uno_model.specs.Kinds.{Kind}
@@ -14,6 +14,7 @@ abbrev pub carries : Phase → Way → Bool
 carries phase.Request = goes
 carries phase.Reply = comes
 
--- types that are borrowed
-abbrev pub kinds_at : List (Bor TypeName) → List Kind
-kinds_at = map (λ k. kind_of k.now)
+-- a type that is lent, where one is
+abbrev pub kind_or_none : Option (Bor TypeName) → List Kind
+kind_or_none None = []
+kind_or_none (Some k) = kind_of k.now ∷ []

@@ -1,27 +1,22 @@
-//! Whether a message may be said, and what it weighs.
-ghost use Rattle.std.specs.Prelude.{◌≡◌, ◌≢◌, ◌↔◌, ◌≤◌, ◌<◌, ◌+◌, ◌-◌, ◌^◌, IsTrue, IfOk, map, min, length};
-ghost use Rattle.message_model.specs.Calls.{kinds_on, numbered, argument_kinds, out_kinds, may_raise, acquire_number, release_number};
-ghost use Rattle.message_model.specs.Speaking.{IsThread, Fill, AnswerFits, MayBeSaid, message_weight, answer_weight, heading_weight, name_weight};
+//! Whether a message may be said, its weight apart.
+ghost use Rattle.std.specs.Prelude.{◌↔◌, ◌≤◌, IsTrue, map};
+ghost use Rattle.message_model.specs.Calls.{kinds_on};
+ghost use Rattle.message_model.specs.Speaking.{IsThread, Fill, AnswerFits, MayBeSaid};
 ghost use Rattle.type_registry.specs.Functions.{lent_function};
-ghost use Rattle.uno_model.specs.Fits.{Fits, IsIdentity, IsInterface};
-ghost use Rattle.uno_model.specs.Kinds as kd;
+ghost use Rattle.uno_model.specs.Fits.{Fits, IsIdentity};
 ghost use Rattle.uno_model.specs.Sound.{IsSound};
-ghost use Rattle.uno_model.specs.Types.{is_type};
-ghost use Rattle.uno_model.specs.Values.{any, depth};
-ghost use Rattle.uno_model.specs.Weights.{weight, weights, text_weight, compressed_weight, kind_weight};
+ghost use Rattle.uno_model.specs.Values.{depth};
 ghost use Rattle.uno_entities.specs.TypeNames.{kind_of};
-ghost use Rattle.uno_values.specs.Values.{plain_of, plains_of};
+ghost use Rattle.uno_values.specs.Values.{plain_of};
 ghost use Rattle.urp_message.specs.Messages.{answer_of, message_of};
 ghost use Rattle.message_model.specs.Messages.{raised};
-ghost use Rattle.urp_message.specs.Params.{carries, kinds_at};
+ghost use Rattle.urp_message.specs.Params.{carries};
 ghost use Rattle.urp_message.specs.Saying.{RequestFits, ReplyFits, FindsCalled, ExceptionFits};
 
-use crate::params::{Phase, kinds};
+use crate::params::{Phase, carried_kind};
 use crate::raising::may_raise;
 use crate::{Answer, Message};
-use std::alloc::Global;
 use type_registry::{FunctionRef, function_numbered};
-use uno_base::NoMemory;
 use uno_types::{Name, Registry, Text, Tid, TypeName};
 use uno_values::{AnyValue, Value, depth_of, fits};
 
@@ -37,9 +32,9 @@ const RELEASE: u16 = 2;
 
 /// Whether a message may be said, its weight apart: its names have the bytes that they may have, it calls or answers a function of the
 /// interface other than acquire and release, and its values fit and are nested at most 64 deep.
-pub fn may_be_said(alloc: Global, registry: &Registry, message: &Message) -> Result<bool, NoMemory>
+pub fn may_be_said(registry: &Registry, message: &Message) -> bool
     requires { IsSound registry.now }
-    ensures { IfOk result (λ b. IsTrue b ↔ MayBeSaid registry.now (message_of message.now)) }
+    ensures { IsTrue result ↔ MayBeSaid registry.now (message_of message.now) }
 {
     match message {
         Message::Request {
@@ -50,15 +45,15 @@ pub fn may_be_said(alloc: Global, registry: &Registry, message: &Message) -> Res
             args,
         } => {
             if !are_names(tid, oid) {
-                return Ok(false);
+                return false;
             }
-            Ok(request_fits(alloc, registry, face, *function, args)?)
+            request_fits(registry, face, *function, args)
         }
         Message::Release { tid, oid, face } => {
             if !are_names(tid, oid) {
-                return Ok(false);
+                return false;
             }
-            Ok(registry.has_interface(face.as_str()))
+            registry.has_interface(face.as_str())
         }
         Message::Reply {
             tid,
@@ -67,9 +62,9 @@ pub fn may_be_said(alloc: Global, registry: &Registry, message: &Message) -> Res
             answer,
         } => {
             if !is_thread(tid) {
-                return Ok(false);
+                return false;
             }
-            Ok(reply_fits(alloc, registry, face, *function, answer)?)
+            reply_fits(registry, face, *function, answer)
         }
     }
 }
@@ -92,35 +87,40 @@ fn is_thread(tid: &Tid) -> bool
 }
 
 /// Whether a request calls a function like others, with arguments that fit.
-fn request_fits(
-    alloc: Global,
-    registry: &Registry,
-    face: &Name,
-    number: u16,
-    args: &[Value],
-) -> Result<bool, NoMemory>
+fn request_fits(registry: &Registry, face: &Name, number: u16, args: &[Value]) -> bool
     requires { IsSound registry.now }
-    ensures { IfOk result (λ b. IsTrue b ↔ RequestFits registry.now face.now number (map plain_of args.now)) }
+    ensures { IsTrue result ↔ RequestFits registry.now face.now number (map plain_of args.now) }
 {
     let Some(function) = called(registry, face, number) else {
-        return Ok(false);
+        return false;
     };
-    values_fit(alloc, registry, Phase::Request, &function, args)
+    values_fit(registry, Phase::Request, &function, args)
 }
 
 /// Whether values are those that a request or a reply carries for the parameters of a function.
 fn values_fit(
-    alloc: Global,
     registry: &Registry,
     phase: Phase,
     function: &FunctionRef,
     values: &[Value],
-) -> Result<bool, NoMemory>
+) -> bool
     requires { IsSound registry.now }
-    ensures { IfOk result (λ b. IsTrue b ↔ Fill registry.now (map plain_of values.now) (kinds_on (carries phase) (lent_function function.now).params)) }
+    ensures { IsTrue result ↔ Fill registry.now (map plain_of values.now) (kinds_on (carries phase) (lent_function function.now).params) }
 {
-    let kinds = kinds(alloc, phase, function)?;
-    Ok(fill(registry, values, &kinds))
+    let mut rest = values;
+    for place in 0..function.param_count() {
+        let Some(kind) = carried_kind(phase, function, place) else {
+            continue;
+        };
+        let Some((value, behind)) = rest.split_first() else {
+            return false;
+        };
+        if !fits_within(registry, value, kind) {
+            return false;
+        }
+        rest = behind;
+    }
+    rest.is_empty()
 }
 
 /// The function of an interface at a number, where it is called like others.
@@ -140,40 +140,29 @@ fn called<'a>(registry: &'a Registry, face: &Name, number: u16) -> Option<Functi
 }
 
 /// Whether an answer is one to a function like others.
-fn reply_fits(
-    alloc: Global,
-    registry: &Registry,
-    face: &Name,
-    number: u16,
-    answer: &Answer,
-) -> Result<bool, NoMemory>
+fn reply_fits(registry: &Registry, face: &Name, number: u16, answer: &Answer) -> bool
     requires { IsSound registry.now }
-    ensures { IfOk result (λ b. IsTrue b ↔ ReplyFits registry.now face.now number (answer_of answer.now)) }
+    ensures { IsTrue result ↔ ReplyFits registry.now face.now number (answer_of answer.now) }
 {
     let Some(function) = called(registry, face, number) else {
-        return Ok(false);
+        return false;
     };
-    answer_fits(alloc, registry, &function, answer)
+    answer_fits(registry, &function, answer)
 }
 
 /// Whether an answer is one to this function.
-fn answer_fits(
-    alloc: Global,
-    registry: &Registry,
-    function: &FunctionRef,
-    answer: &Answer,
-) -> Result<bool, NoMemory>
+fn answer_fits(registry: &Registry, function: &FunctionRef, answer: &Answer) -> bool
     requires { IsSound registry.now }
-    ensures { IfOk result (λ b. IsTrue b ↔ AnswerFits registry.now (lent_function function.now) (answer_of answer.now)) }
+    ensures { IsTrue result ↔ AnswerFits registry.now (lent_function function.now) (answer_of answer.now) }
 {
     match answer {
         Answer::Returned { value, outs } => {
             if !result_fits(registry, function, value) {
-                return Ok(false);
+                return false;
             }
-            values_fit(alloc, registry, Phase::Reply, function, outs)
+            values_fit(registry, Phase::Reply, function, outs)
         }
-        Answer::Raised(exception) => Ok(exception_fits(registry, function, exception)),
+        Answer::Raised(exception) => exception_fits(registry, function, exception),
     }
 }
 
@@ -222,20 +211,4 @@ fn fits_within(registry: &Registry, value: &Value, kind: &TypeName) -> bool
         return false;
     }
     depth_of(value) <= MOST_LEVELS
-}
-
-/// Whether values fit these types one by one.
-fn fill(registry: &Registry, values: &[Value], kinds: &[&TypeName]) -> bool
-    requires { IsSound registry.now }
-    ensures { IsTrue result ↔ Fill registry.now (map plain_of values.now) (kinds_at kinds.now) }
-{
-    if values.len() != kinds.len() {
-        return false;
-    }
-    for place in 0..values.len() {
-        if !fits_within(registry, &values[place], kinds[place]) {
-            return false;
-        }
-    }
-    true
 }

@@ -1,5 +1,6 @@
 //! The end that writes messages.
-ghost use Rattle.std.specs.Prelude.{◌≡◌, ℕ, ◌≤◌, ◌++◌, ◌∷◌, [], List, drop, false, true, IfOk, OnOk, OnErr, IsTrue, IsErr, Ok};
+ghost use Rattle.std.specs.Int.{w32, to_be_bytes};
+ghost use Rattle.std.specs.Prelude.{◌≡◌, ℕ, ◌-◌, ◌^◌, ◌<◌, ◌≤◌, ◌++◌, ◌∷◌, [], List, length, drop, false, true, IfOk, OnOk, OnErr, IsTrue, IsErr, Ok};
 ghost use Rattle.message_model.specs.Calls.{Waits};
 ghost use Rattle.message_model.specs.Headers.{Heard};
 ghost use Rattle.message_model.specs.Messages.{Message as Said};
@@ -12,10 +13,10 @@ ghost use Rattle.urp_message.specs.Messages.{message_of, spoken_of};
 ghost use Rattle.urp_model.specs.Blocks.{spell_block};
 
 mod heading;
+mod message;
 mod reply;
 mod request;
 mod target;
-mod whole;
 
 use crate::Message;
 use crate::last::{Last, Spoken};
@@ -24,7 +25,7 @@ use std::marker::Model;
 use uno_base::NoMemory;
 use uno_types::Registry;
 use urp_cache::SendCaches;
-use whole::{block_of, put_message};
+use message::put_message;
 
 /// What an end remembers of the direction in which it writes: the slots that its names have, and the last names (URP specification,
 /// messages, caches). Where memory ran out it writes no more, since the peer would remember other names.
@@ -108,6 +109,7 @@ impl Speaker {
     }
 }
 
+/// The block is written once: behind eight bytes, of which the size is filled in when its body is there.
 fn write_block(
     alloc: Global,
     registry: &Registry,
@@ -121,7 +123,24 @@ fn write_block(
     ensures after { OnOk result (spoken_of spoken.new ≡ after_message registry.now (message_of message.now) (spoken_of spoken.old)) }
     ensures carried { OnOk result (MessageSpellable (message_of message.now)) }
 {
-    let mut body = Vec::new(alloc);
-    put_message(alloc, registry, message, spoken, &mut body)?;
-    block_of(alloc, &body)
+    let mut block = Vec::from_slice(alloc, NO_SIZE_ONE_MESSAGE)?;
+    put_message(alloc, registry, message, spoken, &mut block)?;
+    put_size(&mut block);
+    Ok(block)
 }
+
+/// A header that says one message, and not yet the size of it (URP specification, blocks).
+const NO_SIZE_ONE_MESSAGE: &[u8] = b"\x00\x00\x00\x00\x00\x00\x00\x01";
+
+/// Writes the size of a block's body into its first four bytes.
+fn put_size(block: &mut [u8])
+    requires header { 8 ≤ length block.old }
+    requires small { length block.old < 2 ^ 32 }
+    ensures { block.new ≡ to_be_bytes w32 (length block.old - 8) ++ drop 4 block.old }
+{
+    let size = block.len() - HEADER_SIZE;
+    block[..4].copy_from_slice(&(size as u32).to_be_bytes());
+}
+
+/// How many bytes stand in front of a block's body.
+const HEADER_SIZE: usize = 8;

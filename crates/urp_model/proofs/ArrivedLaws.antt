@@ -104,7 +104,7 @@ module _ (reg : List Entity) (sound : IsSound reg) where
       oids = subst (λ (u : Tables). MeansIdentities u.oids) (sym same) (subst MeansIdentities (sym spelled.5) each);
     }
     ref_arrives face s t x b (Some oid) after is each at spelled same =
-        let o = oid_fits s.oids oid b after spelled each in
+        let o = oid_fits s.oids oid b after spelled.0 each in
         record {
           fits = subst (λ z. Fits reg z (kd.interface face)) (sym at) (record { identity = o.0; held = is; reached = inl refl });
           deep = subst (λ z. depth z ≤ suc d) (sym at) (omega arith);

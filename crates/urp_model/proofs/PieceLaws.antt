@@ -1,6 +1,6 @@
 -- The parts and names that a sender writes spell what they are to say.
 use Rattle.std.proofs.Common.{◌≡◌, ◌≢◌, ℕ, ℤ, ◌^◌, ◌<◌, ◌≤◌, nat_lt, Bool, true, false, List, [], ◌∷◌, ◌++◌}
-use Rattle.std.proofs.Common.{length, refl, sym, inl, inr, if◌then◌else◌, arith, FitsSigned}
+use Rattle.std.proofs.Common.{length, Some, refl, sym, inl, inr, if◌then◌else◌, arith, FitsSigned}
 use Rattle.std.specs.List.{list_all}
 use Rattle.std.specs.Int.{w16, w32, w64, to_be_bytes, cast_unsigned}
 use Rattle.std.specs.Str.{IsUtf8}
@@ -16,7 +16,7 @@ use Rattle.uno_model.specs.Types.{is_formed, is_type}
 use Rattle.urp_model.specs.Carried.{Corresponds}
 use Rattle.urp_model.specs.Held.{holds, slot_for, used}
 use Rattle.urp_model.specs.NamedKinds.{is_simple}
-use Rattle.urp_model.specs.Spelling.{IsNumber, IsLength, IsRaw, IsText, IsTextName, IsThreadName, IsSlot, SpellsKind, simple, SpellsName}
+use Rattle.urp_model.specs.Spelling.{IsNumber, IsLength, IsRaw, IsText, IsTextName, IsThreadName, IsSlot, SpellsKind, simple, SpellsName, SpellsOid}
 use Rattle.urp_model.specs.Spelling as spell
 use Rattle.urp_model.specs.Tables.{Table, noted}
 use Rattle.urp_model.specs.Writing.{Names, compressed, measured, slot_bytes, kind_written, kind_spelling, kind_after, name_spelling}
@@ -143,8 +143,10 @@ some_name (b ∷ name) some empty = cc
 
 -- the identity of an object, and of a thread
 pub oid_is : (oid : List ℕ) (table : Table) (held : Names) → 1 ≤ length oid → length oid ≤ 4096 → IsUtf8 oid → Corresponds table held
-    → NameCarried IsTextName table oid (name_spelling oid held) (used oid held)
-oid_is oid table held some short text c = name_is IsTextName no_name_is table oid held c (some_name oid some) (text_name_is oid short text)
+    → (after : Table) × SpellsOid table (Some oid) (name_spelling oid held) after × Corresponds after (used oid held)
+oid_is oid table held some short text c =
+    let named = name_is IsTextName no_name_is table oid held c (some_name oid some) (text_name_is oid short text) in
+    (named.0, (named.1, text), named.2)
 
 pub tid_is : (tid : List ℕ) (table : Table) (held : Names) → 1 ≤ length tid → length tid ≤ 1024 → Corresponds table held
     → NameCarried IsThreadName table tid (name_spelling tid held) (used tid held)

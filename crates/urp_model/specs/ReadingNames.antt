@@ -1,6 +1,7 @@
 -- Names with their slots, from the front of bytes: types, objects and threads; what the slots mean after them, and the bytes behind them; or the first fault.
 use Rattle.std.specs.Prelude.{ℕ, ◌-◌, ◌==◌, ◌&&◌, nat_lt, Bool, true, false, List, [], ◌∷◌, length, Option, None, Some, Result, Ok, Err, if◌then◌else◌}
 use Rattle.std.specs.Int.{w16}
+use Rattle.std.specs.Str.{is_utf8}
 use Rattle.uno_model.specs.Entities.{Entity}
 use Rattle.uno_model.specs.Kinds.{Kind}
 use Rattle.uno_model.specs.declared.type_class.TypeClass.{TypeClass}
@@ -9,7 +10,7 @@ use Rattle.urp_model.specs.Parts.{◌>>=◌, judged, byte_at, number_at, name_at
 use Rattle.urp_model.specs.Tables.{Table, meaning, noted}
 use Rattle.urp_model.specs.declared.fault.Fault.{Fault}
 use Rattle.urp_model.specs.declared.fault.Fault.TheVariants.{Bad}
-use Rattle.urp_model.specs.declared.reason.Reason.TheVariants.{BadClass, BadSlot, UnknownSlot, UnknownType}
+use Rattle.urp_model.specs.declared.reason.Reason.TheVariants.{BadClass, BadSlot, BadText, UnknownSlot, UnknownType}
 
 -- ---- types
 
@@ -81,10 +82,15 @@ abbrev pub some_oid : Option (List ℕ × Table) → Option (Option (List ℕ) �
 some_oid None = None
 some_oid (Some x) = Some (Some x.0, x.1)
 
+-- an identity is a text, also where a slot means it
+abbrev pub is_text : Option (List ℕ) → Bool
+is_text None = true
+is_text (Some oid) = is_utf8 oid
+
 -- the identity of an object, or none for null
 unfoldable pub oid_at : Table → List ℕ → Result (Option (List ℕ) × Table × List ℕ) Fault
 oid_at table bytes = do
   name ← text_name_at bytes
   slot ← slot_at name.1
   x ← judged UnknownSlot (if is_null name.0 slot.0 then Some (None, table) else some_oid (named table name.0 slot.0))
-  Ok (x.0, x.1, slot.1)
+  if is_text x.0 then Ok (x.0, x.1, slot.1) else Err (Bad BadText)

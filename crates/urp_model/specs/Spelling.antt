@@ -65,10 +65,10 @@ pub data SpellsName (IsName : List ℕ → List ℕ → Type 0) (table : Table) 
 abbrev pub SpellsTid : Table → List ℕ → List ℕ → Table → Type 0
 SpellsTid = SpellsName IsThreadName
 
--- the identity of an object, or no object: the empty text and 65,535
+-- the identity of an object, which is a text, or no object: the empty text and 65,535
 abbrev pub SpellsOid : Table → Option (List ℕ) → List ℕ → Table → Type 0
 SpellsOid table None b after = (p : List ℕ) × (q : List ℕ) × (b ≡ p ++ q) × IsTextName p [] × IsNumber w16 q 65535 × (after ≡ table)
-SpellsOid table (Some oid) b after = SpellsName IsTextName table oid b after
+SpellsOid table (Some oid) b after = SpellsName IsTextName table oid b after × IsUtf8 oid
 
 -- ---- values
 

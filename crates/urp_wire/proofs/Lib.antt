@@ -1,3 +1,4 @@
 pub mod Fronts
+pub mod LevelLaws
 pub mod Loops
 pub mod Texts

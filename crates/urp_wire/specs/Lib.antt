@@ -1,2 +1,3 @@
-pub mod Flat
 pub mod Gives
+pub mod Levels
+pub mod MeantTexts

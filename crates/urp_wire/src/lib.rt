@@ -10,5 +10,6 @@ pub use read::{
 };
 pub use urp_model::Reason;
 pub use wire_writing::{
-    write_any, write_kind, write_oid, write_single, write_tid, write_value, write_values,
+    write_any, write_interface, write_kind, write_oid, write_single, write_tid, write_value,
+    write_values,
 };

@@ -1,10 +1,12 @@
 -- What a writer holds, and what it writes of one name.
-use Rattle.std.specs.Prelude.{ℕ, ◌+◌, ◌^◌, ◌<◌, List, [], ◌∷◌, ◌++◌, length}
-use Rattle.uno_model.specs.Kinds.{name_of}
+use Rattle.std.specs.Prelude.{ℕ, ◌+◌, ◌^◌, ◌<◌, Bool, true, false, List, [], ◌∷◌, ◌++◌, length, if◌then◌else◌}
+use Rattle.uno_model.specs.Kinds.{Kind, name_of}
+use Rattle.uno_model.specs.Kinds as kd
 use Rattle.uno_model.specs.Values.{Ref, null, own, peer, Plain, Plains, str, kind, any, tuple, list, bytes, ref, none, more}
 use Rattle.uno_model.specs.Weights.{count}
 use Rattle.urp_cache.specs.declared.send_caches.SendCaches.{SendCaches}
-use Rattle.urp_model.specs.Writing.{HeldNames, measured, slot_bytes}
+use Rattle.urp_model.specs.Held.{holds, slot_for}
+use Rattle.urp_model.specs.Writing.{Names, HeldNames, measured, slot_bytes}
 use Rattle.urp_model.specs.declared.known.Known.{Known}
 use Rattle.urp_model.specs.declared.known.Known.TheVariants.{Old, New}
 
@@ -21,6 +23,16 @@ name_or_nothing New name = measured name
 abbrev pub class_and_name : Known → ℕ → ℕ → List ℕ → List ℕ
 class_and_name Old class slot name = class ∷ slot_bytes slot
 class_and_name New class slot name = (class + 128) ∷ (slot_bytes slot ++ measured name)
+
+-- a class with its name, or with the slot of the name where that is held
+abbrev pub named_spelling : ℕ → List ℕ → Names → List ℕ
+named_spelling class name held =
+    if holds name held then class ∷ slot_bytes (slot_for name held) else (class + 128) ∷ (slot_bytes (slot_for name held) ++ measured name)
+
+-- the type is a sequence
+abbrev pub is_sequence : Kind → Bool
+is_sequence (kd.sequence k) = true
+is_sequence _ = false
 
 -- an identity has a length of four bytes
 abbrev pub IsWritableRef : Ref → Type 0

@@ -7,7 +7,7 @@ mod parts;
 mod value;
 mod whole;
 
-pub use kind::write_kind;
+pub use kind::{write_interface, write_kind};
 pub use name::{write_oid, write_tid};
 pub use value::{put_all as write_values, put_any as write_any, put_value as write_single};
 pub use whole::write_value;

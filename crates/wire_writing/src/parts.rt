@@ -6,7 +6,7 @@ ghost use Rattle.urp_model.specs.Writing.{compressed, measured, slot_bytes};
 use uno_base::NoMemory;
 
 /// The byte in front of a length of four bytes, and the least length that has it.
-const LONG_FORM: u8 = 255;
+const LONG_FORM: u8 = 0xFF;
 
 const LONG: usize = 255;
 

@@ -19,14 +19,14 @@ pub(crate) struct Opening {
 }
 
 /// The least first byte of a short header of two bytes, of a reply, and of a long header.
-const TWO_BYTES: u8 = 64;
+const TWO_BYTES: u8 = 0x40;
 
-const REPLY: u8 = 128;
+const REPLY: u8 = 0x80;
 
-const LONG: u8 = 192;
+const LONG: u8 = 0xC0;
 
 /// What a short header of two bytes is above its function.
-const TWO_BYTES_MARK: u16 = 16_384;
+const TWO_BYTES_MARK: u16 = 0x4000;
 
 /// Whether a message with this first byte is a reply.
 pub(crate) fn opens_reply(first: u8) -> bool

@@ -23,9 +23,9 @@ pub(crate) struct Heading<'a> {
 }
 
 /// The two high bits of a long header's first byte, and of the second byte that says that an answer comes.
-const LONG: u8 = 192;
+const LONG: u8 = 0xC0;
 
-const ANSWERED: u8 = 192;
+const ANSWERED: u8 = 0xC0;
 
 /// The largest functions of one byte, of a short header, and of a short header of one byte; what one of two bytes is above its function.
 const ONE_BYTE: u16 = 255;
@@ -34,7 +34,7 @@ const SHORT: u16 = 16_383;
 
 const SHORT_ONE_BYTE: u16 = 63;
 
-const TWO_BYTES_MARK: u16 = 16_384;
+const TWO_BYTES_MARK: u16 = 0x4000;
 
 /// Whether an object is not the one that was named last.
 pub(crate) fn is_new_oid(oid: &Text, last: &Option<Text>) -> bool

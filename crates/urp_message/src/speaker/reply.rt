@@ -10,7 +10,7 @@ use super::heading::is_new_tid;
 use super::target::put_thread;
 use crate::Answer;
 use crate::flags::{EXCEPTION, NEW_TID};
-use crate::last::{Spoken, remember};
+use crate::last::Spoken;
 use std::alloc::Global;
 use uno_base::NoMemory;
 use uno_types::Tid;
@@ -18,7 +18,7 @@ use urp_cache::SendCaches;
 use urp_wire::{write_any, write_single, write_values};
 
 /// The bit that every reply has in its first byte.
-const REPLY: u8 = 128;
+const REPLY: u8 = 0x80;
 
 /// The flags of a reply, its thread where it is new, and the answer.
 #[tactic(auto, unfolding(message_model::specs::WritingMessages::reply_spelling, message_model::specs::WritingMessages::after_reply))]
@@ -36,10 +36,14 @@ pub(crate) fn put_reply(
     ensures ranges { OnOk result (AnswerSpellable (answer_of answer.now)) }
 {
     to.push(reply_flags(is_raised(answer), is_new_tid(tid, &spoken.last.tid)))?;
-    put_thread(tid, &spoken.last.tid, &mut spoken.caches.tids, to)?;
-    put_answer(alloc, answer, &mut spoken.caches, to)?;
-    remember(&mut spoken.last.tid, Some(tid.copy(alloc)?));
-    Ok(())
+    put_thread(
+        alloc,
+        tid,
+        &mut spoken.last.tid,
+        &mut spoken.caches.tids,
+        to,
+    )?;
+    put_answer(alloc, answer, &mut spoken.caches, to)
 }
 
 fn is_raised(answer: &Answer) -> bool

@@ -15,7 +15,7 @@ use uno_types::{Registry, TypeClass, TypeName};
 use urp_cache::ReadCache;
 
 /// What is added to a class where a name is written out behind it.
-const MARK: u8 = 128;
+const MARK: u8 = 0x80;
 
 /// A type of the registry, and the bytes behind it.
 #[tactic(auto, unfolding(urp_model::specs::ReadingNames::kind_at, urp_model::specs::ReadingNames::kind_behind))]

@@ -5,13 +5,13 @@ ghost use Rattle.urp_wire.specs.Gives.{Gives};
 
 use super::parts::{NO_SLOT, slot, text_name};
 use super::slots::{meant_text, note};
-use crate::{Reason, WireError};
+use crate::WireError;
 use std::alloc::Global;
 use uno_types::Text;
 use urp_cache::ReadCache;
 
 /// The identity of an object, or none for null, and the bytes behind it.
-#[tactic(auto, unfolding(urp_model::specs::ReadingNames::oid_at, urp_model::specs::ReadingNames::named))]
+#[tactic(auto, using(crate::proofs::Texts::text_is), unfolding(urp_model::specs::ReadingNames::oid_at, urp_model::specs::ReadingNames::named))]
 pub fn read_oid<'a>(
     alloc: Global,
     oids: &mut ReadCache,
@@ -29,8 +29,6 @@ pub fn read_oid<'a>(
     if slot == NO_SLOT {
         return Ok((None, rest));
     }
-    let Some(oid) = meant_text(alloc, oids, slot)? else {
-        return Err(WireError::Bad(Reason::UnknownSlot));
-    };
-    Ok((Some(oid), rest))
+    let oid = meant_text(oids, slot)?;
+    Ok((Some(Text::of(alloc, oid)?), rest))
 }

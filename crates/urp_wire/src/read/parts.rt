@@ -8,13 +8,13 @@ ghost use Rattle.urp_wire.specs.Gives.{Gives};
 use crate::{Reason, WireError};
 
 /// The byte in front of a length of four bytes.
-const LONG_FORM: u8 = 255;
+const LONG_FORM: u8 = 0xFF;
 
 /// How many slots there are.
 pub const SLOTS: u16 = 256;
 
 /// The number in the place of a slot that says that there is none.
-pub const NO_SLOT: u16 = 65_535;
+pub const NO_SLOT: u16 = 0xFFFF;
 
 /// How many bytes the name of a type or the identity of an object may have.
 const MOST_BYTES: u32 = 4096;

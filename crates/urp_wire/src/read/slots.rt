@@ -1,11 +1,12 @@
 //! What slots mean while a value is read (URP specification, caches).
-ghost use Rattle.std.specs.Prelude.{◌≡◌, option_map, OnOk, IfOk};
+ghost use Rattle.std.specs.Prelude.{◌≡◌, option_map, OnOk};
 ghost use Rattle.urp_model.specs.Tables.{meaning, noted};
+ghost use Rattle.urp_wire.specs.Gives.{Gives};
+ghost use Rattle.urp_wire.specs.MeantTexts.{meant_text};
 
 use super::parts::{SLOTS, text_of};
-use std::alloc::Global;
+use crate::{Reason, WireError};
 use uno_base::NoMemory;
-use uno_types::Text;
 use urp_cache::ReadCache;
 
 /// What a slot means; none of the numbers past the slots means anything.
@@ -30,15 +31,15 @@ pub fn note(cache: &mut ReadCache, slot: u16, name: &[u8]) -> Result<(), NoMemor
     cache.announce(slot, name)
 }
 
-/// What a slot means, as a text.
-pub fn meant_text(alloc: Global, cache: &ReadCache, slot: u16) -> Result<Option<Text>, NoMemory>
-    ensures { IfOk result (λ text. text ≡ meaning slot cache.now) }
+/// The text that a slot means.
+pub fn meant_text(cache: &ReadCache, slot: u16) -> Result<&str, WireError>
+    ensures { Gives (λ text. text.now) result (meant_text slot cache.now) }
 {
     let Some(name) = meaning(cache, slot) else {
-        return Ok(None);
+        return Err(WireError::Bad(Reason::UnknownSlot));
     };
-    let Some(text) = text_of(name) else {
-        return Err(NoMemory);
-    };
-    Ok(Some(Text::of(alloc, text)?))
+    match text_of(name) {
+        Some(text) => Ok(text),
+        None => Err(WireError::Bad(Reason::BadText)),
+    }
 }

@@ -1,12 +1,11 @@
-//! A message as it is written, and its block.
-ghost use Rattle.std.specs.Prelude.{◌≡◌, ◌≤◌, ◌<◌, ◌^◌, ◌++◌, length, map, IfOk, OnOk};
+//! A message as it is written.
+ghost use Rattle.std.specs.Prelude.{◌≡◌, ◌++◌, OnOk};
 ghost use Rattle.message_model.specs.Calls.{numbered, is_oneway};
 ghost use Rattle.message_model.specs.Speaking.{MessageSpellable};
 ghost use Rattle.message_model.specs.WritingMessages.{message_spelling, after_message};
 ghost use Rattle.type_registry.specs.Functions.{lent_function};
 ghost use Rattle.urp_message.specs.Messages.{message_of, spoken_of};
 ghost use Rattle.urp_message.specs.Speaking.{MessageWritable};
-ghost use Rattle.urp_model.specs.Blocks.{spell_block};
 
 use super::heading::Heading;
 use super::reply::put_reply;
@@ -81,21 +80,3 @@ fn is_oneway(registry: &Registry, face: &Name, function: u16) -> bool
         None => false,
     }
 }
-
-/// One message as a block of its own: the size of its body, the count of 1, and the body (URP specification, blocks).
-#[tactic(auto, unfolding(urp_model::specs::Blocks::spell_block))]
-pub(crate) fn block_of(alloc: Global, body: &[u8]) -> Result<Vec<u8>, NoMemory>
-    requires { length body.now < 2 ^ 32 }
-    ensures { IfOk result (λ block. block.items ≡ spell_block 1 body.now) }
-{
-    let mut block = Vec::with_capacity(alloc, HEADER + body.len())?;
-    block.extend_from_slice(&(body.len() as u32).to_be_bytes())?;
-    block.extend_from_slice(&MESSAGES.to_be_bytes())?;
-    block.extend_from_slice(body)?;
-    Ok(block)
-}
-
-/// How many bytes stand in front of a block's body, and how many messages it has.
-const HEADER: usize = 8;
-
-const MESSAGES: u32 = 1;
