@@ -9,7 +9,8 @@ ghost use Rattle.bridge_core.specs.Answering.{Answers};
 use std::alloc::Global;
 use std::marker::Model;
 use uno_base::NoMemory;
-use urp_message::{First, FirstError, Tag, read_first, write_answer};
+use urp_message::Tag;
+use urp_message::first::{First, FirstError, read_first, write_answer};
 
 /// One end of a bridge with the object `echo`, over one talk.
 #[derive(Drop)]

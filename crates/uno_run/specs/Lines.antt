@@ -4,13 +4,13 @@ use Rattle.std.specs.Fmt.{decimal}
 use Rattle.std.specs.Io.KnownBytes.{Appends}
 use Rattle.uno_base.specs.Causes.{Rose}
 use Rattle.uno_io.specs.Fronts.{AppendsFront}
-use Rattle.urp_message.specs.declared.reason.Reason.{Reason}
-use Rattle.urp_message.specs.declared.reason.Reason.TheVariants.{NotBuilt}
+use Rattle.urp_message.specs.declared.first.refusal.Refusal.{Refusal}
+use Rattle.urp_message.specs.declared.first.refusal.Refusal.TheVariants.{NotBuilt}
 use Rattle.uno_run.specs.declared.status.Status.{Status}
 use Rattle.uno_run.specs.declared.status.Status.TheVariants.{Done, Words, ReadFault, WriteFault, Broken, NoMemory}
 
 -- a reason's name
-abbrev pub name_of : Reason → List ℕ
+abbrev pub name_of : Refusal → List ℕ
 name_of NotBuilt = codes "NotBuilt"
 
 -- the line of a status, with its line feed; none where all was done

@@ -3,7 +3,7 @@ use Rattle.std.specs.Prelude.{◌≡◌, ◌≢◌, ℕ, ◌<◌, ◌⊎◌, Lis
 use Rattle.std.specs.Io.KnownBytes.{IsAtEnd}
 use Rattle.urp_model.specs.Blocks.{BeginsWhole}
 use Rattle.urp_message.specs.declared.first.message.First.{First}
-use Rattle.urp_message.specs.declared.reason.Reason.TheVariants.{NotBuilt}
+use Rattle.urp_message.specs.declared.first.refusal.Refusal.TheVariants.{NotBuilt}
 use Rattle.bridge_core.specs.Talk.{IsLongest}
 use Rattle.uno_base.specs.Causes.{Rose}
 use Rattle.uno_run.specs.Reading.{WasRead}

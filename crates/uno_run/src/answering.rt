@@ -10,7 +10,8 @@ ghost use Rattle.uno_run.specs.declared.answering.Heard.TheVariants.{Answered, R
 use bridge_core::Echo;
 use std::alloc::Global;
 use uno_io::{Sink, write_all};
-use urp_message::{FirstError, Tag, front_block};
+use urp_message::Tag;
+use urp_message::first::{FirstError, front_block};
 
 /// What stands behind the requests that were answered.
 #[derive(Clone, Copy)]

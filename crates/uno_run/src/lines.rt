@@ -7,7 +7,7 @@ use crate::Status;
 use std::alloc::Global;
 use uno_base::NoMemory;
 use uno_io::{Sink, write_all};
-use urp_message::Reason;
+use urp_message::first::Refusal;
 
 /// Writes the line of a status, and answers the status. Where memory is wanted for the line, that is the status.
 pub fn report<E: Sink>(alloc: Global, status: Status, errors: &mut E) -> Status
@@ -58,7 +58,7 @@ fn plain_line(status: Status) -> &'static str
 }
 
 /// The line of a broken bridge.
-fn broken_line(alloc: Global, reason: Reason, place: u64) -> Result<String, NoMemory>
+fn broken_line(alloc: Global, reason: Refusal, place: u64) -> Result<String, NoMemory>
     ensures { IfOk result (λ line. string_bytes line ≡ line_of (Broken reason place)) }
 {
     let name = reason_name(reason);
@@ -67,10 +67,10 @@ fn broken_line(alloc: Global, reason: Reason, place: u64) -> Result<String, NoMe
 }
 
 /// A reason's name.
-fn reason_name(reason: Reason) -> &'static str
+fn reason_name(reason: Refusal) -> &'static str
     ensures { result.now ≡ name_of reason }
 {
     match reason {
-        Reason::NotBuilt => "NotBuilt",
+        Refusal::NotBuilt => "NotBuilt",
     }
 }

@@ -2,7 +2,7 @@
 ghost use Rattle.std.specs.Prelude.{◌≡◌};
 ghost use Rattle.uno_run.specs.Lines.{code_of};
 
-use urp_message::Reason;
+use urp_message::first::Refusal;
 
 /// How a run ended; one line on `errors` says so, but after `Done`.
 #[derive(Clone, Copy, Debug, PartialEq, Eq)]
@@ -15,7 +15,7 @@ pub enum Status {
     /// The output failed.
     WriteFault,
     /// The bytes at this place of the input break the protocol.
-    Broken(Reason, u64),
+    Broken(Refusal, u64),
     NoMemory,
 }
 

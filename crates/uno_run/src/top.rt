@@ -18,7 +18,8 @@ use crate::status::Status;
 use crate::words::is_answer;
 use std::alloc::Global;
 use uno_io::{Sink, Source};
-use urp_message::{Reason, Tag};
+use urp_message::Tag;
+use urp_message::first::Refusal;
 
 /// Does what the words ask, and says on `errors` in one line why it did no more. `rt` is what `main` is given.
 pub fn run<R, I: Source, O: Sink, E: Sink>(
@@ -96,7 +97,7 @@ fn answer<O: Sink>(alloc: Global, tag: &Tag, reading: &Reading, output: &mut O) 
     ensures stays { O.closed output.new ≡ O.closed output.old }
 {
     if reading.stop == Stop::Limit {
-        return Status::Broken(Reason::NotBuilt, LAST_PLACE);
+        return Status::Broken(Refusal::NotBuilt, LAST_PLACE);
     }
     match answer_all(alloc, tag, reading.bytes.as_slice(), output) {
         Ok(verdict) => judge(verdict, reading.stop),
@@ -113,7 +114,7 @@ fn judge(verdict: Verdict, stop: Stop) -> Status
     ensures part { verdict.behind ≡ Behind.Part → result ≡ settled stop (broken_at verdict.place) }
     ensures done { result ≡ Status.Done → stop ≡ Stop.End }
 {
-    let broken = Status::Broken(Reason::NotBuilt, verdict.place as u64);
+    let broken = Status::Broken(Refusal::NotBuilt, verdict.place as u64);
     match (verdict.behind, stop) {
         (Behind::Block, _) => broken,
         (_, Stop::Fault) => Status::ReadFault,

@@ -22,7 +22,7 @@ fn written(alloc: Global, registry: &Registry, message: &Message) -> Result<Vec<
     requires { IsSound registry.now }
 {
     let mut speaker = Speaker::new(alloc)?;
-    if !may_be_said(alloc, registry, message)? || weight_of(registry, message) > 16_777_216 {
+    if !may_be_said(registry, message) || weight_of(registry, message) > 16_777_216 {
         return Ok(Vec::new(alloc));
     }
     speaker.write(registry, message)

@@ -8,7 +8,7 @@ use uno_base::NoMemory;
 use uno_io::{MemSink, MemSource, Source};
 use uno_run::Status::{Broken, Done, ReadFault, Words, WriteFault};
 use uno_run::{Status, run};
-use urp_message::Reason::NotBuilt;
+use urp_message::first::Refusal::NotBuilt;
 use urp_message::Tag;
 
 /// The call in a block that says two messages.

@@ -145,7 +145,7 @@ fn is_written(
 ) -> Result<bool, NoMemory>
     requires { IsSound registry.now }
 {
-    if !may_be_said(alloc, registry, message)? {
+    if !may_be_said(registry, message) {
         return Ok(false);
     }
     if weight_of(registry, message) > MOST {

@@ -3,6 +3,8 @@ use Rattle.std.specs.Prelude.{ℕ, ◌^◌, ◌-◌, ◌<◌, pos, negsuc, ◌�
 use Rattle.std.specs.Int.{w16, w32, to_be_bytes, cast_unsigned}
 use Rattle.urp_message.specs.declared.first.message.First.{First}
 use Rattle.urp_message.specs.declared.first.message.First.TheVariants.{Query, Twice}
+use Rattle.urp_message.specs.declared.first.message.FirstError.{FirstError}
+use Rattle.urp_message.specs.declared.first.message.FirstError.TheVariants as first
 
 -- what the requests carry: a thread identity of 1 to 254 bytes, and a long whose double is a long
 abbrev pub IsBuilt : First → Type 0
@@ -40,3 +42,8 @@ request_body tag (Twice a) =
 unfoldable pub answer_body : List ℕ → First → List ℕ
 answer_body tag (Query tid) = 0x88 ∷ (identity tid 0 ++ (announced_interface (codes "demo.XEcho") 0 ++ identity (own_oid tag) 0))
 answer_body tag (Twice a) = 0x80 ∷ to_be_bytes w32 (cast_unsigned w32 (a +ℤ a))
+
+-- what is printed of each reason why a body is no request
+abbrev pub first_error_text : FirstError → List ℕ
+first_error_text first.NoMemory = codes "no memory"
+first_error_text first.NotBuilt = codes "a message of neither form that is built"

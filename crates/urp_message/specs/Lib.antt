@@ -1,4 +1,3 @@
-pub mod ErrorTexts
 pub mod First
 pub mod Headers
 pub mod Listening

@@ -10,20 +10,16 @@ mod listener;
 mod message;
 mod params;
 mod raising;
-mod reason;
 mod saying;
 mod speaker;
 mod weighing;
 
 pub use error::ReadError;
 pub use expects::Expects;
-pub use first::{
-    First, FirstError, FrontBlock, a_body_is_one_request, front_block, read_first, write_answer,
-};
 pub use listener::Listener;
 pub use message::{Answer, Message};
-pub use reason::Reason;
 pub use saying::may_be_said;
 pub use speaker::Speaker;
 pub use uno_types::{Tag, TagError, Tid};
+pub use urp_wire::Reason;
 pub use weighing::weight_of;

@@ -25,7 +25,7 @@ pub enum FirstError {
 
 impl fmt::Display for FirstError {
     ghost use Rattle.std.specs.Prelude.{Some};
-    ghost use Rattle.urp_message.specs.ErrorTexts.{first_error_text};
+    ghost use Rattle.urp_message.specs.First.{first_error_text};
 
     ghost output = { λ e. Some (first_error_text e) };
 
