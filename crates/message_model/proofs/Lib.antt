@@ -14,3 +14,4 @@ pub mod SaidLaws
 pub mod SentMessageLaws
 pub mod StreamLaws
 pub mod MessageWeightLaws
+pub mod SpellableMessageLaws

@@ -8,8 +8,8 @@ mod stream_laws;
 
 pub use reading_laws::{
     a_front_of_a_message_is_short, a_message_that_is_read_fits,
-    messages_are_read_as_they_are_spelled, no_message_begins_with_what_is_broken,
-    one_message_stands_at_the_front,
+    a_message_that_is_read_is_spellable, messages_are_read_as_they_are_spelled,
+    no_message_begins_with_what_is_broken, one_message_stands_at_the_front,
 };
 pub use said_laws::{
     a_prefix_of_what_was_said_stays_one, what_is_held_is_what_all_uses_leave,

@@ -26,3 +26,4 @@ pub mod Utf8Laws
 pub mod ValueLaws
 pub mod ThreadLaws
 pub mod WeightLaws
+pub mod SpellableLaws

@@ -26,4 +26,5 @@ pub use spelling_laws::{
     no_spelling_begins_with_what_is_broken, objects_are_read_as_they_are_spelled,
     one_value_stands_at_the_front, threads_are_read_as_they_are_spelled,
     types_are_read_as_they_are_spelled, values_are_read_as_they_are_spelled, what_is_spelled_fits,
+    what_is_spelled_is_spellable,
 };
