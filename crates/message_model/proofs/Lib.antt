@@ -15,3 +15,4 @@ pub mod SentMessageLaws
 pub mod StreamLaws
 pub mod MessageWeightLaws
 pub mod SpellableMessageLaws
+pub mod MessageNamingLaws

@@ -1,6 +1,7 @@
 pub mod Arriving
 pub mod Calls
 pub mod Headers
+pub mod MessageNamings
 pub mod Messages
 pub mod ReadingMessages
 pub mod Said

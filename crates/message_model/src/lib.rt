@@ -1,11 +1,13 @@
 //! What the messages of the URP mean, as definitions over lists, and the laws that hold of them.
 #![tactic(auto)]
 
+mod naming_laws;
 mod reading_laws;
 mod said_laws;
 mod sending_laws;
 mod stream_laws;
 
+pub use naming_laws::{a_message_names_what_arrives, what_may_be_said_fits};
 pub use reading_laws::{
     a_front_of_a_message_is_short, a_message_that_is_read_fits,
     a_message_that_is_read_is_spellable, messages_are_read_as_they_are_spelled,

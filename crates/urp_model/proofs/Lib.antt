@@ -27,3 +27,4 @@ pub mod ValueLaws
 pub mod ThreadLaws
 pub mod WeightLaws
 pub mod SpellableLaws
+pub mod NamingLaws

@@ -3,6 +3,7 @@ pub mod Blocks
 pub mod Carried
 pub mod Held
 pub mod NamedKinds
+pub mod Namings
 pub mod Parts
 pub mod Reading
 pub mod ReadingNames

@@ -4,6 +4,7 @@
 mod block_laws;
 mod fault;
 mod known;
+mod naming_laws;
 mod reason;
 mod sending_laws;
 mod slot_laws;
@@ -12,6 +13,7 @@ mod spelling_laws;
 pub use block_laws::{one_block_stands_at_the_front, whole_blocks_are_what_blocks_begin};
 pub use fault::Fault;
 pub use known::Known;
+pub use naming_laws::a_value_names_what_arrives;
 pub use reason::Reason;
 pub use sending_laws::{
     a_spelling_is_no_longer_than_the_weight, a_thread_is_spelled, a_type_is_spelled,
