@@ -28,3 +28,4 @@ pub mod ThreadLaws
 pub mod WeightLaws
 pub mod SpellableLaws
 pub mod NamingLaws
+pub mod PlacedBlockLaws

@@ -5,6 +5,7 @@ pub mod Held
 pub mod NamedKinds
 pub mod Namings
 pub mod Parts
+pub mod PlacedBlocks
 pub mod Reading
 pub mod ReadingNames
 pub mod Slots
