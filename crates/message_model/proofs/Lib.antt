@@ -16,3 +16,7 @@ pub mod StreamLaws
 pub mod MessageWeightLaws
 pub mod SpellableMessageLaws
 pub mod MessageNamingLaws
+pub mod BodyReadingLaws
+pub mod StreamReadingLaws
+pub mod SaidBlockLaws
+mod BodyRows

@@ -4,6 +4,7 @@ pub mod Headers
 pub mod MessageNamings
 pub mod Messages
 pub mod ReadingMessages
+pub mod ReadingStreams
 pub mod Said
 pub mod Speaking
 pub mod SpellingMessages
