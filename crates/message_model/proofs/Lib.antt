@@ -20,3 +20,4 @@ pub mod BodyReadingLaws
 pub mod StreamReadingLaws
 pub mod SaidBlockLaws
 mod BodyRows
+pub mod AnnouncedMessageLaws

@@ -1,3 +1,4 @@
+pub mod AnnouncingMessages
 pub mod Arriving
 pub mod Calls
 pub mod Headers

@@ -1,6 +1,7 @@
 //! What the messages of the URP mean, as definitions over lists, and the laws that hold of them.
 #![tactic(auto)]
 
+mod announcement_laws;
 mod naming_laws;
 mod reading_laws;
 mod refusal_laws;
@@ -8,6 +9,7 @@ mod said_laws;
 mod sending_laws;
 mod stream_laws;
 
+pub use announcement_laws::tables_mean_what_messages_announce;
 pub use naming_laws::{a_message_names_what_arrives, what_may_be_said_fits};
 pub use reading_laws::{
     a_front_of_a_message_is_short, a_message_that_is_read_fits,

@@ -29,3 +29,4 @@ pub mod WeightLaws
 pub mod SpellableLaws
 pub mod NamingLaws
 pub mod PlacedBlockLaws
+pub mod AnnouncedLaws

@@ -1,3 +1,4 @@
+pub mod Announcing
 pub mod Agreement
 pub mod Blocks
 pub mod Carried
