@@ -21,3 +21,4 @@ pub mod StreamReadingLaws
 pub mod SaidBlockLaws
 mod BodyRows
 pub mod AnnouncedMessageLaws
+pub mod SavingLaws

@@ -7,6 +7,7 @@ pub mod Messages
 pub mod ReadingMessages
 pub mod ReadingStreams
 pub mod Said
+pub mod Savings
 pub mod Speaking
 pub mod SpellingMessages
 pub mod Streams

@@ -8,6 +8,7 @@ mod refusal_laws;
 mod said_laws;
 mod sending_laws;
 mod stream_laws;
+mod weight_laws;
 
 pub use announcement_laws::tables_mean_what_messages_announce;
 pub use naming_laws::{a_message_names_what_arrives, what_may_be_said_fits};
@@ -31,4 +32,7 @@ pub use sending_laws::{
 pub use stream_laws::{
     a_stream_goes_on_behind_what_it_spells, a_stream_spells_one_list_of_messages,
     what_was_said_is_read,
+};
+pub use weight_laws::{
+    a_message_is_as_long_as_it_weighs_less_what_is_saved, what_is_saved_goes_by_all_uses,
 };
