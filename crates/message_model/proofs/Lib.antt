@@ -22,3 +22,4 @@ pub mod SaidBlockLaws
 mod BodyRows
 pub mod AnnouncedMessageLaws
 pub mod SavingLaws
+pub mod SameMessageAnnouncements

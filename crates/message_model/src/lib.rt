@@ -10,7 +10,9 @@ mod sending_laws;
 mod stream_laws;
 mod weight_laws;
 
-pub use announcement_laws::tables_mean_what_messages_announce;
+pub use announcement_laws::{
+    tables_mean_what_messages_announce, the_bytes_of_messages_make_one_list_of_announcements,
+};
 pub use naming_laws::{a_message_names_what_arrives, what_may_be_said_fits};
 pub use reading_laws::{
     a_front_of_a_message_is_short, a_message_that_is_read_fits,

@@ -30,3 +30,4 @@ pub mod SpellableLaws
 pub mod NamingLaws
 pub mod PlacedBlockLaws
 pub mod AnnouncedLaws
+pub mod SameAnnouncements

@@ -21,7 +21,8 @@ pub use sending_laws::{
 };
 pub use slot_laws::{
     a_name_takes_the_slot_of_all_uses, a_table_means_what_was_announced,
-    tables_mean_what_a_value_announces, the_names_kept_are_those_held,
+    tables_mean_what_a_value_announces, the_bytes_of_a_value_make_one_list_of_announcements,
+    the_names_kept_are_those_held,
 };
 pub use spelling_laws::{
     a_class_and_a_name_are_one_type, a_front_of_a_spelling_is_short,

@@ -4,4 +4,4 @@ pub mod GivenLaws
 pub mod HeaderLaws
 pub mod RunLaws
 pub mod StandingLaws
-mod RefusedLaws
+pub mod RefusedLaws
