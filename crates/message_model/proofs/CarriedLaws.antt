@@ -26,11 +26,11 @@ listed_back [] = refl
 listed_back (v ∷ vs) = ap (λ z. v ∷ z) (listed_back vs)
 
 -- values as they arrive, one by one and as the parts of a value
-arrives : (reg : List Entity) (vs : List Plain) (ks : List Kind) → FitEach reg (plains vs) ks → abroad_each (recast_each reg (plains vs) ks) ≡ plains (carried_each reg vs ks)
+pub each_arrived : (reg : List Entity) (vs : List Plain) (ks : List Kind) → FitEach reg (plains vs) ks → abroad_each (recast_each reg (plains vs) ks) ≡ plains (carried_each reg vs ks)
 unfolding FitEach recast_each abroad_each carried_each
-arrives reg [] ks fit = refl
-arrives reg (v ∷ vs) [] fit = absurd fit
-arrives reg (v ∷ vs) (k ∷ ks) fit = ap (more (carried reg v k)) (arrives reg vs ks fit.1)
+each_arrived reg [] ks fit = refl
+each_arrived reg (v ∷ vs) [] fit = absurd fit
+each_arrived reg (v ∷ vs) (k ∷ ks) fit = ap (more (carried reg v k)) (each_arrived reg vs ks fit.1)
 
 -- values as they are written, and that the reader's tables go on to answer
 abbrev pub EachCarried : List Entity → List Kind → Tables → List Plain → HeldNames → Type 0
@@ -42,7 +42,7 @@ pub each_is : (reg : List Entity) (vs : List Plain) (ks : List Kind) (s : Tables
 each_is reg vs ks s h sound fill light ranged c =
     let sent = each_sent reg sound.named (plains vs) 64 ks s h fill.deep fill.fit ranged (each_sized reg sound (plains vs) ks fill.fit light) c in
     let same : sent.0 ≡ carried_each reg vs ks
-    = sym (listed_back sent.0) ∙ ap listed (sent.2 ∙ arrives reg vs ks fill.fit) ∙ listed_back (carried_each reg vs ks) in
+    = sym (listed_back sent.0) ∙ ap listed (sent.2 ∙ each_arrived reg vs ks fill.fit) ∙ listed_back (carried_each reg vs ks) in
     (sent.1, subst (λ xs. SpellsEach (Spells 64 reg) ks s xs (spellings (plains vs) h) sent.1) same sent.3, sent.4)
 
 -- one value as it is written, and that the reader's tables go on to answer

@@ -1,12 +1,11 @@
 -- In a sound registry the result of each function is of a type of the registry, and so is each parameter, which is neither void nor an exception.
-use Rattle.std.proofs.Common.{◌≡◌, ℕ, zero, suc, Bool, true, false, ◌&&◌, List, [], ◌∷◌, ◌++◌, length, Option, None, Some, refl, sym, ◌∙◌, if◌then◌else◌}
+use Rattle.std.proofs.Common.{◌≡◌, ℕ, zero, suc, Bool, true, false, ◌&&◌, List, [], ◌∷◌, Option, None, Some, refl, sym, ◌∙◌, if◌then◌else◌}
 use Rattle.std.specs.List.{list_all, flat_map, slice_get}
 use Rattle.std.proofs.lemmas.Bool.{and_parts, and_from}
 use Rattle.std.proofs.lemmas.List.Folds.{list_all-map}
-use Rattle.uno_model.specs.Entities.{Entity, Param, Attribute, Member, attribute, method}
+use Rattle.uno_model.specs.Entities.{Entity, Param, Member, attribute, method}
 use Rattle.uno_model.specs.Entities.{Body, interface, struct, exception, enum, constants, typedef, new_service, old_service, new_singleton, old_singleton}
 use Rattle.uno_model.specs.Functions.{Function, getter, setter, call, accessors_of, calls_of, declared_in, declared_by, interfaces_of, functions_of}
-use Rattle.uno_model.specs.Kinds.{Kind}
 use Rattle.uno_model.specs.Registry.{find_entity}
 use Rattle.uno_model.specs.Sound.{IsSound, is_storable}
 use Rattle.uno_model.specs.Types.{is_type}

@@ -14,3 +14,12 @@ pub mod SaidLaws
 pub mod SentMessageLaws
 pub mod StreamLaws
 pub mod MessageWeightLaws
+pub mod SpellableMessageLaws
+pub mod MessageNamingLaws
+pub mod BodyReadingLaws
+pub mod StreamReadingLaws
+pub mod SaidBlockLaws
+mod BodyRows
+pub mod AnnouncedMessageLaws
+pub mod SavingLaws
+pub mod SameMessageAnnouncements

@@ -97,7 +97,7 @@ f_method = record {
   raises = codes "e" ∷ [];
 }
 
-abbrev tiny : List Entity
+abbrev pub tiny : List Entity
 tiny =
     record { name = codes "d"; published = true; body = exception (Some (codes "e")) [] }
     ∷ (record { name = codes "e"; published = true; body = exception None (record { name = codes "m"; kind = kd.boolean } ∷ []) }
@@ -112,13 +112,13 @@ tiny =
     } ∷ []))
 
 -- a reader that heard a request of this type
-abbrev hears : kd.Kind → Heard
+abbrev pub hears : kd.Kind → Heard
 hears k = record {
   tables = record { types = Some (codes "d") ∷ (Some (codes "x") ∷ []); oids = []; tids = [] };
   last = record { kind = Some k; oid = Some (codes "o"); tid = Some (codes "t") };
 }
 
-abbrev x : kd.Kind
+abbrev pub x : kd.Kind
 x = kd.interface (codes "x")
 
 abbrev d : kd.Kind
@@ -192,7 +192,7 @@ unfolding message_at byte_at request_at target_at new_or_last_at asked_at call_a
 answered_oneway_row = rw (answered_four_row, g_is_there) refl
 
 -- a function that is not there, a type that is no interface, and a type that nothing names
-unknown_function_row : message_at tiny [] (hears x) (5 ∷ []) ≡ Err (Bad UnknownFunction)
+pub unknown_function_row : message_at tiny [] (hears x) (5 ∷ []) ≡ Err (Bad UnknownFunction)
 unfolding message_at byte_at request_at opening_at target_at new_or_last_at asked_at call_at
 unknown_function_row = rw nothing_is_there refl
 

@@ -1,18 +1,16 @@
 -- What one end says grows by one block a message, and what it holds of names is what all their uses leave.
-use Rattle.std.proofs.Common.{◌≡◌, ℕ, Bool, true, false, List, [], ◌∷◌, ◌++◌, Option, Some, refl, sym, ap, subst, ◌∙◌, if◌then◌else◌}
+use Rattle.std.proofs.Common.{◌≡◌, ℕ, Bool, true, false, List, [], ◌∷◌, ◌++◌, refl, sym, ap, subst, ◌∙◌, if◌then◌else◌}
 use Rattle.std.specs.List.{flat_map}
 use Rattle.std.proofs.lemmas.Grind.{flat_map-append}
 use Rattle.std.proofs.lemmas.List.{append_assoc, append-nil}
 use Rattle.uno_model.specs.Entities.{Entity}
 use Rattle.uno_model.specs.Kinds.{Kind, name_of}
-use Rattle.uno_model.specs.Kinds as kd
 use Rattle.uno_model.specs.Values.{Ref, null, own, peer, Plain, Plains, none, more, plains}
 use Rattle.uno_model.specs.Values as v
 use Rattle.urp_model.specs.Blocks.{spell_block}
 use Rattle.urp_model.specs.Held.{used, held_after}
 use Rattle.urp_model.specs.NamedKinds.{is_simple}
 use Rattle.urp_model.specs.Writing.{Names, HeldNames, no_names, kind_after, ref_after, after, afters}
-use Rattle.message_model.specs.Headers.{Last, nothing_said}
 use Rattle.message_model.specs.Messages.{Answer, returned, raised, Message, request, release, reply}
 use Rattle.message_model.specs.Said.{spoken_after, spell, next_block, Uses, kind_use, ref_use, type_uses, types_used, oid_uses, oids_used, answer_values}
 use Rattle.message_model.specs.Said.{name_use, request_uses, message_uses, last_after, behind_uses, uses_on, uses_of, AreLeftBy}

@@ -1,13 +1,14 @@
 -- What a message is that was read from bytes, and what is remembered after it.
-use Rattle.std.specs.Prelude.{◌≡◌, ◌≢◌, ℕ, ◌⊎◌, IsTrue, List, [], Some}
+use Rattle.std.specs.Prelude.{◌≡◌, ◌≢◌, ℕ, ◌^◌, ◌<◌, ◌⊎◌, IsTrue, List, [], Some}
+use Rattle.std.specs.Str.{IsUtf8}
 use Rattle.uno_model.specs.Entities.{Entity}
 use Rattle.uno_model.specs.Fits.{IsIdentity, IsInterface}
 use Rattle.uno_model.specs.Functions.{Function}
 use Rattle.uno_model.specs.Kinds.{Kind}
 use Rattle.uno_model.specs.Types.{is_type}
 use Rattle.uno_model.specs.Values.{Plain}
-use Rattle.urp_model.specs.Carried.{MeansOnly, MeansIdentities}
-use Rattle.message_model.specs.Calls.{acquire_number, release_number, numbered, argument_kinds}
+use Rattle.urp_model.specs.Carried.{MeansOnly, MeansIdentities, MeansTexts}
+use Rattle.message_model.specs.Calls.{acquire_number, release_number, numbered, argument_kinds, Waits, waiting, Waiting}
 use Rattle.message_model.specs.Headers.{Heard}
 use Rattle.message_model.specs.Messages.{Answer, Message, request, release, reply}
 use Rattle.message_model.specs.Speaking.{Fill, AnswerFits, IsThread}
@@ -51,3 +52,20 @@ abbrev pub MessageFits : List Entity → Message → Type 0
 MessageFits reg (request tid oid face function args) = IsThread tid × RequestFits reg oid face function args
 MessageFits reg (release tid oid face) = IsThread tid × ReleaseFits reg oid face
 MessageFits reg (reply tid face function answer) = IsThread tid × ReplyFits reg face function answer
+
+-- ---- which of it the bytes can carry
+
+-- each slot of objects means a text, and the last object is one
+pub record HearsTexts (heard : Heard) : Type 0 where
+  pub oids : MeansTexts heard.tables.oids
+  pub oid : (oid : List ℕ) → heard.last.oid ≡ Some oid → IsUtf8 oid
+
+-- the function of a message, where it has one, has a number of two bytes
+abbrev pub HasSmallFunction : Message → Type 0
+HasSmallFunction (request tid oid face function args) = function < 2 ^ 16
+HasSmallFunction (release tid oid face) = Unit
+HasSmallFunction (reply tid face function answer) = function < 2 ^ 16
+
+-- and so has that of each call that waits
+abbrev pub AwaitSmallFunctions : Waits → Type 0
+AwaitSmallFunctions waits = (tid : List ℕ) (call : Waiting) → waiting tid waits ≡ Some call → call.function < 2 ^ 16

@@ -1,9 +1,13 @@
+pub mod AnnouncingMessages
 pub mod Arriving
 pub mod Calls
 pub mod Headers
+pub mod MessageNamings
 pub mod Messages
 pub mod ReadingMessages
+pub mod ReadingStreams
 pub mod Said
+pub mod Savings
 pub mod Speaking
 pub mod SpellingMessages
 pub mod Streams

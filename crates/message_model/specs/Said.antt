@@ -1,16 +1,19 @@
 -- All that one end says from the beginning: its bytes, what the end remembers, and the names whose uses took slots.
-use Rattle.std.specs.Prelude.{◌≡◌, ℕ, Bool, true, false, List, [], ◌∷◌, ◌++◌, Some, if◌then◌else◌}
+use Rattle.std.specs.Prelude.{◌≡◌, ℕ, ◌+◌, ◌≤◌, Bool, true, false, List, [], ◌∷◌, ◌++◌, length, Some, if◌then◌else◌}
+use Rattle.std.specs.List.{AllByRecursion}
 use Rattle.uno_model.specs.Entities.{Entity}
 use Rattle.uno_model.specs.Kinds.{Kind, name_of}
 use Rattle.uno_model.specs.Kinds as kd
 use Rattle.uno_model.specs.Values.{Ref, null, own, peer, Plain, Plains, kind, any, tuple, list, ref, none, more, plains}
 use Rattle.urp_model.specs.Blocks.{spell_block}
+use Rattle.urp_model.specs.PlacedBlocks.{PlacedBlock}
 use Rattle.urp_model.specs.Held.{held_after}
 use Rattle.urp_model.specs.NamedKinds.{is_simple}
 use Rattle.urp_model.specs.Writing.{HeldNames}
 use Rattle.message_model.specs.Headers.{Last, nothing_said}
 use Rattle.message_model.specs.Messages.{Answer, returned, raised, Message, request, release, reply}
-use Rattle.message_model.specs.WritingMessages.{Spoken, nothing_spoken, message_spelling, after_messages, messages_spelling, is_new, is_new_face, if_new}
+use Rattle.message_model.specs.Speaking.{message_weight}
+use Rattle.message_model.specs.WritingMessages.{Spoken, nothing_spoken, message_spelling, bodies_spelling, after_messages, messages_spelling, is_new, is_new_face}
 
 -- ---- bytes
 
@@ -20,6 +23,19 @@ spoken_after reg said = after_messages reg said nothing_spoken
 
 unfoldable pub spell : List Entity → List Message → List ℕ
 spell reg said = messages_spelling reg said nothing_spoken
+
+-- the bodies of blocks of one message each, of which the first stands at this place
+unfoldable pub placed_bodies : ℕ → List (List ℕ) → List PlacedBlock
+placed_bodies place [] = []
+placed_bodies place (body ∷ bodies) = record { place = place; count = 1; body = body } ∷ placed_bodies (place + length (spell_block 1 body)) bodies
+
+-- the blocks that were said
+unfoldable pub said_blocks : List Entity → List Message → List PlacedBlock
+said_blocks reg said = placed_bodies 0 (bodies_spelling reg said nothing_spoken)
+
+-- none of the messages is too heavy for a block
+abbrev pub AreLight : List Message → Type 0
+AreLight said = AllByRecursion (λ m. message_weight m ≤ 16777216) said
 
 -- the block of one message more
 abbrev pub next_block : List Entity → List Message → Message → List ℕ

@@ -1,14 +1,16 @@
 //! Laws of the reading of messages: each function has an empty body, and its clause is the law.
 ghost use Rattle.std.specs.Prelude.{◌≡◌, ◌≢◌, ℕ, List, [], ◌++◌, Err};
-ghost use Rattle.message_model.specs.Arriving.{IsHeard, MessageFits};
+ghost use Rattle.message_model.specs.Arriving.{IsHeard, MessageFits, HearsTexts, HasSmallFunction, AwaitSmallFunctions};
 ghost use Rattle.message_model.specs.Calls.{Waits};
 ghost use Rattle.message_model.specs.Headers.{Heard, nothing_heard};
 ghost use Rattle.message_model.specs.Messages.{Message};
 ghost use Rattle.message_model.specs.ReadingMessages.{message_at};
+ghost use Rattle.message_model.specs.Speaking.{MessageSpellable};
 ghost use Rattle.message_model.specs.SpellingMessages.{SpellsMessage};
 ghost use Rattle.uno_model.specs.Entities.{Entity};
 ghost use Rattle.uno_model.specs.Sound.{IsSound};
 ghost use Rattle.urp_model.specs.Agreement.{Agrees, triple};
+ghost use Rattle.urp_model.specs.Blocks.{AreBytes};
 
 use urp_model::{Fault, Reason};
 
@@ -41,4 +43,14 @@ pub fn a_message_that_is_read_fits()
     ensures first { (reg : List Entity) → IsHeard reg nothing_heard }
     ensures fits { (reg : List Entity) (waits : Waits) (heard t : Heard) (m : Message) (b : List ℕ) → IsSound reg → IsHeard reg heard
         → SpellsMessage reg waits heard m b t → MessageFits reg m × IsHeard reg t }
+{}
+
+/// A message that is read from bytes can be written again: each number in its values is in the range of its type, and each text and identity
+/// is UTF-8. Its function is below 65,536, in a reply where that of the call which it answers is.
+pub fn a_message_that_is_read_is_spellable()
+    ensures first { HearsTexts nothing_heard }
+    ensures spellable { (reg : List Entity) (waits : Waits) (heard t : Heard) (m : Message) (b : List ℕ) → AreBytes b → HearsTexts heard
+        → SpellsMessage reg waits heard m b t → MessageSpellable m × HearsTexts t }
+    ensures small { (reg : List Entity) (waits : Waits) (heard t : Heard) (m : Message) (b : List ℕ) → AreBytes b → AwaitSmallFunctions waits
+        → SpellsMessage reg waits heard m b t → HasSmallFunction m }
 {}

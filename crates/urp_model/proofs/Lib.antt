@@ -26,3 +26,8 @@ pub mod Utf8Laws
 pub mod ValueLaws
 pub mod ThreadLaws
 pub mod WeightLaws
+pub mod SpellableLaws
+pub mod NamingLaws
+pub mod PlacedBlockLaws
+pub mod AnnouncedLaws
+pub mod SameAnnouncements

@@ -1,5 +1,5 @@
 -- Values name no threads: the slots of threads mean after a value what they meant before.
-use Rattle.std.proofs.Common.{◌≡◌, ℕ, zero, suc, Bool, true, false, List, [], ◌∷◌, ap, ◌∙◌, inl, inr}
+use Rattle.std.proofs.Common.{◌≡◌, ℕ, zero, suc, Bool, true, false, List, [], ◌∷◌, ap, ◌∙◌}
 use Rattle.uno_model.specs.Entities.{Entity}
 use Rattle.uno_model.specs.Fits.{member_kinds}
 use Rattle.uno_model.specs.Kinds.{Kind}
@@ -7,7 +7,7 @@ use Rattle.uno_model.specs.Kinds as kd
 use Rattle.uno_model.specs.Values.{Plain}
 use Rattle.urp_model.specs.NamedKinds.{is_byte}
 use Rattle.urp_model.specs.Spelling.{Spelled, SpellsAll, SpellsEach, SpellsSequence, SpellsStep, Spells}
-use Rattle.urp_model.specs.Tables.{Table, Tables}
+use Rattle.urp_model.specs.Tables.{Tables}
 
 abbrev pub KeepsThreads : (Kind → Spelled) → Type 0
 KeepsThreads S = (k : Kind) (s t : Tables) (x : Plain) (b : List ℕ) → S k s x b t → t.tids ≡ s.tids

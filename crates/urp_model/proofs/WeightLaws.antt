@@ -22,7 +22,7 @@ compressed_some n = by_test (nat_lt n 255)
     by_test true = omega arith
     by_test false = omega arith
 
-compressed_long : (n : ℕ) → length (compressed n) ≡ compressed_weight n
+pub compressed_long : (n : ℕ) → length (compressed n) ≡ compressed_weight n
 unfolding compressed
 compressed_long n = by_test (nat_lt n 255)
   where
@@ -30,11 +30,11 @@ compressed_long n = by_test (nat_lt n 255)
     by_test true = refl
     by_test false = refl
 
-measured_long : (raw : List ℕ) → length (measured raw) ≡ text_weight raw
+pub measured_long : (raw : List ℕ) → length (measured raw) ≡ text_weight raw
 unfolding measured
 measured_long raw = length-append (compressed (length raw)) raw ∙ ap (λ n. n + length raw) (compressed_long (length raw))
 
-slot_long : (slot : ℕ) → length (slot_bytes slot) ≡ 2
+pub slot_long : (slot : ℕ) → length (slot_bytes slot) ≡ 2
 unfolding slot_bytes
 slot_long slot = refl
 
@@ -56,7 +56,7 @@ named_weight (kd.interface name) is = refl
 named_weight (kd.sequence k) is = refl
 named_weight _ is = absurd cc
 
-written_long : (k : Kind) (slot : ℕ) → length (kind_written k slot) ≡ 3 + text_weight (name_of k)
+pub written_long : (k : Kind) (slot : ℕ) → length (kind_written k slot) ≡ 3 + text_weight (name_of k)
 unfolding kind_written
 written_long k slot = omega (arith, length-append (slot_bytes slot) (measured (name_of k)), slot_long slot, measured_long (name_of k))
 

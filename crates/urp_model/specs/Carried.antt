@@ -1,6 +1,7 @@
 -- What a value is where it arrives, and when the tables of the reader answer to the names that the sender holds.
 use Rattle.std.specs.Prelude.{◌≡◌, ℕ, false, List, length, get_or, None, Some}
 use Rattle.std.specs.List.{AllByRecursion}
+use Rattle.std.specs.Str.{IsUtf8}
 use Rattle.uno_model.specs.Entities.{Entity}
 use Rattle.uno_model.specs.Fits.{IsIdentity}
 use Rattle.uno_model.specs.Kinds.{Kind, name_of}
@@ -40,6 +41,10 @@ MeansOnly P table = (slot : ℕ) (name : List ℕ) → meaning slot table ≡ So
 
 abbrev pub MeansIdentities : Table → Type 0
 MeansIdentities = MeansOnly IsIdentity
+
+-- each name that a slot means is a text
+abbrev pub MeansTexts : Table → Type 0
+MeansTexts = MeansOnly IsUtf8
 
 -- a table of the reader answers to what the sender holds after some uses: each name that is held is what its slot means
 pub record Corresponds (table : Table) (held : Names) : Type 0 where

@@ -1,9 +1,12 @@
+pub mod Announcing
 pub mod Agreement
 pub mod Blocks
 pub mod Carried
 pub mod Held
 pub mod NamedKinds
+pub mod Namings
 pub mod Parts
+pub mod PlacedBlocks
 pub mod Reading
 pub mod ReadingNames
 pub mod Slots

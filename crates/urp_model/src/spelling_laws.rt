@@ -9,7 +9,9 @@ ghost use Rattle.uno_model.specs.Types.{is_type};
 ghost use Rattle.uno_model.specs.Values.{Plain, depth};
 ghost use Rattle.uno_model.specs.declared.type_class.TypeClass.{TypeClass};
 ghost use Rattle.urp_model.specs.Agreement.{Agrees, triple};
-ghost use Rattle.urp_model.specs.Carried.{MeansIdentities};
+ghost use Rattle.uno_model.specs.Spellable.{IsSpellable};
+ghost use Rattle.urp_model.specs.Blocks.{AreBytes};
+ghost use Rattle.urp_model.specs.Carried.{MeansIdentities, MeansTexts};
 ghost use Rattle.urp_model.specs.NamedKinds.{kind_named};
 ghost use Rattle.urp_model.specs.Reading.{value_at};
 ghost use Rattle.urp_model.specs.ReadingNames.{kind_at, oid_at, tid_at};
@@ -68,4 +70,12 @@ pub fn what_is_spelled_fits()
     ensures first { MeansIdentities no_tables.oids }
     ensures fits { (levels : ℕ) (reg : List Entity) (k : Kind) (s t : Tables) (x : Plain) (b : List ℕ) → IsSound reg → IsTrue (is_type reg k)
         → MeansIdentities s.oids → Spells levels reg k s x b t → Fits reg x k × (depth x ≤ levels) × MeansIdentities t.oids }
+{}
+
+/// What bytes spell can be written again: each number is in the range of its type, and each text and identity is UTF-8; and the slots go on
+/// to mean texts.
+pub fn what_is_spelled_is_spellable()
+    ensures first { MeansTexts no_tables.oids }
+    ensures spellable { (levels : ℕ) (reg : List Entity) (k : Kind) (s t : Tables) (x : Plain) (b : List ℕ) → AreBytes b → MeansTexts s.oids
+        → Spells levels reg k s x b t → IsSpellable x × MeansTexts t.oids }
 {}

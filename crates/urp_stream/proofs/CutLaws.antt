@@ -5,11 +5,12 @@ use Rattle.std.proofs.lemmas.List.{get_or-append-add}
 use Rattle.std.proofs.lemmas.Nat.{from_be_bytes-to_be_bytes_4}
 use Rattle.urp_model.specs.Blocks.{spell_block, IsBlock, BeginsWhole, BeginsWithBlock, AreBytes}
 use Rattle.urp_model.proofs.BlockLaws.{whole_block, size_of-spell_block, length-spell_block}
-use Rattle.urp_stream.specs.Headers.{largest_size, size_said, count_said, HasNoBadHeader}
-use Rattle.urp_stream.specs.Standing.{spell_blocks, AreBlocksAnd, StandsAs, BeginsBad, StandAsBlocks, BreakBehindBlocks}
-use Rattle.urp_stream.specs.Calls.{PlacedBlock, IsBlockAt}
+use Rattle.urp_model.specs.PlacedBlocks.{largest_size, PlacedBlock, IsBlockAt, spell_blocks, AreBlocksAnd}
+use Rattle.urp_stream.specs.Headers.{size_said, count_said, HasNoBadHeader}
+use Rattle.urp_stream.specs.Standing.{StandsAs, BeginsBad, StandAsBlocks, BreakBehindBlocks}
 use Rattle.urp_stream.proofs.FeedLaws.{whole_is}
-use Rattle.urp_stream.proofs.StandingLaws.{block, spell_blocks-nil, spell_blocks-cons, ArePlacedFrom, placed_cons, at_place, blocks_more, blocks_and_more}
+use Rattle.urp_model.proofs.PlacedBlockLaws.{block, spell_blocks-nil, spell_blocks-cons, ArePlacedFrom, placed_cons, at_place, blocks_and_more}
+use Rattle.urp_stream.proofs.StandingLaws.{blocks_more}
 use Rattle.urp_stream.proofs.HeaderLaws.{said_apart, none_apart, none_too_large, some_messages}
 
 -- what bytes are from a place on
@@ -99,7 +100,7 @@ stands_or_breaks s bytes =
     ]
 
 -- a good header is not bad
-not_bad : (s : List ℕ) → HasNoBadHeader s → ¬ BeginsBad s
+pub not_bad : (s : List ℕ) → HasNoBadHeader s → ¬ BeginsBad s
 not_bad s good (inl large) = none_too_large s large.0 good large.1
 not_bad s good (inr none) = some_messages s good none
 
@@ -126,7 +127,7 @@ breaks_stand_as_none s breaks stand =
     no_blocks_behind s breaks.blocks stand.blocks more.0 breaks.rest stand.rest stand.stands breaks.bad more.1 more.2
 
 -- a bad header stays one
-bad_stays : (s more : List ℕ) → BeginsBad s → BeginsBad (s ++ more)
+pub bad_stays : (s more : List ℕ) → BeginsBad s → BeginsBad (s ++ more)
 bad_stays s more (inl large) = inl (large.0, (said_apart s more large.0 large.1.header).0 large.1)
 bad_stays s more (inr none) = inr ((none_apart s more none.header).0 none)
 

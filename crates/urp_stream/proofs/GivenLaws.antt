@@ -2,9 +2,10 @@
 use Rattle.std.proofs.Common.{◌≡◌, ℕ, ◌+◌, ◌≤◌, List, [], ◌++◌, length, refl, ap, ◌∙◌, append_assoc, arith}
 use Rattle.std.specs.Int.{w32, to_be_bytes}
 use Rattle.urp_model.specs.Blocks.{spell_block}
+use Rattle.urp_model.specs.PlacedBlocks.{IsBlockAt}
 use Rattle.urp_stream.specs.HeaderParts.{IsSaid}
 use Rattle.urp_stream.specs.Streams.{Stream, AreParts}
-use Rattle.urp_stream.specs.Calls.{Gave, IsBlockAt}
+use Rattle.urp_stream.specs.Calls.{Gave}
 
 -- a header that says the length of the body, and the body, are a block
 spelled : (header body : List ℕ) (size count : ℕ) → IsSaid header size count → size ≡ length body → header ++ body ≡ spell_block count body

@@ -4,7 +4,8 @@ use Rattle.std.proofs.lemmas.List.{take-append-le, drop-append-le, take_all}
 use Rattle.std.specs.Int.{w32, to_be_bytes, from_be_bytes}
 use Rattle.urp_model.specs.Blocks.{AreBytes}
 use Rattle.urp_model.proofs.BlockLaws.{four_bytes, AreBytes-drop}
-use Rattle.urp_stream.specs.Headers.{largest_size, size_said, count_said, SaysTooLarge, SaysNoMessages, HasNoBadHeader}
+use Rattle.urp_model.specs.PlacedBlocks.{largest_size}
+use Rattle.urp_stream.specs.Headers.{size_said, count_said, SaysTooLarge, SaysNoMessages, HasNoBadHeader}
 use Rattle.urp_stream.specs.HeaderParts.{IsSaid}
 
 -- the size stands in the first four bytes

@@ -4,3 +4,4 @@ pub mod GivenLaws
 pub mod HeaderLaws
 pub mod RunLaws
 pub mod StandingLaws
+pub mod RefusedLaws

@@ -3,13 +3,15 @@ use Rattle.std.proofs.Common.{◌≡◌, ℕ, ◌+◌, ◌≤◌, inl, inr, List
 use Rattle.std.proofs.Common.{length-append, take-append-drop}
 use Rattle.urp_model.specs.Blocks.{spell_block, BeginsWhole}
 use Rattle.urp_model.proofs.BlockLaws.{length-spell_block}
+use Rattle.urp_model.specs.PlacedBlocks.{PlacedBlock, IsBlockAt, spell_blocks, AreBlocksAnd}
 use Rattle.urp_stream.specs.Headers.{HasNoBadHeader}
 use Rattle.urp_stream.specs.Runs.{Run, new, feed_took, feed_refused, next_block_gave, next_block_none}
-use Rattle.urp_stream.specs.Standing.{spell_blocks, AreBlocksAnd, StandsAs, BeginsBad, BreakBehindBlocks}
+use Rattle.urp_stream.specs.Standing.{StandsAs, BeginsBad, BreakBehindBlocks}
 use Rattle.urp_stream.specs.Streams.{Stream, nothing_yet}
-use Rattle.urp_stream.specs.Calls.{Took, Gave, PlacedBlock, IsBlockAt}
+use Rattle.urp_stream.specs.Calls.{Took, Gave}
 use Rattle.urp_stream.proofs.HeaderLaws.{good_front}
-use Rattle.urp_stream.proofs.StandingLaws.{spell_blocks-push, spell_blocks-nil, cut_of_push, stands_as_one, at_place, blocks_and_more}
+use Rattle.urp_model.proofs.PlacedBlockLaws.{spell_blocks-push, spell_blocks-nil, at_place, blocks_and_more}
+use Rattle.urp_stream.proofs.StandingLaws.{cut_of_push, stands_as_one}
 
 -- what holds after every call
 pub record IsKept (s : List ℕ) (given : List PlacedBlock) (now : Stream) : Type 0 where

@@ -3,23 +3,9 @@ use Rattle.std.proofs.Common.{◌≡◌, ℕ, ◌+◌, ◌⊎◌, inl, inr, List
 use Rattle.std.proofs.Common.{length-append}
 use Rattle.urp_model.specs.Blocks.{spell_block, IsBlock, BeginsWhole}
 use Rattle.urp_model.proofs.BlockLaws.{spell_block-front, block_whole}
-use Rattle.urp_stream.specs.Standing.{spell_blocks, AreBlocksAnd, StandsAs}
-use Rattle.urp_stream.specs.Calls.{PlacedBlock, IsBlockAt}
-
--- the bytes of one more block at the end
-pub spell_blocks-push : (blocks : List PlacedBlock) (b : PlacedBlock) → spell_blocks (blocks ++ b ∷ []) ≡ spell_blocks blocks ++ spell_block b.count b.body
-unfolding spell_blocks
-spell_blocks-push [] b = simp append-nil
-spell_blocks-push (x ∷ blocks) b = rw (spell_blocks-push blocks b) (sym (append_assoc (spell_block x.count x.body) (spell_blocks blocks) (spell_block b.count b.body)))
-
--- the bytes of one more block at the front
-pub spell_blocks-cons : (b : PlacedBlock) (blocks : List PlacedBlock) → spell_blocks (b ∷ blocks) ≡ spell_block b.count b.body ++ spell_blocks blocks
-unfolding spell_blocks
-spell_blocks-cons b blocks = refl
-
-pub spell_blocks-nil : spell_blocks [] ≡ []
-unfolding spell_blocks
-spell_blocks-nil = refl
+use Rattle.urp_model.proofs.PlacedBlockLaws.{spell_blocks-cons, spell_blocks-nil, block, ArePlacedFrom, first_placed, others_placed, from_start, blocks_and_more}
+use Rattle.urp_model.specs.PlacedBlocks.{PlacedBlock, IsBlockAt, spell_blocks, AreBlocksAnd}
+use Rattle.urp_stream.specs.Standing.{StandsAs}
 
 -- where a list with one more at its end is cut before a value, that value is the last or stands in the list
 pub cut_of_push : {A : Type 0} (given before after : List A) (last x : A) → given ++ last ∷ [] ≡ before ++ x ∷ after
@@ -37,46 +23,9 @@ cut_of_push (g ∷ given) (y ∷ before) after last x e =
       | inr p ↦ inr (p.0, ap (λ z. g ∷ z) p.1 ∙ ap (λ z. z ∷ (before ++ x ∷ p.0)) same)
     ]
 
--- a block of these parts
-abbrev pub block : ℕ → ℕ → List ℕ → PlacedBlock
-block place count body = record { place = place; count = count; body = body }
-
 -- two blocks are one where their parts are
 same_block : (a b : PlacedBlock) → a.place ≡ b.place → a.count ≡ b.count → a.body ≡ b.body → a ≡ b
 same_block a b p q r = ap (λ x. block x a.count a.body) p ∙ ap (λ x. block b.place x a.body) q ∙ ap (λ x. block b.place b.count x) r
-
--- each block stands where the ones before it end, and the first of them at a place
-abbrev pub ArePlacedFrom : ℕ → List PlacedBlock → Type 0
-ArePlacedFrom from blocks = (before : List PlacedBlock) (b : PlacedBlock) (after : List PlacedBlock) → blocks ≡ before ++ b ∷ after → IsBlockAt (from + length (spell_blocks before)) b
-
--- a place that is another number
-pub at_place : (m n : ℕ) (b : PlacedBlock) → m ≡ n → IsBlockAt m b → IsBlockAt n b
-at_place m n b e is = record { place_is = is.place_is ∙ e; some = is.some; count_fits = is.count_fits; size_fits = is.size_fits }
-
--- the first block stands at the place
-first_placed : (from : ℕ) (b : PlacedBlock) (blocks : List PlacedBlock) → ArePlacedFrom from (b ∷ blocks) → IsBlockAt from b
-first_placed from b blocks placed = at_place (from + length (spell_blocks [])) from b (rw spell_blocks-nil (omega arith)) (placed [] b blocks refl)
-
--- the others stand where it ends
-others_placed : (from : ℕ) (b : PlacedBlock) (blocks : List PlacedBlock) → ArePlacedFrom from (b ∷ blocks) → ArePlacedFrom (from + length (spell_block b.count b.body)) blocks
-others_placed from b blocks placed before x after e =
-    let lengths = length-append (spell_block b.count b.body) (spell_blocks before) in
-    at_place (from + length (spell_blocks (b ∷ before))) (from + length (spell_block b.count b.body) + length (spell_blocks before)) x
-    (rw (spell_blocks-cons b before) (omega arith)) (placed (b ∷ before) x after (ap (λ y. b ∷ y) e))
-
--- a block at a place, and others from where it ends
-pub placed_cons : (from : ℕ) (b : PlacedBlock) (blocks : List PlacedBlock) → IsBlockAt from b
-    → ArePlacedFrom (from + length (spell_block b.count b.body)) blocks → ArePlacedFrom from (b ∷ blocks)
-placed_cons from b blocks is placed [] x after e =
-    let same : b ≡ x = cc in
-    at_place from (from + length (spell_blocks [])) x (rw spell_blocks-nil (omega arith)) (rw same at is)
-placed_cons from b blocks is placed (y ∷ before) x after e =
-    let same : b ≡ y = cc in
-    let tails : blocks ≡ before ++ x ∷ after = cc in
-    let lengths = length-append (spell_block y.count y.body) (spell_blocks before) in
-    let begins = ap (λ (z : PlacedBlock). length (spell_block z.count z.body)) same in
-    at_place (from + length (spell_block b.count b.body) + length (spell_blocks before)) (from + length (spell_blocks (y ∷ before))) x
-    (rw (spell_blocks-cons y before) (omega arith)) (placed before x after tails)
 
 -- a block at a place is one of the wire
 is_block : (place : ℕ) (b : PlacedBlock) → IsBlockAt place b → IsBlock b.count b.body
@@ -115,10 +64,6 @@ blocks_behind from (a ∷ x) (b ∷ y) r t p q w e =
     let more = blocks_behind (from + length (spell_block a.count a.body)) x y r t (others_placed from a x p) behind w fronts.2 in
     (more.0, same_first a b x y more.0 same more.1, more.2)
 
--- the blocks of all bytes are placed from the start
-from_start : (s : List ℕ) (blocks : List PlacedBlock) (rest : List ℕ) → AreBlocksAnd s blocks rest → ArePlacedFrom 0 blocks
-from_start s blocks rest are before b after e = at_place (length (spell_blocks before)) (0 + length (spell_blocks before)) b (omega arith) (are.placed before b after e)
-
 -- what blocks stand behind those of a front
 pub blocks_more : (s : List ℕ) (blocks others : List PlacedBlock) (rest other : List ℕ) → AreBlocksAnd s blocks rest → AreBlocksAnd s others other → ¬ BeginsWhole other
     → (behind : List PlacedBlock) × (others ≡ blocks ++ behind) × (rest ≡ spell_blocks behind ++ other)
@@ -138,10 +83,6 @@ pub stands_as_one : (s : List ℕ) (blocks others : List PlacedBlock) (rest othe
 stands_as_one s blocks others rest other p q =
     let more = blocks_more s blocks others rest other p.blocks_first q.blocks_first q.no_block in
     no_more s blocks others more.0 rest other q.blocks_first p.no_block more.1 more.2
-
--- more bytes stand behind the rest
-pub blocks_and_more : (s more : List ℕ) (blocks : List PlacedBlock) (rest : List ℕ) → AreBlocksAnd s blocks rest → AreBlocksAnd (s ++ more) blocks (rest ++ more)
-blocks_and_more s more blocks rest are = record { whole = ap (λ x. x ++ more) are.whole ∙ append_assoc (spell_blocks blocks) rest more; placed = are.placed }
 
 -- and change no block before them
 pub later_bytes : (s more : List ℕ) (blocks others : List PlacedBlock) (rest other : List ℕ) → AreBlocksAnd s blocks rest

@@ -1,7 +1,8 @@
 -- What one call of `feed` takes, and what one call of `next_block` gives.
-use Rattle.std.specs.Prelude.{◌≡◌, ℕ, ◌+◌, ◌^◌, ◌<◌, ◌≤◌, ◌⊎◌, List, [], ◌++◌, length, take}
+use Rattle.std.specs.Prelude.{◌≡◌, ℕ, ◌+◌, ◌<◌, ◌≤◌, ◌⊎◌, List, [], ◌++◌, length, take}
 use Rattle.urp_model.specs.Blocks.{spell_block, BeginsWhole}
-use Rattle.urp_stream.specs.Headers.{largest_size, HasNoBadHeader}
+use Rattle.urp_model.specs.PlacedBlocks.{PlacedBlock, IsBlockAt}
+use Rattle.urp_stream.specs.Headers.{HasNoBadHeader}
 use Rattle.urp_stream.specs.Streams.{Stream}
 
 -- the first n bytes of the piece are the fewest that complete a block with what is held, or all where none do
@@ -15,19 +16,6 @@ pub record Took (old : Stream) (piece : List ℕ) (n : ℕ) (new : Stream) : Typ
   pub taken : IsTaken old.held piece n
   pub header : HasNoBadHeader (old.held ++ piece)
   pub now : new ≡ record { place = old.place; held = old.held ++ take n piece }
-
--- a block, and the place of its first byte in all bytes of the stream
-pub record PlacedBlock : Type 0 where
-  pub place : ℕ
-  pub count : ℕ
-  pub body : List ℕ
-
--- a block has a message and at most the largest size, and stands at this place
-pub record IsBlockAt (place : ℕ) (b : PlacedBlock) : Type 0 where
-  pub place_is : b.place ≡ place
-  pub some : 0 < b.count
-  pub count_fits : b.count < 2 ^ 32
-  pub size_fits : length b.body ≤ largest_size
 
 -- the block that was held is given, and nothing is held behind it
 pub record Gave (old : Stream) (b : PlacedBlock) (new : Stream) : Type 0 where

@@ -1,10 +1,7 @@
 -- What the first eight bytes of a block say of it, and what they may not say. Numbers have their high byte first.
 use Rattle.std.specs.Prelude.{◌≡◌, ℕ, ◌<◌, ◌≤◌, List, length, take, drop}
 use Rattle.std.specs.Int.{w32, from_be_bytes}
-
--- the most bytes that the body of a block may have
-abbrev pub largest_size : ℕ
-largest_size = 16777216
+use Rattle.urp_model.specs.PlacedBlocks.{largest_size}
 
 -- the size of the body, in the first four bytes
 unfoldable pub size_said : List ℕ → ℕ

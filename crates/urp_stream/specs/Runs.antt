@@ -1,8 +1,9 @@
 -- Calls of `feed` and `next_block`, one after the other from the beginning of a stream.
 use Rattle.std.specs.Prelude.{◌≡◌, ℕ, List, [], ◌∷◌, ◌++◌, take}
 use Rattle.urp_model.specs.Blocks.{BeginsWhole}
+use Rattle.urp_model.specs.PlacedBlocks.{PlacedBlock}
 use Rattle.urp_stream.specs.Streams.{Stream, nothing_yet}
-use Rattle.urp_stream.specs.Calls.{Took, Gave, PlacedBlock}
+use Rattle.urp_stream.specs.Calls.{Took, Gave}
 
 -- some calls took these bytes in all and gave these blocks, and the stream is now this one: as the clauses of each call say
 pub data Run : List ℕ → List PlacedBlock → Stream → Type 0 where

@@ -1,18 +1,8 @@
 -- All bytes of a stream, as blocks one after the other and what stands behind them.
-use Rattle.std.specs.Prelude.{◌≡◌, ℕ, ◌⊎◌, List, ◌∷◌, ◌++◌, length}
-use Rattle.std.specs.List.{flat_map}
-use Rattle.urp_model.specs.Blocks.{spell_block, BeginsWhole}
+use Rattle.std.specs.Prelude.{◌≡◌, ℕ, ◌+◌, ◌<◌, ◌≤◌, ◌⊎◌, List, ◌++◌, length, take}
+use Rattle.urp_model.specs.Blocks.{BeginsWhole}
+use Rattle.urp_model.specs.PlacedBlocks.{PlacedBlock, AreBlocksAnd}
 use Rattle.urp_stream.specs.Headers.{SaysTooLarge, SaysNoMessages, HasNoBadHeader}
-use Rattle.urp_stream.specs.Calls.{PlacedBlock, IsBlockAt}
-
--- the bytes of blocks, one after the other
-unfoldable pub spell_blocks : List PlacedBlock → List ℕ
-spell_blocks blocks = flat_map (λ b. spell_block b.count b.body) blocks
-
--- the bytes are the blocks, each at the place where the ones before it end, and then the rest
-pub record AreBlocksAnd (s : List ℕ) (blocks : List PlacedBlock) (rest : List ℕ) : Type 0 where
-  pub whole : s ≡ spell_blocks blocks ++ rest
-  pub placed : (before : List PlacedBlock) (b : PlacedBlock) (after : List PlacedBlock) → blocks ≡ before ++ b ∷ after → IsBlockAt (length (spell_blocks before)) b
 
 -- the bytes are these blocks and a rest that begins with no whole block and no bad header
 pub record StandsAs (s : List ℕ) (blocks : List PlacedBlock) (rest : List ℕ) : Type 0 where
@@ -36,3 +26,10 @@ pub record BreakBehindBlocks (s : List ℕ) : Type 0 where
   pub rest : List ℕ
   pub blocks_first : AreBlocksAnd s blocks rest
   pub bad : BeginsBad rest
+
+-- the header that is held is completed by n bytes of the piece, of which the last is its eighth, and is then a bad one
+pub record IsRefusedAt (held piece : List ℕ) (n : ℕ) : Type 0 where
+  pub within : n ≤ length piece
+  pub eighth : length held + n ≡ 8
+  pub bad : BeginsBad (held ++ take n piece)
+  pub least : (m : ℕ) → m < n → ¬ BeginsBad (held ++ take m piece)

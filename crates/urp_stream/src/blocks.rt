@@ -1,5 +1,5 @@
 //! Bytes that come in pieces of any size, as the blocks that they are.
-ghost use Rattle.std.specs.Prelude.{◌≡◌, ℕ, ◌+◌, ◌^◌, ◌<◌, ◌↔◌, ◌++◌, length, take, drop, IsTrue, IsSome, IfNone, IfSome, IfOk, OnErr, Err};
+ghost use Rattle.std.specs.Prelude.{◌≡◌, ℕ, ◌+◌, ◌-◌, ◌^◌, ◌<◌, ◌↔◌, ◌++◌, length, take, drop, IsTrue, IsSome, IfNone, IfSome, IfOk, OnErr, Err};
 ghost use Rattle.urp_model.specs.Blocks.{BeginsWhole};
 ghost use Rattle.urp_stream.specs.Headers.{SaysTooLarge, SaysNoMessages};
 ghost use Rattle.urp_stream.specs.Streams.{nothing_yet, IsStream};
@@ -102,6 +102,13 @@ impl Blocks {
         ensures { result ≡ self.now.place }
     {
         self.place
+    }
+
+    /// How many bytes complete the header of the block that has begun. Where `feed` refuses a header, as many of the piece do.
+    pub fn header_wants(&self) -> usize
+        ensures { result ≡ 8 - length self.now.held }
+    {
+        HEADER_SIZE - self.header.len()
     }
 
     /// How many bytes are held.

@@ -1,10 +1,12 @@
 //! Laws of streams as blocks: each function has an empty body, and its clauses are the law.
-ghost use Rattle.std.specs.Prelude.{◌≡◌, ℕ, ◌⊎◌, List, ◌++◌, length};
+ghost use Rattle.std.specs.Prelude.{◌≡◌, ℕ, ◌-◌, ◌≤◌, ◌⊎◌, List, [], ◌++◌, length, ◌↔◌};
 ghost use Rattle.urp_model.specs.Blocks.{AreBytes, BeginsWhole};
+ghost use Rattle.urp_model.specs.PlacedBlocks.{PlacedBlock, spell_blocks, AreBlocksAnd};
+ghost use Rattle.urp_stream.specs.Headers.{SaysTooLarge, SaysNoMessages, HasNoBadHeader};
 ghost use Rattle.urp_stream.specs.Runs.{Run};
-ghost use Rattle.urp_stream.specs.Standing.{spell_blocks, AreBlocksAnd, StandsAs, BeginsBad, StandAsBlocks, BreakBehindBlocks};
+ghost use Rattle.urp_stream.specs.Standing.{StandsAs, BeginsBad, StandAsBlocks, BreakBehindBlocks, IsRefusedAt};
 ghost use Rattle.urp_stream.specs.Streams.{Stream};
-ghost use Rattle.urp_stream.specs.Calls.{IsTaken, PlacedBlock};
+ghost use Rattle.urp_stream.specs.Calls.{IsTaken};
 
 /// How many bytes a feed takes is determined by what is held and the piece.
 pub fn a_feed_takes_one_number_of_bytes()
@@ -51,4 +53,18 @@ pub fn refusals_say_that_the_bytes_break()
 pub fn runs_that_took_the_same_bytes_agree()
     ensures { (s : List ℕ) (given others : List PlacedBlock) (now other : Stream)
         → Run s given now → Run s others other → ¬ BeginsWhole now.held → ¬ BeginsWhole other.held → (given ≡ others) × (now ≡ other) }
+{}
+
+/// Where a feed refuses a header, the bytes of the piece that complete it are as many as those held are short of eight: with fewer it is not
+/// refused, and with that many it is, whatever stands behind them. What is wrong with it is what its eight bytes say.
+pub fn a_header_is_refused_at_its_eighth_byte()
+    ensures place { (held piece : List ℕ) → HasNoBadHeader held → BeginsBad (held ++ piece) → IsRefusedAt held piece (8 - length held) }
+    ensures always { (held piece : List ℕ) (n : ℕ) → IsRefusedAt held piece n → BeginsBad (held ++ piece) }
+    ensures size { (header more : List ℕ) (size : ℕ) → 8 ≤ length header → (SaysTooLarge header size ↔ SaysTooLarge (header ++ more) size) }
+    ensures count { (header more : List ℕ) → 8 ≤ length header → (SaysNoMessages header ↔ SaysNoMessages (header ++ more)) }
+{}
+
+/// Blocks with nothing behind them stand as these blocks.
+pub fn blocks_with_nothing_behind_them_stand()
+    ensures { (s : List ℕ) (blocks : List PlacedBlock) → AreBlocksAnd s blocks [] → StandsAs s blocks [] }
 {}
