@@ -51,7 +51,7 @@ pub oid_follows : (table : Table) (oid : Option (List ℕ)) (b : List ℕ) (afte
     → Follows table after (oid_announces table oid b after spelled)
 unfolding oid_announces
 oid_follows table None b after spelled old means = subst (λ t. Means t old) (sym spelled.5) means
-oid_follows table (Some oid) b after spelled old means = name_follows IsTextName table oid b after spelled old means
+oid_follows table (Some oid) b after spelled old means = name_follows IsTextName table oid b after spelled.0 old means
 
 -- ---- values
 

@@ -108,10 +108,11 @@ pub oid_same : (table table' : Table) (oid oid' : Option (List ℕ)) (b b' : Lis
 unfolding oid_announces
 oid_same table table' None None b b' after after' rest rest' f g e = refl
 oid_same table table' None (Some oid') b b' after after' rest rest' (p, q, split, name_is, number, same) g e =
-    empty_same IsTextName text_name_agrees table table' oid' b p q b' after' rest rest' split name_is g e
+    empty_same IsTextName text_name_agrees table table' oid' b p q b' after' rest rest' split name_is g.0 e
 oid_same table table' (Some oid) None b b' after after' rest rest' f (p, q, split, name_is, number, same) e =
-    sym (empty_same IsTextName text_name_agrees table' table oid b' p q b after rest' rest split name_is f (sym e))
-oid_same table table' (Some oid) (Some oid') b b' after after' rest rest' f g e = name_same IsTextName text_name_agrees table table' oid oid' b b' after after' rest rest' f g e
+    sym (empty_same IsTextName text_name_agrees table' table oid b' p q b after rest' rest split name_is f.0 (sym e))
+oid_same table table' (Some oid) (Some oid') b b' after after' rest rest' f g e =
+    name_same IsTextName text_name_agrees table table' oid oid' b b' after after' rest rest' f.0 g.0 e
 
 -- ---- values
 

@@ -83,7 +83,7 @@ pub oid_spellable : (table : Table) (oid : Option (List ℕ)) (face b : List ℕ
     → IsSpellable (plain.ref (ref_of oid face)) × MeansTexts after
 unfolding IsSpellable
 oid_spellable table None face b after each spelled = (tt, subst MeansTexts (sym spelled.5) each)
-oid_spellable table (Some oid) face b after each spelled = name_fits IsUtf8 IsTextName (λ p name some is. is.0.1) table oid b after spelled each
+oid_spellable table (Some oid) face b after each spelled = name_fits IsUtf8 IsTextName (λ p name some is. is.0.1) table oid b after spelled.0 each
 
 -- ---- values
 

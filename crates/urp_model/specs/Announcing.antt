@@ -55,7 +55,7 @@ name_announces IsName table name b after (spell.SpellsName.written p q slot some
 
 unfoldable pub oid_announces : (table : Table) (oid : Option (List ℕ)) (b : List ℕ) (after : Table) → SpellsOid table oid b after → List Announcement
 oid_announces table None b after spelled = []
-oid_announces table (Some oid) b after spelled = name_announces IsTextName table oid b after spelled
+oid_announces table (Some oid) b after spelled = name_announces IsTextName table oid b after spelled.0
 
 -- ---- values
 
