@@ -14,7 +14,7 @@ use Rattle.urp_model.specs.Tables.{Tables}
 use Rattle.urp_model.specs.Writing.{HeldNames, after, afters, spelling, spellings}
 use Rattle.urp_model.proofs.SentLaws.{value_sent, each_sent}
 use Rattle.urp_model.proofs.SizeLaws.{light_sized, each_sized}
-use Rattle.message_model.specs.Speaking.{Fill, carried_each}
+use Rattle.message_model.specs.Sayable.{Fill, carried_each}
 
 -- the values that are parts of a value
 abbrev listed : Plains → List Plain

@@ -22,7 +22,7 @@ use Rattle.message_model.specs.Arriving.{IsObject, IsHeard, MessageFits}
 use Rattle.message_model.specs.Calls.{goes, comes, argument_kinds, out_kinds, may_raise, Waits}
 use Rattle.message_model.specs.Headers.{Last, Heard, hearing, nothing_heard, has, new_tid_flag, exception_flag, Opening, Target, oid_text}
 use Rattle.message_model.specs.Messages.{Answer, Message}
-use Rattle.message_model.specs.Speaking.{AnswerFits, IsThread}
+use Rattle.message_model.specs.Sayable.{AnswerFits, IsThread}
 use Rattle.message_model.specs.SpellingMessages.{SpellsNewOrLast, SpellsOidText, SpellsTarget, SpellsAsked, a_release, a_call}
 use Rattle.message_model.specs.SpellingMessages.{SpellsRequest, SpellsAnswer, SpellsReply, SpellsMessage}
 use Rattle.message_model.proofs.FunctionKindLaws.{numbered_typed, on_way_typed}

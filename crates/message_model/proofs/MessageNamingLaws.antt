@@ -14,7 +14,7 @@ use Rattle.message_model.specs.Calls.{numbered}
 use Rattle.message_model.specs.MessageNamings.{addressed, message_values, answer_namings, message_namings}
 use Rattle.message_model.specs.Messages.{Answer, returned, raised, Message, request, release, reply}
 use Rattle.message_model.specs.Said.{answer_values}
-use Rattle.message_model.specs.Speaking.{MayBeSaid, AnswerFits, carried_each, arguments_of, outs_of, result_of, answer_arrived, arrived}
+use Rattle.message_model.specs.Sayable.{MayBeSaid, AnswerFits, carried_each, arguments_of, outs_of, result_of, answer_arrived, arrived}
 use Rattle.message_model.proofs.CarriedLaws.{each_arrived}
 
 module _ (reg : List Entity) where

@@ -9,7 +9,7 @@ use Rattle.urp_model.specs.Writing.{HeldNames, kind_spelling, name_spelling, aft
 use Rattle.urp_model.proofs.WeightLaws.{kind_bounded, oid_bounded, value_bounded, values_bounded}
 use Rattle.message_model.specs.Headers.{Last}
 use Rattle.message_model.specs.Messages.{Answer, returned, raised, Message, request, release, reply}
-use Rattle.message_model.specs.Speaking.{name_weight, answer_weight, message_weight}
+use Rattle.message_model.specs.Sayable.{name_weight, answer_weight, message_weight}
 use Rattle.message_model.specs.WritingMessages.{Spoken, is_new, is_new_face, if_new, Heading, is_long, long_flags, function_bytes, short_bytes}
 use Rattle.message_model.specs.WritingMessages.{opening_spelling, target_spelling, after_target, request_spelling, answer_spelling, after_thread}
 use Rattle.message_model.specs.WritingMessages.{reply_spelling, call_heading, release_heading, message_spelling}

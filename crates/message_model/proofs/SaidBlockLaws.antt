@@ -12,7 +12,7 @@ use Rattle.message_model.specs.Headers.{Heard, nothing_heard}
 use Rattle.message_model.specs.Messages.{Message}
 use Rattle.message_model.specs.ReadingStreams.{Awaiting, along, along_blocks, joined, StreamRead, stream_at}
 use Rattle.message_model.specs.Said.{spoken_after, spell, placed_bodies, said_blocks, AreLight}
-use Rattle.message_model.specs.Speaking.{arrived, Agree}
+use Rattle.message_model.specs.Sayable.{arrived, MemoriesCorrespond}
 use Rattle.message_model.specs.Streams.{SpellsStream, EachCanBeSaid}
 use Rattle.message_model.specs.WritingMessages.{Spoken, nothing_spoken, after_message, bodies_spelling}
 use Rattle.message_model.proofs.MessageWeightLaws.{message_bounded}
@@ -94,7 +94,7 @@ module _ (reg : List Entity) where
   all_read said t = record { messages = map (arrived reg) said; heard = t; fault = None }
 
   pub said_is_read_so : IsSound reg → (waits : Awaiting) (said : List Message) → EachCanBeSaid reg (along waits (map (arrived reg) said)) said
-      → (t : Heard) × (stream_at reg waits nothing_heard (said_blocks reg said) ≡ all_read said t) × Agree t (spoken_after reg said)
+      → (t : Heard) × (stream_at reg waits nothing_heard (said_blocks reg said) ≡ all_read said t) × MemoriesCorrespond t (spoken_after reg said)
   said_is_read_so sound waits said can =
       let ws = along waits (map (arrived reg) said) in
       let each = each_alone (map (arrived reg) said) in

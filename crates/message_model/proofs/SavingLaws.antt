@@ -20,7 +20,7 @@ use Rattle.message_model.specs.Headers.{Last}
 use Rattle.message_model.specs.Messages.{Answer, returned, raised, Message, request, release, reply}
 use Rattle.message_model.specs.Said.{kind_use, ref_use, type_uses, types_used, oid_uses, oids_used, answer_values, name_use, request_uses, message_uses}
 use Rattle.message_model.specs.Savings.{held_on, saved_by, type_saving, name_saving, uses_saved, AreNewUses, left_out, heading_saved, header_saved, IsLongest, HasLongestHeader, message_saved, IsAllNew}
-use Rattle.message_model.specs.Speaking.{name_weight, answer_weight, message_weight}
+use Rattle.message_model.specs.Sayable.{name_weight, answer_weight, message_weight}
 use Rattle.message_model.specs.WritingMessages.{Spoken, is_new, is_new_face, if_new, held_if_new, Heading, opening_spelling, target_spelling}
 use Rattle.message_model.specs.WritingMessages.{after_target, request_spelling, answer_spelling, after_thread, reply_spelling, call_heading, release_heading, message_spelling}
 use Rattle.message_model.proofs.MessageWeightLaws.{opening_bounded}

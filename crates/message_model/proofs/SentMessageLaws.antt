@@ -19,8 +19,8 @@ use Rattle.message_model.specs.Calls.{is_oneway, argument_kinds, out_kinds, may_
 use Rattle.message_model.specs.Headers.{Last, Heard, hearing, has, new_tid_flag}
 use Rattle.message_model.specs.Messages.{Answer, returned, raised, Message, request, release, reply}
 use Rattle.message_model.specs.ReadingMessages.{hearing_tid}
-use Rattle.message_model.specs.Speaking.{IsThread, IsCalled, Fill, AnswerFits, MayBeSaid, answer_weight, message_weight, AnswerSpellable, MessageSpellable}
-use Rattle.message_model.specs.Speaking.{carried_each, arguments_of, answer_arrived, arrived, IsAwaited, Agree}
+use Rattle.message_model.specs.Sayable.{IsThread, IsCalled, Fill, AnswerFits, MayBeSaid, answer_weight, message_weight, AnswerSpellable, MessageSpellable}
+use Rattle.message_model.specs.Sayable.{carried_each, arguments_of, answer_arrived, arrived, IsAwaited, MemoriesCorrespond}
 use Rattle.message_model.specs.SpellingMessages.{SpellsNewOrLast, SpellsAsked, a_release, a_call, SpellsAnswer, SpellsMessage}
 use Rattle.message_model.specs.WritingMessages.{Spoken, is_new, if_new, Heading, opening_spelling, target_spelling, after_target, request_spelling}
 use Rattle.message_model.specs.WritingMessages.{after_request, answer_spelling, after_answer, is_raised, reply_flags, after_thread, reply_spelling}
@@ -32,15 +32,15 @@ use Rattle.message_model.proofs.TargetLaws.{thread_is, CanHead, target_of, targe
 
 -- a message as it is written, and that the reader goes on to answer
 abbrev pub MessageCarried : List Entity → Waits → Heard → Message → List ℕ → Spoken → Type 0
-MessageCarried reg waits heard m b spoken = (t : Heard) × SpellsMessage reg waits heard m b t × Agree t spoken
+MessageCarried reg waits heard m b spoken = (t : Heard) × SpellsMessage reg waits heard m b t × MemoriesCorrespond t spoken
 
-module _ (reg : List Entity) (waits : Waits) (heard : Heard) (spoken : Spoken) (sound : IsSound reg) (agree : Agree heard spoken) where
+module _ (reg : List Entity) (waits : Waits) (heard : Heard) (spoken : Spoken) (sound : IsSound reg) (agree : MemoriesCorrespond heard spoken) where
   -- ---- requests
 
   -- a request, of which what stands behind the header is spelled
   request_is : (h : Heading) (args : List Plain) (m : Message) → h.function < 2 ^ 16 → CanHead reg h
-      → ((between : Heard) → Agree between (after_target h spoken)
-      → (t : Heard) × SpellsAsked reg (opening_of h spoken.last) (target_of h) between m (spellings (plains args) (after_target h spoken).names) t × Agree t (after_request h args spoken))
+      → ((between : Heard) → MemoriesCorrespond between (after_target h spoken)
+      → (t : Heard) × SpellsAsked reg (opening_of h spoken.last) (target_of h) between m (spellings (plains args) (after_target h spoken).names) t × MemoriesCorrespond t (after_request h args spoken))
       → MessageCarried reg waits heard m (request_spelling h args spoken) (after_request h args spoken)
   request_is h args m low can behind =
       let target = target_is reg h heard spoken sound can agree in

@@ -15,7 +15,7 @@ use Rattle.message_model.specs.Arriving.{HearsTexts, HasSmallFunction, AwaitSmal
 use Rattle.message_model.specs.Calls.{argument_kinds, out_kinds, Waits}
 use Rattle.message_model.specs.Headers.{Last, Heard, nothing_heard, has, wide_flag, exception_flag, Opening, Target, oid_text}
 use Rattle.message_model.specs.Messages.{Answer, Message}
-use Rattle.message_model.specs.Speaking.{AnswerSpellable, MessageSpellable}
+use Rattle.message_model.specs.Sayable.{AnswerSpellable, MessageSpellable}
 use Rattle.message_model.specs.SpellingMessages.{SpellsFunction, SpellsOpening, short, two_bytes, long, SpellsNewOrLast, SpellsOidText}
 use Rattle.message_model.specs.SpellingMessages.{SpellsAsked, a_release, a_call, SpellsRequest, SpellsAnswer, SpellsReply, SpellsMessage}
 

@@ -14,7 +14,7 @@ use Rattle.message_model.specs.Headers.{Heard, nothing_heard}
 use Rattle.message_model.specs.Messages.{Message}
 use Rattle.message_model.specs.ReadingMessages.{message_at}
 use Rattle.message_model.specs.Said.{spoken_after, spell}
-use Rattle.message_model.specs.Speaking.{arrived, Agree}
+use Rattle.message_model.specs.Sayable.{arrived, MemoriesCorrespond}
 use Rattle.message_model.specs.SpellingMessages.{SpellsMessage}
 use Rattle.message_model.specs.Streams.{SpellsBody, IsStreamBlock, SpellsStream, CanBeSaid, EachCanBeSaid}
 use Rattle.message_model.specs.WritingMessages.{Spoken, nothing_spoken, message_spelling, after_message, bodies_spelling, after_messages, messages_spelling}
@@ -23,7 +23,7 @@ use Rattle.message_model.proofs.MessageWeightLaws.{message_bounded}
 use Rattle.message_model.proofs.SentMessageLaws.{message_is}
 
 -- before anything was said, nothing is held and nothing was named
-pub agree_at_first : Agree nothing_heard nothing_spoken
+pub agree_at_first : MemoriesCorrespond nothing_heard nothing_spoken
 agree_at_first = record { names = all_at_first; last = refl }
 
 module _ (reg : List Entity) where
@@ -115,9 +115,9 @@ module _ (reg : List Entity) (sound : IsSound reg) where
   -- a message as it is read, whatever stands behind it, and that the reader goes on to answer
   abbrev pub ReadBack : Waits → Heard → Message → Spoken → List ℕ → Type 0
   ReadBack waits heard m spoken rest =
-      (t : Heard) × (message_at reg waits heard (message_spelling reg m spoken ++ rest) ≡ Ok (arrived reg m, t, rest)) × Agree t (after_message reg m spoken)
+      (t : Heard) × (message_at reg waits heard (message_spelling reg m spoken ++ rest) ≡ Ok (arrived reg m, t, rest)) × MemoriesCorrespond t (after_message reg m spoken)
 
-  pub read_back : (waits : Waits) (heard : Heard) (m : Message) (spoken : Spoken) (rest : List ℕ) → CanBeSaid reg waits m → Agree heard spoken → ReadBack waits heard m spoken rest
+  pub read_back : (waits : Waits) (heard : Heard) (m : Message) (spoken : Spoken) (rest : List ℕ) → CanBeSaid reg waits m → MemoriesCorrespond heard spoken → ReadBack waits heard m spoken rest
   read_back waits heard m spoken rest can agree =
       let w = message_is reg waits heard spoken sound agree m can.may can.light can.carried can.awaited in
       (w.0, (message_agrees reg waits heard sound.named).complete (arrived reg m, w.0) (message_spelling reg m spoken) rest w.1, w.2)
@@ -129,8 +129,8 @@ module _ (reg : List Entity) (sound : IsSound reg) where
   abbrev pub arrived_alone : List Message → List (List Message)
   arrived_alone ms = map (λ m. arrived reg m ∷ []) ms
 
-  pub said_is_read : (ws : List Waits) (ms : List Message) (heard : Heard) (spoken : Spoken) → EachCanBeSaid reg ws ms → Agree heard spoken
-      → (t : Heard) × SpellsStream reg (alone ws) (messages_spelling reg ms spoken) heard (arrived_alone ms) t × Agree t (after_messages reg ms spoken)
+  pub said_is_read : (ws : List Waits) (ms : List Message) (heard : Heard) (spoken : Spoken) → EachCanBeSaid reg ws ms → MemoriesCorrespond heard spoken
+      → (t : Heard) × SpellsStream reg (alone ws) (messages_spelling reg ms spoken) heard (arrived_alone ms) t × MemoriesCorrespond t (after_messages reg ms spoken)
   unfolding SpellsStream SpellsBody EachCanBeSaid bodies_spelling after_messages
   said_is_read [] [] heard spoken can agree = (heard, (refl, refl), agree)
   said_is_read [] (m ∷ ms) heard spoken can agree = absurd can
@@ -147,6 +147,6 @@ module _ (reg : List Entity) (sound : IsSound reg) where
 
   -- from the beginning
   pub all_is_read : (ws : List Waits) (said : List Message) → EachCanBeSaid reg ws said
-      → (t : Heard) × SpellsStream reg (alone ws) (spell reg said) nothing_heard (arrived_alone said) t × Agree t (spoken_after reg said)
+      → (t : Heard) × SpellsStream reg (alone ws) (spell reg said) nothing_heard (arrived_alone said) t × MemoriesCorrespond t (spoken_after reg said)
   unfolding spell spoken_after
   all_is_read ws said can = said_is_read ws said nothing_heard nothing_spoken can agree_at_first

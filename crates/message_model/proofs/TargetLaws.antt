@@ -15,7 +15,7 @@ use Rattle.urp_model.specs.Tables.{Table}
 use Rattle.urp_model.specs.Writing.{Names, kind_spelling, kind_after, name_spelling}
 use Rattle.urp_model.proofs.PieceLaws.{kind_is, oid_is, tid_is}
 use Rattle.message_model.specs.Headers.{Last, Heard, Target}
-use Rattle.message_model.specs.Speaking.{IsThread, Agree}
+use Rattle.message_model.specs.Sayable.{IsThread, MemoriesCorrespond}
 use Rattle.message_model.specs.SpellingMessages.{SpellsNewOrLast, SpellsOidText, SpellsTarget}
 use Rattle.message_model.specs.WritingMessages.{Spoken, is_new, is_new_face, if_new, held_if_new, Heading, target_spelling, after_target}
 use Rattle.message_model.proofs.OpeningLaws.{opening_of}
@@ -102,8 +102,8 @@ pub record CanHead (reg : List Entity) (h : Heading) : Type 0 where
   pub thread : IsThread h.tid
 
 -- the header as it is written, and that the reader goes on to answer
-pub target_is : (reg : List Entity) (h : Heading) (heard : Heard) (spoken : Spoken) → IsSound reg → CanHead reg h → Agree heard spoken
-    → (after : Heard) × SpellsTarget reg (opening_of h spoken.last) heard (target_of h) (target_spelling h spoken) after × Agree after (after_target h spoken)
+pub target_is : (reg : List Entity) (h : Heading) (heard : Heard) (spoken : Spoken) → IsSound reg → CanHead reg h → MemoriesCorrespond heard spoken
+    → (after : Heard) × SpellsTarget reg (opening_of h spoken.last) heard (target_of h) (target_spelling h spoken) after × MemoriesCorrespond after (after_target h spoken)
 unfolding target_spelling after_target
 target_is reg h heard spoken sound can agree =
     let k = face_is reg h.face spoken.last.kind heard.tables.types spoken.names.types sound can.interface agree.names.types in

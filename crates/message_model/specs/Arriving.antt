@@ -11,7 +11,7 @@ use Rattle.urp_model.specs.Carried.{MeansOnly, MeansIdentities, MeansTexts}
 use Rattle.message_model.specs.Calls.{acquire_number, release_number, numbered, argument_kinds, Waits, waiting, Waiting}
 use Rattle.message_model.specs.Headers.{Heard}
 use Rattle.message_model.specs.Messages.{Answer, Message, request, release, reply}
-use Rattle.message_model.specs.Speaking.{Fill, AnswerFits, IsThread}
+use Rattle.message_model.specs.Sayable.{Fill, AnswerFits, IsThread}
 
 -- an identity of an object, or the empty one, which is null
 abbrev pub IsObject : List ℕ → Type 0

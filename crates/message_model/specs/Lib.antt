@@ -7,8 +7,8 @@ pub mod Messages
 pub mod ReadingMessages
 pub mod ReadingStreams
 pub mod Said
+pub mod Sayable
 pub mod Savings
-pub mod Speaking
 pub mod SpellingMessages
 pub mod Streams
 pub mod WritingMessages

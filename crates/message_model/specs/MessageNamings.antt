@@ -7,7 +7,7 @@ use Rattle.urp_model.specs.Namings.{Naming, namings, namings_each}
 use Rattle.message_model.specs.Calls.{numbered}
 use Rattle.message_model.specs.Messages.{Answer, returned, raised, Message, request, release, reply}
 use Rattle.message_model.specs.Said.{answer_values}
-use Rattle.message_model.specs.Speaking.{arguments_of, outs_of, result_of}
+use Rattle.message_model.specs.Sayable.{arguments_of, outs_of, result_of}
 
 -- an object and the interface under which it is called or let go
 pub record Address : Type 0 where

@@ -12,7 +12,7 @@ use Rattle.urp_model.specs.NamedKinds.{is_simple}
 use Rattle.urp_model.specs.Writing.{HeldNames}
 use Rattle.message_model.specs.Headers.{Last, nothing_said}
 use Rattle.message_model.specs.Messages.{Answer, returned, raised, Message, request, release, reply}
-use Rattle.message_model.specs.Speaking.{message_weight}
+use Rattle.message_model.specs.Sayable.{message_weight}
 use Rattle.message_model.specs.WritingMessages.{Spoken, nothing_spoken, message_spelling, bodies_spelling, after_messages, messages_spelling, is_new, is_new_face}
 
 -- ---- bytes

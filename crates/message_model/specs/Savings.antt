@@ -8,7 +8,7 @@ use Rattle.urp_model.specs.Writing.{Names, HeldNames}
 use Rattle.message_model.specs.Headers.{Last}
 use Rattle.message_model.specs.Messages.{Message, request, release, reply}
 use Rattle.message_model.specs.Said.{Uses, message_uses}
-use Rattle.message_model.specs.Speaking.{name_weight}
+use Rattle.message_model.specs.Sayable.{name_weight}
 use Rattle.message_model.specs.WritingMessages.{Spoken, is_new, is_new_face, Heading, opening_spelling, call_heading, release_heading}
 
 -- ---- names

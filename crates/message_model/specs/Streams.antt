@@ -5,7 +5,7 @@ use Rattle.urp_model.specs.Blocks.{spell_block}
 use Rattle.message_model.specs.Calls.{Waits}
 use Rattle.message_model.specs.Headers.{Heard}
 use Rattle.message_model.specs.Messages.{Message}
-use Rattle.message_model.specs.Speaking.{MayBeSaid, message_weight, MessageSpellable, IsAwaited}
+use Rattle.message_model.specs.Sayable.{MayBeSaid, message_weight, MessageSpellable, IsAwaited}
 use Rattle.message_model.specs.SpellingMessages.{SpellsMessage}
 
 -- the bytes are these messages, one after the other and nothing behind them, each read while these calls wait

@@ -3,7 +3,7 @@ ghost use Rattle.std.specs.Prelude.{◌≡◌, List, map};
 ghost use Rattle.message_model.specs.Arriving.{MessageFits};
 ghost use Rattle.message_model.specs.MessageNamings.{addressed, message_values, message_namings};
 ghost use Rattle.message_model.specs.Messages.{Message};
-ghost use Rattle.message_model.specs.Speaking.{MayBeSaid, arrived};
+ghost use Rattle.message_model.specs.Sayable.{MayBeSaid, arrived};
 ghost use Rattle.uno_model.specs.Entities.{Entity};
 ghost use Rattle.uno_model.specs.Values.{refs_in};
 ghost use Rattle.urp_model.specs.Namings.{held_ref, arrived_ref, arrived_naming};

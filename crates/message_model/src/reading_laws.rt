@@ -5,7 +5,7 @@ ghost use Rattle.message_model.specs.Calls.{Waits};
 ghost use Rattle.message_model.specs.Headers.{Heard, nothing_heard};
 ghost use Rattle.message_model.specs.Messages.{Message};
 ghost use Rattle.message_model.specs.ReadingMessages.{message_at};
-ghost use Rattle.message_model.specs.Speaking.{MessageSpellable};
+ghost use Rattle.message_model.specs.Sayable.{MessageSpellable};
 ghost use Rattle.message_model.specs.SpellingMessages.{SpellsMessage};
 ghost use Rattle.uno_model.specs.Entities.{Entity};
 ghost use Rattle.uno_model.specs.Sound.{IsSound};

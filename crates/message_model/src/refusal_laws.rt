@@ -5,7 +5,7 @@ ghost use Rattle.message_model.specs.Messages.{Message};
 ghost use Rattle.message_model.specs.ReadingStreams.{Awaiting, along, along_blocks, BodyFault, BodyRead, body_at, IsFinal, IsBody};
 ghost use Rattle.message_model.specs.ReadingStreams.{StreamFault, StreamRead, stream_at, IsBrokenStream, IsStream};
 ghost use Rattle.message_model.specs.Said.{spoken_after, spell, said_blocks, AreLight};
-ghost use Rattle.message_model.specs.Speaking.{arrived, Agree};
+ghost use Rattle.message_model.specs.Sayable.{arrived, MemoriesCorrespond};
 ghost use Rattle.message_model.specs.Streams.{SpellsBody, SpellsStream, EachCanBeSaid};
 ghost use Rattle.uno_model.specs.Entities.{Entity};
 ghost use Rattle.uno_model.specs.Sound.{IsSound};
@@ -51,5 +51,5 @@ pub fn what_was_said_stands_as_blocks()
     ensures stands { (reg : List Entity) (said : List Message) → AreLight said → AreBlocksAnd (spell reg said) (said_blocks reg said) [] }
     ensures read { (reg : List Entity) → IsSound reg → (waits : Awaiting) (said : List Message) → EachCanBeSaid reg (along waits (map (arrived reg) said)) said
         → (t : Heard) × (stream_at reg waits nothing_heard (said_blocks reg said) ≡ record { messages = map (arrived reg) said; heard = t; fault = None })
-        × Agree t (spoken_after reg said) }
+        × MemoriesCorrespond t (spoken_after reg said) }
 {}

@@ -4,7 +4,7 @@ ghost use Rattle.message_model.specs.Calls.{Waits};
 ghost use Rattle.message_model.specs.Headers.{Heard, nothing_heard};
 ghost use Rattle.message_model.specs.Messages.{Message};
 ghost use Rattle.message_model.specs.Said.{spoken_after, spell};
-ghost use Rattle.message_model.specs.Speaking.{arrived, Agree};
+ghost use Rattle.message_model.specs.Sayable.{arrived, MemoriesCorrespond};
 ghost use Rattle.message_model.specs.SpellingMessages.{SpellsMessage};
 ghost use Rattle.message_model.specs.Streams.{SpellsBody, IsStreamBlock, SpellsStream, EachCanBeSaid};
 ghost use Rattle.uno_model.specs.Entities.{Entity};
@@ -33,5 +33,5 @@ pub fn a_stream_goes_on_behind_what_it_spells()
 pub fn what_was_said_is_read()
     ensures { (reg : List Entity) → IsSound reg → (waits : List Waits) (said : List Message) → EachCanBeSaid reg waits said
         → (after : Heard) × SpellsStream reg (map (λ w. w ∷ []) waits) (spell reg said) nothing_heard (map (λ m. arrived reg m ∷ []) said) after
-        × Agree after (spoken_after reg said) }
+        × MemoriesCorrespond after (spoken_after reg said) }
 {}

@@ -3,7 +3,7 @@ ghost use Rattle.std.specs.Prelude.{◌≡◌, ℕ, ◌+◌, List, ◌++◌, len
 ghost use Rattle.message_model.specs.Messages.{Message};
 ghost use Rattle.message_model.specs.Said.{type_uses, oid_uses};
 ghost use Rattle.message_model.specs.Savings.{held_on, saved_by, type_saving, name_saving, message_saved, IsAllNew};
-ghost use Rattle.message_model.specs.Speaking.{message_weight};
+ghost use Rattle.message_model.specs.Sayable.{message_weight};
 ghost use Rattle.message_model.specs.WritingMessages.{Spoken, message_spelling};
 ghost use Rattle.uno_model.specs.Entities.{Entity};
 ghost use Rattle.uno_model.specs.Values.{Plain};

@@ -7,7 +7,7 @@ use Rattle.std.proofs.lemmas.List.{at_drop_more, drop_all, length-map}
 use Rattle.std.specs.Borrow.{Bor}
 use Rattle.message_model.specs.Calls.{acquire_number, release_number, numbered, may_raise}
 use Rattle.message_model.specs.Messages.{raised}
-use Rattle.message_model.specs.Speaking.{Fill, AnswerFits}
+use Rattle.message_model.specs.Sayable.{Fill, AnswerFits}
 use Rattle.type_registry.specs.Functions.{lent_function}
 use Rattle.type_registry.specs.declared.function.FunctionRef.{FunctionRef}
 use Rattle.uno_model.specs.Entities.{Entity}

@@ -14,16 +14,16 @@ use Rattle.urp_model.proofs.SizeLaws.{each_sized}
 use Rattle.message_model.specs.Calls.{Waits, argument_kinds, out_kinds}
 use Rattle.message_model.specs.Headers.{Heard}
 use Rattle.message_model.specs.Messages.{Answer, returned, raised, Message, request, release, reply}
-use Rattle.message_model.specs.Speaking.{Fill, AnswerFits, MayBeSaid, heading_weight, answer_weight, message_weight, MessageSpellable, arrived, IsAwaited}
+use Rattle.message_model.specs.Sayable.{Fill, AnswerFits, MayBeSaid, heading_weight, answer_weight, message_weight, MessageSpellable, arrived, IsAwaited}
 use Rattle.message_model.specs.Said.{spoken_after, spell, uses_of, AreLeftBy}
-use Rattle.message_model.specs.Speaking.{Agree}
+use Rattle.message_model.specs.Sayable.{MemoriesCorrespond}
 use Rattle.message_model.specs.ReadingMessages.{message_at}
 use Rattle.message_model.specs.WritingMessages.{Spoken, Heading, call_heading, release_heading, message_spelling, after_message}
 use Rattle.message_model.proofs.MessageWeightLaws.{message_bounded}
 use Rattle.message_model.proofs.SaidLaws.{spell_more, spoken_more, all_left}
 use Rattle.message_model.proofs.StreamLaws.{read_back}
-use Rattle.wire_writing.specs.Written.{IsWritable, AreWritable}
-use Rattle.wire_writing.proofs.Lengths.{all_writable, light_writable}
+use Rattle.urp_wire_write.specs.Written.{IsWritable, AreWritable}
+use Rattle.urp_wire_write.proofs.Lengths.{all_writable, light_writable}
 use Rattle.urp_message.specs.Speaking.{HeadingWritable, AnswerWritable, MessageWritable}
 
 -- a header that weighs little
@@ -58,8 +58,8 @@ body_behind count body = refl
 -- what was written is read again
 pub read_again : (reg : List Entity) (m : Message) (spoken now : Spoken) (block : List ℕ) → IsSound reg → MayBeSaid reg m → message_weight m ≤ 16777216 → MessageSpellable m
     → block ≡ spell_block 1 (message_spelling reg m spoken) → now ≡ after_message reg m spoken
-    → (waits : Waits) (heard : Heard) (rest : List ℕ) → Agree heard spoken → IsAwaited waits m
-    → (after : Heard) × (message_at reg waits heard (drop 8 block ++ rest) ≡ Ok (arrived reg m, after, rest)) × Agree after now
+    → (waits : Waits) (heard : Heard) (rest : List ℕ) → MemoriesCorrespond heard spoken → IsAwaited waits m
+    → (after : Heard) × (message_at reg waits heard (drop 8 block ++ rest) ≡ Ok (arrived reg m, after, rest)) × MemoriesCorrespond after now
 read_again reg m spoken now block sound may light carried bytes remembered waits heard rest agree awaited =
     let back = read_back reg sound waits heard m spoken rest (record { may = may; light = light; carried = carried; awaited = awaited }) agree in
     let body : drop 8 block ≡ message_spelling reg m spoken = rw bytes (body_of (message_spelling reg m spoken)) in

@@ -5,15 +5,15 @@ use Rattle.message_model.specs.Messages as plain
 use Rattle.uno_entities.specs.TypeNames.{kind_of}
 use Rattle.uno_values.specs.Values.{plain_of}
 use Rattle.message_model.specs.WritingMessages as written
-use Rattle.urp_message.specs.declared.last.Heard.{Heard}
-use Rattle.urp_message.specs.declared.last.Last.{Last}
-use Rattle.urp_message.specs.declared.last.Spoken.{Spoken}
+use Rattle.urp_message.specs.declared.remembered.Heard.{Heard}
+use Rattle.urp_message.specs.declared.remembered.Last.{Last}
+use Rattle.urp_message.specs.declared.remembered.Spoken.{Spoken}
 use Rattle.urp_message.specs.declared.message.Answer.{Answer}
 use Rattle.urp_message.specs.declared.message.Answer.TheVariants.{Returned, Raised}
 use Rattle.urp_message.specs.declared.message.Message.{Message}
 use Rattle.urp_message.specs.declared.message.Message.TheVariants.{Request, Release, Reply}
 use Rattle.urp_wire.specs.Gives.{tables_of}
-use Rattle.wire_writing.specs.Written.{names_of}
+use Rattle.urp_wire_write.specs.Written.{names_of}
 
 -- an answer
 abbrev pub answer_of : Answer → plain.Answer

@@ -2,7 +2,7 @@
 use Rattle.std.specs.Prelude.{◌≡◌, ℕ, ◌<◌, true, List, Option, None, Some}
 use Rattle.message_model.specs.Calls.{argument_kinds, may_raise}
 use Rattle.message_model.specs.Messages as plain
-use Rattle.message_model.specs.Speaking.{IsCalled, Fill, AnswerFits}
+use Rattle.message_model.specs.Sayable.{IsCalled, Fill, AnswerFits}
 use Rattle.type_registry.specs.Functions.{lent_function}
 use Rattle.type_registry.specs.declared.function.FunctionRef.{FunctionRef}
 use Rattle.uno_model.specs.Entities.{Entity}
@@ -13,12 +13,12 @@ use Rattle.uno_model.specs.Types.{is_type}
 use Rattle.uno_model.specs.Values.{Plain, depth}
 
 -- a function that is called like others, and arguments that fit it
-abbrev pub RequestFits : List Entity → List ℕ → ℕ → List Plain → Type 0
-RequestFits reg face number args = (f : called.Function) × IsCalled reg face number f × Fill reg args (argument_kinds f)
+abbrev pub IsCalledWith : List Entity → List ℕ → ℕ → List Plain → Type 0
+IsCalledWith reg face number args = (f : called.Function) × IsCalled reg face number f × Fill reg args (argument_kinds f)
 
 -- a function that is called like others, and an answer to it
-abbrev pub ReplyFits : List Entity → List ℕ → ℕ → plain.Answer → Type 0
-ReplyFits reg face number answer = (f : called.Function) × IsCalled reg face number f × AnswerFits reg f answer
+abbrev pub IsAnsweredWith : List Entity → List ℕ → ℕ → plain.Answer → Type 0
+IsAnsweredWith reg face number answer = (f : called.Function) × IsCalled reg face number f × AnswerFits reg f answer
 
 -- the function that is called like others is found, or there is none
 abbrev pub FindsCalled : List Entity → List ℕ → ℕ → Option FunctionRef → Type 0

@@ -9,22 +9,22 @@ ghost use Rattle.urp_message.specs.Listening.{Reads, refusal_of};
 ghost use Rattle.urp_message.specs.Messages.{message_of, heard_of};
 ghost use Rattle.urp_message.specs.declared.error.ReadError.{ReadError};
 
+mod message;
 mod opening;
 mod reply;
 mod request;
 mod target;
 mod values;
-mod whole;
 
-use crate::last::{Heard, Last};
+use crate::remembered::{Heard, Last};
 use crate::{Expects, Message, ReadError};
+use message::read_message;
 use std::alloc::Global;
 use std::marker::Model;
 use uno_base::NoMemory;
 use uno_types::Registry;
 use urp_cache::ReadCaches;
 use urp_wire::{Reason, WireError};
-use whole::read_message;
 
 /// What an end remembers of the direction in which it reads: the slots and the last names (URP specification, messages, caches).
 /// After a refusal it only refuses.

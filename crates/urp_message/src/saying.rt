@@ -1,7 +1,7 @@
 //! Whether a message may be said, its weight apart.
 ghost use Rattle.std.specs.Prelude.{◌↔◌, ◌≤◌, IsTrue, map};
 ghost use Rattle.message_model.specs.Calls.{kinds_on};
-ghost use Rattle.message_model.specs.Speaking.{IsThread, Fill, AnswerFits, MayBeSaid};
+ghost use Rattle.message_model.specs.Sayable.{IsThread, Fill, AnswerFits, MayBeSaid};
 ghost use Rattle.type_registry.specs.Functions.{lent_function};
 ghost use Rattle.uno_model.specs.Fits.{Fits, IsIdentity};
 ghost use Rattle.uno_model.specs.Sound.{IsSound};
@@ -11,7 +11,7 @@ ghost use Rattle.uno_values.specs.Values.{plain_of};
 ghost use Rattle.urp_message.specs.Messages.{answer_of, message_of};
 ghost use Rattle.message_model.specs.Messages.{raised};
 ghost use Rattle.urp_message.specs.Params.{carries};
-ghost use Rattle.urp_message.specs.Saying.{RequestFits, ReplyFits, FindsCalled, ExceptionFits};
+ghost use Rattle.urp_message.specs.Saying.{IsCalledWith, IsAnsweredWith, FindsCalled, ExceptionFits};
 
 use crate::params::{Phase, carried_kind};
 use crate::raising::may_raise;
@@ -89,7 +89,7 @@ fn is_thread(tid: &Tid) -> bool
 /// Whether a request calls a function like others, with arguments that fit.
 fn request_fits(registry: &Registry, face: &Name, number: u16, args: &[Value]) -> bool
     requires { IsSound registry.now }
-    ensures { IsTrue result ↔ RequestFits registry.now face.now number (map plain_of args.now) }
+    ensures { IsTrue result ↔ IsCalledWith registry.now face.now number (map plain_of args.now) }
 {
     let Some(function) = called(registry, face, number) else {
         return false;
@@ -98,12 +98,7 @@ fn request_fits(registry: &Registry, face: &Name, number: u16, args: &[Value]) -
 }
 
 /// Whether values are those that a request or a reply carries for the parameters of a function.
-fn values_fit(
-    registry: &Registry,
-    phase: Phase,
-    function: &FunctionRef,
-    values: &[Value],
-) -> bool
+fn values_fit(registry: &Registry, phase: Phase, function: &FunctionRef, values: &[Value]) -> bool
     requires { IsSound registry.now }
     ensures { IsTrue result ↔ Fill registry.now (map plain_of values.now) (kinds_on (carries phase) (lent_function function.now).params) }
 {
@@ -142,7 +137,7 @@ fn called<'a>(registry: &'a Registry, face: &Name, number: u16) -> Option<Functi
 /// Whether an answer is one to a function like others.
 fn reply_fits(registry: &Registry, face: &Name, number: u16, answer: &Answer) -> bool
     requires { IsSound registry.now }
-    ensures { IsTrue result ↔ ReplyFits registry.now face.now number (answer_of answer.now) }
+    ensures { IsTrue result ↔ IsAnsweredWith registry.now face.now number (answer_of answer.now) }
 {
     let Some(function) = called(registry, face, number) else {
         return false;

@@ -6,7 +6,7 @@ ghost use Rattle.message_model.specs.Headers.{Heard};
 ghost use Rattle.message_model.specs.Messages.{Message as Said};
 ghost use Rattle.message_model.specs.ReadingMessages.{message_at};
 ghost use Rattle.message_model.specs.Said.{spoken_after, spell, uses_of, AreLeftBy};
-ghost use Rattle.message_model.specs.Speaking.{MayBeSaid, message_weight, MessageSpellable, arrived, IsAwaited, Agree};
+ghost use Rattle.message_model.specs.Sayable.{MayBeSaid, message_weight, MessageSpellable, arrived, IsAwaited, MemoriesCorrespond};
 ghost use Rattle.message_model.specs.WritingMessages.{nothing_spoken, message_spelling, after_message};
 ghost use Rattle.uno_model.specs.Sound.{IsSound};
 ghost use Rattle.urp_message.specs.Messages.{message_of, spoken_of};
@@ -19,13 +19,13 @@ mod request;
 mod target;
 
 use crate::Message;
-use crate::last::{Last, Spoken};
+use crate::remembered::{Last, Spoken};
+use message::put_message;
 use std::alloc::Global;
 use std::marker::Model;
 use uno_base::NoMemory;
 use uno_types::Registry;
 use urp_cache::SendCaches;
-use message::put_message;
 
 /// What an end remembers of the direction in which it writes: the slots that its names have, and the last names (URP specification,
 /// messages, caches). Where memory ran out it writes no more, since the peer would remember other names.
@@ -79,9 +79,9 @@ impl Speaker {
         ensures remembers { OnOk result (self.new ≡ record { spoken = after_message registry.now (message_of message.now) self.old.spoken; failed = false }) }
         ensures fails { OnErr result (IsTrue self.new.failed) }
         ensures failed { IsTrue self.old.failed → IsErr result }
-        ensures read { IfOk result (λ block. (waits : Waits) (heard : Heard) (rest : List ℕ) → Agree heard self.old.spoken → IsAwaited waits (message_of message.now)
+        ensures read { IfOk result (λ block. (waits : Waits) (heard : Heard) (rest : List ℕ) → MemoriesCorrespond heard self.old.spoken → IsAwaited waits (message_of message.now)
             → (after : Heard) × (message_at registry.now waits heard (drop 8 block.items ++ rest) ≡ Ok (arrived registry.now (message_of message.now), after, rest))
-            × Agree after self.new.spoken) }
+            × MemoriesCorrespond after self.new.spoken) }
         ensures grows { IfOk result (λ block. (said : List Said) → self.old.spoken ≡ spoken_after registry.now said
             → spell registry.now (said ++ message_of message.now ∷ []) ≡ spell registry.now said ++ block.items) }
         ensures goes_on { OnOk result ((said : List Said) → self.old.spoken ≡ spoken_after registry.now said

@@ -1,7 +1,7 @@
 //! What a message weighs: the length of its body where each name in it is written out, with a second byte of flags and a function of
 //! two bytes.
 ghost use Rattle.std.specs.Prelude.{◌≡◌, ◌+◌, ◌-◌, ◌^◌, min, length};
-ghost use Rattle.message_model.specs.Speaking.{message_weight, answer_weight, heading_weight, name_weight};
+ghost use Rattle.message_model.specs.Sayable.{message_weight, answer_weight, heading_weight, name_weight};
 ghost use Rattle.uno_model.specs.Values.{any};
 ghost use Rattle.uno_model.specs.Weights.{weight, weights, text_weight, kind_weight};
 ghost use Rattle.uno_entities.specs.TypeNames.{kind_of};

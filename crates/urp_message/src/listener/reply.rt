@@ -14,11 +14,11 @@ ghost use Rattle.urp_model.specs.ReadingNames.{tid_at};
 ghost use Rattle.urp_wire.specs.Gives.{Gives, tables_of};
 
 use super::target::thread_named;
-use super::values::{MOST_LEVELS, carried};
+use super::values::{MOST_LEVELS, parameter_values};
 use crate::flags::{EXCEPTION, NEW_TID, has};
-use crate::last::{Heard, Last};
 use crate::params::Phase;
 use crate::raising::may_raise;
+use crate::remembered::{Heard, Last};
 use crate::{Answer, Expects, Message};
 use std::alloc::Global;
 use type_registry::{FunctionRef, function_numbered};
@@ -218,7 +218,7 @@ fn returned<'a>(
     ensures { Gives (λ x. (answer_of x.0, tables_of caches.new, x.1.now)) result (returned_at registry.now (lent_function function.now) (tables_of caches.old) bytes.now) }
 {
     let (value, rest) = result_value(alloc, registry, function, caches, bytes)?;
-    match carried(alloc, registry, Phase::Reply, function, caches, rest) {
+    match parameter_values(alloc, registry, Phase::Reply, function, caches, rest) {
         Ok((outs, rest)) => Ok((Answer::Returned { value, outs }, rest)),
         Err(error) => {
             drop(value);

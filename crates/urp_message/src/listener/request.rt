@@ -15,10 +15,10 @@ ghost use Rattle.urp_wire.specs.Gives.{Gives};
 
 use super::opening::{Opening, read_opening};
 use super::target::{Target, read_target};
-use super::values::carried;
+use super::values::parameter_values;
 use crate::Message;
-use crate::last::Heard;
 use crate::params::Phase;
+use crate::remembered::Heard;
 use std::alloc::Global;
 use type_registry::{FunctionRef, function_numbered};
 use uno_types::{Name, Registry, Text, Tid, TypeName};
@@ -160,7 +160,7 @@ fn arguments<'a>(
     if lacks_answer(&function, opening) {
         return Err(WireError::Bad(Reason::OneWay));
     }
-    let (args, rest) = carried(
+    let (args, rest) = parameter_values(
         alloc,
         registry,
         Phase::Request,

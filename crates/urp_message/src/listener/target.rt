@@ -12,7 +12,7 @@ ghost use Rattle.urp_model.specs.declared.reason.Reason.TheVariants.{NoLast};
 ghost use Rattle.urp_wire.specs.Gives.{Gives};
 
 use super::opening::Opening;
-use crate::last::{Heard, remember};
+use crate::remembered::{Heard, remember};
 use std::alloc::Global;
 use uno_types::{Registry, Text, Tid, TypeName};
 use urp_cache::ReadCache;

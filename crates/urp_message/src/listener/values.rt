@@ -20,7 +20,7 @@ use urp_wire::{WireError, read_value_within};
 pub(crate) const MOST_LEVELS: u32 = 64;
 
 /// The values that a request or a reply carries for the parameters of a function, in order.
-pub(crate) fn carried<'a>(
+pub(crate) fn parameter_values<'a>(
     alloc: Global,
     registry: &Registry,
     phase: Phase,

@@ -8,7 +8,7 @@ ghost use Rattle.urp_message.specs.Messages.{last_of};
 ghost use Rattle.urp_message.specs.Speaking.{heading_of};
 
 use crate::flags::{MORE, NEW_OID, NEW_TID, NEW_TYPE, WIDE};
-use crate::last::Last;
+use crate::remembered::Last;
 use uno_base::NoMemory;
 use uno_types::{Name, Text, Tid, TypeName};
 

@@ -1,7 +1,7 @@
 //! A message as it is written.
 ghost use Rattle.std.specs.Prelude.{◌≡◌, ◌++◌, OnOk};
 ghost use Rattle.message_model.specs.Calls.{numbered, is_oneway};
-ghost use Rattle.message_model.specs.Speaking.{MessageSpellable};
+ghost use Rattle.message_model.specs.Sayable.{MessageSpellable};
 ghost use Rattle.message_model.specs.WritingMessages.{message_spelling, after_message};
 ghost use Rattle.type_registry.specs.Functions.{lent_function};
 ghost use Rattle.urp_message.specs.Messages.{message_of, spoken_of};
@@ -11,7 +11,7 @@ use super::heading::Heading;
 use super::reply::put_reply;
 use super::request::put_request;
 use crate::Message;
-use crate::last::Spoken;
+use crate::remembered::Spoken;
 use std::alloc::Global;
 use type_registry::function_numbered;
 use uno_base::NoMemory;
@@ -21,7 +21,7 @@ use uno_types::{Name, Registry};
 const RELEASE: u16 = 2;
 
 /// The body of a message, behind the bytes that are there.
-#[tactic(auto, unfolding(message_model::specs::WritingMessages::message_spelling, message_model::specs::WritingMessages::after_message, wire_writing::specs::Written::AreWritable))]
+#[tactic(auto, unfolding(message_model::specs::WritingMessages::message_spelling, message_model::specs::WritingMessages::after_message, urp_wire_write::specs::Written::AreWritable))]
 pub(crate) fn put_message(
     alloc: Global,
     registry: &Registry,

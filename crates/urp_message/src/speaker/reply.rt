@@ -1,16 +1,16 @@
 //! Replies as they are written (URP specification, messages).
 ghost use Rattle.std.specs.Prelude.{◌≡◌, ◌<◌, ◌^◌, ◌++◌, length, OnOk};
-ghost use Rattle.message_model.specs.Speaking.{AnswerSpellable};
+ghost use Rattle.message_model.specs.Sayable.{AnswerSpellable};
 ghost use Rattle.message_model.specs.WritingMessages.{is_raised, reply_flags, reply_spelling, after_reply, answer_spelling, after_answer};
 ghost use Rattle.urp_message.specs.Messages.{answer_of, spoken_of};
 ghost use Rattle.urp_message.specs.Speaking.{AnswerWritable};
-ghost use Rattle.wire_writing.specs.Written.{names_of};
+ghost use Rattle.urp_wire_write.specs.Written.{names_of};
 
 use super::heading::is_new_tid;
 use super::target::put_thread;
 use crate::Answer;
 use crate::flags::{EXCEPTION, NEW_TID};
-use crate::last::Spoken;
+use crate::remembered::Spoken;
 use std::alloc::Global;
 use uno_base::NoMemory;
 use uno_types::Tid;

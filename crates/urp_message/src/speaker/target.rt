@@ -10,7 +10,7 @@ ghost use Rattle.urp_model.specs.Held.{used};
 ghost use Rattle.urp_model.specs.Writing.{kind_spelling, kind_after, name_spelling};
 
 use super::heading::{Heading, is_new_face, is_new_oid, is_new_tid};
-use crate::last::{Spoken, remember};
+use crate::remembered::{Spoken, remember};
 use std::alloc::Global;
 use uno_base::NoMemory;
 use uno_types::{Name, Text, Tid, TypeName};

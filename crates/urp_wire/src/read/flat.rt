@@ -134,11 +134,7 @@ pub fn kind<'a>(
 
 /// An item of an enum: any number, whether one of its items has it or not.
 #[tactic(auto, unfolding(urp_model::specs::Reading::value_step))]
-pub fn item<'a>(
-    alloc: Global,
-    name: &Name,
-    bytes: &'a [u8],
-) -> Result<(Value, &'a [u8]), WireError>
+pub fn item<'a>(alloc: Global, name: &Name, bytes: &'a [u8]) -> Result<(Value, &'a [u8]), WireError>
     ensures { (reg : List Entity) (r : Kind → Reads) (s : Tables) → Gives (λ x. (plain_of x.0, s, x.1.now)) result (value_step reg r (kd.enum name.now) s bytes.now) }
 {
     let (number, rest) = four_bytes(bytes)?;

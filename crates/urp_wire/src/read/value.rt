@@ -12,9 +12,8 @@ ghost use Rattle.urp_model.specs.Tables.{Tables};
 ghost use Rattle.urp_wire.specs.Gives.{Gives, tables_of};
 ghost use Rattle.urp_wire.specs.Levels.{too_deep};
 
-use super::flat;
 use super::parts::{length, raw};
-use super::read_kind;
+use super::{flat, read_kind};
 use crate::{Reason, WireError};
 use std::alloc::Global;
 use uno_types::{Field, Name, Registry, TypeName};

@@ -1,6 +1,6 @@
 use Rattle.std.specs.Prelude.{◌↔◌, map, drop}
 use Rattle.message_model.specs.Calls.{kinds_on}
-use Rattle.message_model.specs.Speaking.{Fill}
+use Rattle.message_model.specs.Sayable.{Fill}
 use Rattle.type_registry.specs.Functions.{lent_function}
 use Rattle.uno_values.specs.Values.{plain_of}
 use Rattle.urp_message.specs.Params.{carries}
