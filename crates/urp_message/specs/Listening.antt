@@ -1,5 +1,5 @@
 -- What a contract sees of a `Listener`, and why it refuses.
-use Rattle.std.specs.Prelude.{◌≡◌, Option, Result, Ok, Err}
+use Rattle.std.specs.Prelude.{◌≡◌, Option, Result, Err}
 use Rattle.message_model.specs.Headers.{Heard}
 use Rattle.urp_message.specs.declared.error.ReadError.{ReadError}
 use Rattle.urp_message.specs.declared.error.ReadError.TheVariants as refusal
@@ -30,8 +30,3 @@ refusal_of (error.Bad reason) = refusal.Broken reason
 abbrev pub Refuses : {A : Type 0} → ReadError → Result A Fault → Type 0
 Refuses refusal.NoMemory verdict = Unit
 Refuses (refusal.Broken reason) verdict = (e : Fault) × (verdict ≡ Err e) × (reason ≡ reason_of e)
-
--- what is read, as view sees it, is what the verdict gives
-abbrev pub Reads : {X A : Type 0} → (X → A) → Result X ReadError → Result A Fault → Type 0
-Reads view (Ok x) verdict = verdict ≡ Ok (view x)
-Reads view (Err e) verdict = Refuses e verdict

@@ -13,10 +13,13 @@ Fails error.NoMemory verdict = Unit
 Fails error.Short verdict = verdict ≡ Err fault.Short
 Fails (error.Bad reason) verdict = verdict ≡ Err (fault.Bad reason)
 
--- what is read, as view sees it, is what the verdict gives
+-- what is read, as view sees it, is what the verdict gives, and an error says of the verdict what fails says
+abbrev pub GivesOr : {E X A : Type 0} → (E → Result A Fault → Type 0) → (X → A) → Result X E → Result A Fault → Type 0
+GivesOr fails view (Ok x) verdict = verdict ≡ Ok (view x)
+GivesOr fails view (Err e) verdict = fails e verdict
+
 abbrev pub Gives : {X A : Type 0} → (X → A) → Result X WireError → Result A Fault → Type 0
-Gives view (Ok x) verdict = verdict ≡ Ok (view x)
-Gives view (Err e) verdict = Fails e verdict
+Gives view result verdict = GivesOr Fails view result verdict
 
 -- what the slots mean by the three caches of a reader
 abbrev pub tables_of : ReadCaches → Tables
