@@ -9,7 +9,7 @@ use Rattle.message_model.specs.Calls.{Waits}
 use Rattle.message_model.specs.Headers.{Heard}
 use Rattle.message_model.specs.Messages.{Message}
 use Rattle.message_model.specs.ReadingMessages.{message_at}
-use Rattle.message_model.specs.ReadingStreams.{Awaiting, along, BodyFault, left_over, unread, BodyRead, with_first, body_end, body_with, body_at, Ends, IsFinal, IsBody}
+use Rattle.message_model.specs.ReadingStreams.{Awaiting, along, BodyFault, left_over, unread, offset_of, BodyRead, with_first, body_end, body_with, body_at, offset_with, offset_at, Ends, IsFinal, IsBodyRead, BeginsWith}
 use Rattle.message_model.specs.SpellingMessages.{SpellsMessage}
 use Rattle.message_model.specs.Streams.{SpellsBody}
 use Rattle.message_model.proofs.MessageReadingLaws.{message_agrees}
@@ -36,8 +36,8 @@ module _ (reg : List Entity) (sound : IsSound reg) where
 
   -- a message that was read, and the body behind it
   body_behind : (waits : Awaiting) (n : ℕ) (heard between : Heard) (bytes used rest : List ℕ) (m : Message) (read : BodyRead) → bytes ≡ used ++ rest
-      → SpellsMessage reg (waits []) heard m used between → IsBody reg (λ ns. waits (m ∷ ns)) n between rest read
-      → IsBody reg waits (suc n) heard bytes (with_first m (length bytes - length rest) read)
+      → SpellsMessage reg (waits []) heard m used between → IsBodyRead reg (λ ns. waits (m ∷ ns)) n between rest read
+      → IsBodyRead reg waits (suc n) heard bytes (with_first m (length bytes - length rest) read)
   unfolding SpellsBody along
   body_behind waits n heard between bytes used rest m read split spelled is =
       let size : length bytes - length rest ≡ length used = omega (arith, ap length split, length-append used rest) in
@@ -51,15 +51,15 @@ module _ (reg : List Entity) (sound : IsSound reg) where
             (ends_behind waits n (length bytes - length rest) m read.messages read.heard is.rest (length is.front) read.fault is.ends);
       }
 
-  end_is : (waits : Awaiting) (heard : Heard) (bytes : List ℕ) → IsBody reg waits 0 heard bytes (body_end heard bytes)
+  end_is : (waits : Awaiting) (heard : Heard) (bytes : List ℕ) → IsBodyRead reg waits 0 heard bytes (body_end heard bytes)
   unfolding SpellsBody along
   end_is waits heard [] = record { front = []; rest = []; split = refl; spelled = (refl, refl); ends = (refl, refl) }
   end_is waits heard (b ∷ bytes) = record { front = []; rest = b ∷ bytes; split = refl; spelled = (refl, refl); ends = (refl, refl, λ same. cc) }
 
   body_is_with : (n : ℕ) (waits : Awaiting) (heard : Heard) (bytes : List ℕ)
-      → ((m : Message) (between : Heard) (rest : List ℕ) → IsBody reg (λ ms. waits (m ∷ ms)) n between rest (body_at reg (λ ms. waits (m ∷ ms)) n between rest))
+      → ((m : Message) (between : Heard) (rest : List ℕ) → IsBodyRead reg (λ ms. waits (m ∷ ms)) n between rest (body_at reg (λ ms. waits (m ∷ ms)) n between rest))
       → (v : Verdict) → message_at reg (waits []) heard bytes ≡ v
-      → IsBody reg waits (suc n) heard bytes (body_with (λ m. body_at reg (λ ms. waits (m ∷ ms)) n) heard bytes v)
+      → IsBodyRead reg waits (suc n) heard bytes (body_with (λ m. body_at reg (λ ms. waits (m ∷ ms)) n) heard bytes v)
   unfolding SpellsBody along
   body_is_with n waits heard bytes others (Err fault) read =
       record { front = []; rest = bytes; split = refl; spelled = (refl, refl); ends = (refl, omega arith, (fault, read, refl)) }
@@ -68,10 +68,10 @@ module _ (reg : List Entity) (sound : IsSound reg) where
       let m = s.0.0 in
       let between = s.0.1 in
       let behind = body_at reg (λ ms. waits (m ∷ ms)) n between s.2 in
-      subst (λ y. IsBody reg waits (suc n) heard bytes (body_with (λ m. body_at reg (λ ms. waits (m ∷ ms)) n) heard bytes (Ok y))) (sym s.3)
+      subst (λ y. IsBodyRead reg waits (suc n) heard bytes (body_with (λ m. body_at reg (λ ms. waits (m ∷ ms)) n) heard bytes (Ok y))) (sym s.3)
       (body_behind waits n heard between bytes s.1 s.2 m behind s.4 s.5 (others m between s.2))
 
-  pub body_is : (count : ℕ) (waits : Awaiting) (heard : Heard) (bytes : List ℕ) → IsBody reg waits count heard bytes (body_at reg waits count heard bytes)
+  pub body_is : (count : ℕ) (waits : Awaiting) (heard : Heard) (bytes : List ℕ) → IsBodyRead reg waits count heard bytes (body_at reg waits count heard bytes)
   unfolding body_at
   body_is zero waits heard bytes = end_is waits heard bytes
   body_is (suc n) waits heard bytes =
@@ -155,9 +155,9 @@ module _ (reg : List Entity) (sound : IsSound reg) where
   -- ---- the law
 
   pub body_reads : (waits : Awaiting) (count : ℕ) (heard : Heard) (bytes : List ℕ) (read : BodyRead)
-      → (body_at reg waits count heard bytes ≡ read) ↔ IsBody reg waits count heard bytes read
+      → (body_at reg waits count heard bytes ≡ read) ↔ IsBodyRead reg waits count heard bytes read
   body_reads waits count heard bytes read = (
-    λ same. subst (IsBody reg waits count heard bytes) same (body_is count waits heard bytes),
+    λ same. subst (IsBodyRead reg waits count heard bytes) same (body_is count waits heard bytes),
     λ is.
         ap (body_at reg waits count heard) is.split
         ∙ spelled_read read.messages count waits heard read.heard is.front is.rest read.fault is.spelled is.ends,
@@ -205,3 +205,72 @@ module _ (reg : List Entity) (sound : IsSound reg) where
         spelled = is.spelled;
         ends = subst (Ends reg waits count read.messages read.heard (is.rest ++ more) (length is.front)) (sym has) stays;
       })
+
+  -- ---- the offsets of messages
+
+  pub offset_is : (ms : List Message) (waits : Awaiting) (heard t : Heard) (front rest : List ℕ) → SpellsBody reg (along waits ms) front heard ms t
+      → offset_at reg waits (length ms) heard (front ++ rest) ≡ length front
+  unfolding SpellsBody along offset_at
+  offset_is [] waits heard t front rest spelled = sym (ap length spelled.0)
+  offset_is (m ∷ ms) waits heard t front rest (used, behind, between, split, spelled, others) =
+      let whole : front ++ rest ≡ used ++ (behind ++ rest) = ap (λ z. z ++ rest) split ∙ append_assoc used behind rest in
+      let read : message_at reg (waits []) heard (front ++ rest) ≡ Ok (m, between, behind ++ rest)
+      = ap (message_at reg (waits []) heard) whole ∙ message_read (waits []) heard between m used (behind ++ rest) spelled in
+      let inner = offset_is ms (λ ns. waits (m ∷ ns)) between t behind rest others in
+      ap (offset_with (λ m. offset_at reg (λ ms. waits (m ∷ ms)) (length ms)) (front ++ rest)) read
+      ∙ omega (arith, inner, ap length whole, length-append used (behind ++ rest), ap length split, length-append used behind)
+
+  -- the bytes of messages are those of the first ones and those of the others
+  pub record Parted (waits : Awaiting) (heard t : Heard) (body : List ℕ) (ms ns : List Message) : Type 0 where
+    pub front : List ℕ
+    pub behind : List ℕ
+    pub between : Heard
+    pub split : body ≡ front ++ behind
+    pub first : SpellsBody reg (along waits ms) front heard ms between
+    pub others : SpellsBody reg (along (λ os. waits (ms ++ os)) ns) behind between ns t
+
+  body_parted : (ms ns : List Message) (waits : Awaiting) (heard t : Heard) (body : List ℕ) → SpellsBody reg (along waits (ms ++ ns)) body heard (ms ++ ns) t
+      → Parted waits heard t body ms ns
+  unfolding SpellsBody along
+  body_parted [] ns waits heard t body spelled = record { front = []; behind = body; between = heard; split = refl; first = (refl, refl); others = spelled }
+  body_parted (m ∷ ms) ns waits heard t body (used, rest, between, split, spelled, others) =
+      let p = body_parted ms ns (λ os. waits (m ∷ os)) between t rest others in
+      record {
+        front = used ++ p.front;
+        behind = p.behind;
+        between = p.between;
+        split = split ∙ ap (λ z. used ++ z) p.split ∙ sym (append_assoc used p.front p.behind);
+        first = (used, p.front, between, refl, spelled, p.first);
+        others = p.others;
+      }
+
+  pub begins_with : (waits : Awaiting) (count : ℕ) (heard : Heard) (body : List ℕ) (ms ns : List Message) → (body_at reg waits count heard body).messages ≡ ms ++ ns
+      → BeginsWith reg waits heard body ms
+  begins_with waits count heard body ms ns same =
+      let read = body_at reg waits count heard body in
+      let is = body_is count waits heard body in
+      let p = body_parted ms ns waits heard read.heard is.front (subst (λ os. SpellsBody reg (along waits os) is.front heard os read.heard) same is.spelled) in
+      let whole : body ≡ p.front ++ (p.behind ++ is.rest) = is.split ∙ ap (λ z. z ++ is.rest) p.split ∙ append_assoc p.front p.behind is.rest in
+      record {
+        front = p.front;
+        rest = p.behind ++ is.rest;
+        between = p.between;
+        split = whole;
+        spelled = p.first;
+        offset = ap (offset_at reg waits (length ms) heard) whole ∙ offset_is ms waits heard p.between p.front (p.behind ++ is.rest) p.first;
+      }
+
+  -- a fault begins behind the messages that are read
+  fault_at : (waits : Awaiting) (count : ℕ) (ms : List Message) (t : Heard) (rest : List ℕ) (offset : ℕ) (fault : BodyFault)
+      → Ends reg waits count ms t rest offset (Some fault) → offset_of fault ≡ offset
+  fault_at waits count ms t rest offset (left_over at) ends = ends.0
+  fault_at waits count ms t rest offset (unread reason at) ends = ends.0
+
+  pub fault_behind : (waits : Awaiting) (count : ℕ) (heard : Heard) (body : List ℕ) (fault : BodyFault) → (body_at reg waits count heard body).fault ≡ Some fault
+      → offset_of fault ≡ offset_at reg waits (length (body_at reg waits count heard body).messages) heard body
+  fault_behind waits count heard body fault has =
+      let read = body_at reg waits count heard body in
+      let is = body_is count waits heard body in
+      let ends = subst (Ends reg waits count read.messages read.heard is.rest (length is.front)) has is.ends in
+      fault_at waits count read.messages read.heard is.rest (length is.front) fault ends
+      ∙ sym (ap (offset_at reg waits (length read.messages) heard) is.split ∙ offset_is read.messages waits heard read.heard is.front is.rest is.spelled)

@@ -23,3 +23,4 @@ mod BodyRows
 pub mod AnnouncedMessageLaws
 pub mod SavingLaws
 pub mod SameMessageAnnouncements
+pub mod BodyFittingLaws

@@ -33,7 +33,7 @@ short_bounded function = by_test (nat_lt function 64)
     by_test true = omega arith
     by_test false = omega arith
 
-pub opening_bounded : (h : Heading) (last : Last) → length (opening_spelling h last) ≤ 4
+opening_bounded : (h : Heading) (last : Last) → length (opening_spelling h last) ≤ 4
 unfolding opening_spelling
 opening_bounded h last = by_test (is_long h last)
   where

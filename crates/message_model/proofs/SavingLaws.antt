@@ -1,7 +1,8 @@
 -- A message is written in as many bytes as it weighs, less what its header and the names that are held save.
-use Rattle.std.proofs.Common.{◌≡◌, ℕ, ◌+◌, Bool, true, false, List, [], ◌∷◌, ◌++◌, length, refl, sym, ap, ◌∙◌, if◌then◌else◌, arith}
+use Rattle.std.proofs.Common.{◌≡◌, ℕ, ◌+◌, nat_lt, not, Bool, true, false, List, [], ◌∷◌, ◌++◌, length, refl, sym, ap, ◌∙◌, if◌then◌else◌, arith}
 use Rattle.std.proofs.lemmas.List.{length-append}
 use Rattle.std.proofs.lemmas.Bool.{lt-ltb}
+use Rattle.std.specs.Int.{w16, to_be_bytes, from_bool}
 use Rattle.uno_model.specs.Entities.{Entity}
 use Rattle.uno_model.specs.Kinds.{Kind, name_of}
 use Rattle.uno_model.specs.Kinds as kd
@@ -19,11 +20,10 @@ use Rattle.urp_model.proofs.WeightLaws.{compressed_some, compressed_long, measur
 use Rattle.message_model.specs.Headers.{Last}
 use Rattle.message_model.specs.Messages.{Answer, returned, raised, Message, request, release, reply}
 use Rattle.message_model.specs.Said.{kind_use, ref_use, type_uses, types_used, oid_uses, oids_used, answer_values, name_use, request_uses, message_uses}
-use Rattle.message_model.specs.Savings.{held_on, saved_by, type_saving, name_saving, uses_saved, AreNewUses, left_out, heading_saved, header_saved, IsLongest, HasLongestHeader, message_saved, IsAllNew}
+use Rattle.message_model.specs.Savings.{held_on, saved_by, type_saving, name_saving, uses_saved, AreNewUses, left_out, opening_saved, heading_saved, header_saved, IsLongest, HasLongestHeader, message_saved, IsAllNew}
 use Rattle.message_model.specs.Sayable.{name_weight, answer_weight, message_weight}
-use Rattle.message_model.specs.WritingMessages.{Spoken, is_new, is_new_face, if_new, held_if_new, Heading, opening_spelling, target_spelling}
+use Rattle.message_model.specs.WritingMessages.{Spoken, is_new, is_new_face, if_new, held_if_new, Heading, is_long, long_flags, function_bytes, short_bytes, opening_spelling, target_spelling}
 use Rattle.message_model.specs.WritingMessages.{after_target, request_spelling, answer_spelling, after_thread, reply_spelling, call_heading, release_heading, message_spelling}
-use Rattle.message_model.proofs.MessageWeightLaws.{opening_bounded}
 
 -- ---- uses
 
@@ -175,6 +175,36 @@ mutual
 
 -- ---- headers
 
+-- how a request begins: in four bytes, less those that it has not
+function_saves : (function : ℕ) → length (function_bytes function) + from_bool (not (nat_lt 255 function)) ≡ 2
+function_saves function = by_test (nat_lt 255 function)
+  where
+    by_test : (t : Bool) → length (if t then to_be_bytes w16 function else function ∷ []) + from_bool (not t) ≡ 2
+    by_test true = refl
+    by_test false = refl
+
+short_saves : (function : ℕ) → length (short_bytes function) + (if nat_lt function 64 then 3 else 2) ≡ 4
+short_saves function = by_test (nat_lt function 64)
+  where
+    by_test : (t : Bool) → length (if t then function ∷ [] else to_be_bytes w16 (16384 + function)) + (if t then 3 else 2) ≡ 4
+    by_test true = refl
+    by_test false = refl
+
+answered_saves : (answered : Bool) → length (if_new answered (192 ∷ [])) + from_bool (not answered) ≡ 1
+answered_saves true = refl
+answered_saves false = refl
+
+opening_saves : (h : Heading) (last : Last) → length (opening_spelling h last) + opening_saved h last ≡ 4
+unfolding opening_spelling opening_saved
+opening_saves h last = by_test (is_long h last)
+  where
+    by_test : (t : Bool)
+        → length (if t then long_flags h last ∷ (if_new h.answered (192 ∷ []) ++ function_bytes h.function) else short_bytes h.function)
+        + (if t then from_bool (not h.answered) + from_bool (not (nat_lt 255 h.function)) else (if nat_lt h.function 64 then 3 else 2)) ≡ 4
+    by_test true =
+        omega (arith, length-append (if_new h.answered (192 ∷ [])) (function_bytes h.function), answered_saves h.answered, function_saves h.function)
+    by_test false = short_saves h.function
+
 -- a name in a header, which is written where it is new
 header_name_saves : (new : Bool) (name : List ℕ) (held : Names)
     → length (if_new new (name_spelling name held)) + (left_out new (name_weight name) + saved_by name_saving (name_use new name) held) ≡ name_weight name
@@ -211,7 +241,7 @@ request_saves h args spoken =
     let values = spellings (plains args) held in
     omega (
       arith,
-      opening_bounded h spoken.last,
+      opening_saves h spoken.last,
       length-append (opening_spelling h spoken.last) (target_spelling h spoken ++ values),
       length-append (target_spelling h spoken) values,
       length-append face (oid ++ tid),
@@ -252,8 +282,8 @@ message_saves reg (reply tid face function answer) spoken = reply_saves tid answ
 
 -- ---- where nothing is saved
 
-longest_opening : (h : Heading) (last : Last) → IsLongest h last → length (opening_spelling h last) ≡ 4
-unfolding opening_spelling
+longest_opening : (h : Heading) (last : Last) → IsLongest h last → opening_saved h last ≡ 0
+unfolding opening_saved
 longest_opening h last is = rw (is.face, is.answered, lt-ltb 255 h.function is.wide) refl
 
 longest_heading : (h : Heading) (last : Last) → IsLongest h last → heading_saved h last ≡ 0

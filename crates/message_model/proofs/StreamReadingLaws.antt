@@ -10,8 +10,8 @@ use Rattle.urp_model.proofs.BlockLaws.{spell_block-front, length-spell_block}
 use Rattle.urp_model.proofs.PlacedBlockLaws.{spell_blocks-cons, spell_blocks-nil, ArePlacedFrom, first_placed, others_placed, from_start}
 use Rattle.message_model.specs.Headers.{Heard}
 use Rattle.message_model.specs.Messages.{Message}
-use Rattle.message_model.specs.ReadingStreams.{Awaiting, along, along_blocks, joined, BodyFault, BodyRead, body_at, IsBody}
-use Rattle.message_model.specs.ReadingStreams.{StreamFault, placed, StreamRead, with_block, stream_with, stream_of, stream_at, IsStreamOf, IsStream}
+use Rattle.message_model.specs.ReadingStreams.{Awaiting, along, along_blocks, joined, BodyFault, BodyRead, body_at, IsBodyRead}
+use Rattle.message_model.specs.ReadingStreams.{StreamFault, placed, StreamRead, with_block, stream_with, stream_of, stream_at, IsReadUpTo, IsStreamRead}
 use Rattle.message_model.specs.Streams.{SpellsBody, IsStreamBlock, SpellsStream}
 use Rattle.message_model.proofs.BodyReadingLaws.{body_is, body_reads, whole_read, whole_reads}
 
@@ -70,7 +70,7 @@ module _ (reg : List Entity) (sound : IsSound reg) where
 
   stream_behind : (from : ℕ) (b : PlacedBlock) (blocks : List PlacedBlock) (waits : Awaiting) (heard between : Heard) (ms : List Message) (others : StreamRead) (fault : Option StreamFault)
       → IsBlockAt from b → length ms ≡ b.count → SpellsBody reg (along waits ms) b.body heard ms between
-      → IsStreamOf reg (λ ns. waits (ms ++ ns)) between blocks others fault → IsStreamOf reg waits heard (b ∷ blocks) (with_block ms others) fault
+      → IsReadUpTo reg (λ ns. waits (ms ++ ns)) between blocks others fault → IsReadUpTo reg waits heard (b ∷ blocks) (with_block ms others) fault
   unfolding joined
   stream_behind from b blocks waits heard between ms others None at count spelled is = record {
     messages = ms ∷ is.messages;
@@ -88,16 +88,16 @@ module _ (reg : List Entity) (sound : IsSound reg) where
     splits = ap (λ bs. b ∷ bs) is.splits;
     joins = ap (λ ns. ms ++ ns) is.joins ∙ sym (append_assoc ms (joined is.messages) is.last);
     spelled = whole_behind from b is.before waits heard between is.between ms is.messages at count spelled is.spelled;
-    breaks = subst (λ w. IsBody reg w is.broken.count is.between is.broken.body (record { messages = is.last; heard = others.heard; fault = Some is.within }))
+    breaks = subst (λ w. IsBodyRead reg w is.broken.count is.between is.broken.body (record { messages = is.last; heard = others.heard; fault = Some is.within }))
         (waits_behind waits ms (joined is.messages)) is.breaks;
     at = is.at;
   }
 
   -- a block, and what is read behind it
   stream_is_with : (from : ℕ) (b : PlacedBlock) (blocks : List PlacedBlock) (waits : Awaiting) (heard : Heard) (others : List Message → Heard → StreamRead) (read : BodyRead)
-      (fault : Option BodyFault) → IsBlockAt from b → IsBody reg waits b.count heard b.body (record { messages = read.messages; heard = read.heard; fault = fault })
-      → ((ms : List Message) (between : Heard) → IsStream reg (λ ns. waits (ms ++ ns)) between blocks (others ms between))
-      → IsStream reg waits heard (b ∷ blocks) (stream_with others b.place read.messages read.heard fault)
+      (fault : Option BodyFault) → IsBlockAt from b → IsBodyRead reg waits b.count heard b.body (record { messages = read.messages; heard = read.heard; fault = fault })
+      → ((ms : List Message) (between : Heard) → IsStreamRead reg (λ ns. waits (ms ++ ns)) between blocks (others ms between))
+      → IsStreamRead reg waits heard (b ∷ blocks) (stream_with others b.place read.messages read.heard fault)
   unfolding SpellsStream along_blocks joined
   stream_is_with from b blocks waits heard others read None at is each =
       let whole = (whole_reads reg sound waits b.count heard read.heard b.body read.messages).0 ((body_reads reg sound waits b.count heard b.body (whole_read reg sound read.messages read.heard)).1 is) in
@@ -119,7 +119,7 @@ module _ (reg : List Entity) (sound : IsSound reg) where
   }
 
   pub stream_is : (from : ℕ) (blocks : List PlacedBlock) (waits : Awaiting) (heard : Heard) → ArePlacedFrom from blocks
-      → IsStream reg waits heard blocks (stream_at reg waits heard blocks)
+      → IsStreamRead reg waits heard blocks (stream_at reg waits heard blocks)
   unfolding stream_at SpellsStream along_blocks joined
   stream_is from [] waits heard are = record { messages = []; joins = refl; spelled = (spell_blocks-nil, refl) }
   stream_is from (b ∷ blocks) waits heard are =
@@ -194,7 +194,7 @@ module _ (reg : List Entity) (sound : IsSound reg) where
       more ns others = record { messages = ns; heard = others.heard; fault = others.fault }
 
   pub is_read : (from : ℕ) (blocks : List PlacedBlock) (waits : Awaiting) (heard : Heard) (read : StreamRead) (fault : Option StreamFault) → ArePlacedFrom from blocks → read.fault ≡ fault
-      → IsStreamOf reg waits heard blocks read fault → stream_at reg waits heard blocks ≡ read
+      → IsReadUpTo reg waits heard blocks read fault → stream_at reg waits heard blocks ≡ read
   unfolding stream_at
   is_read from blocks waits heard read None are has is =
       let all = subst (ArePlacedFrom from) (sym (append-nil blocks)) are in
@@ -219,10 +219,10 @@ module _ (reg : List Entity) (sound : IsSound reg) where
   -- ---- the laws
 
   pub stream_reads : (s rest : List ℕ) (blocks : List PlacedBlock) (waits : Awaiting) (heard : Heard) (read : StreamRead) → AreBlocksAnd s blocks rest
-      → (stream_at reg waits heard blocks ≡ read) ↔ IsStream reg waits heard blocks read
+      → (stream_at reg waits heard blocks ≡ read) ↔ IsStreamRead reg waits heard blocks read
   stream_reads s rest blocks waits heard read are =
       let from = from_start s blocks rest are in (
-        λ same. subst (IsStream reg waits heard blocks) same (stream_is 0 blocks waits heard from),
+        λ same. subst (IsStreamRead reg waits heard blocks) same (stream_is 0 blocks waits heard from),
         λ is. is_read 0 blocks waits heard read read.fault from refl is,
       )
 

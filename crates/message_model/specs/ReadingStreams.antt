@@ -42,6 +42,11 @@ pub data BodyFault : Type 0 where
   left_over : ℕ → BodyFault
   unread : Reason → ℕ → BodyFault
 
+-- where a fault begins
+abbrev pub offset_of : BodyFault → ℕ
+offset_of (left_over offset) = offset
+offset_of (unread reason offset) = offset
+
 -- the messages that are read, what is remembered after them, and the fault that stands behind them, if there is one
 pub record BodyRead : Type 0 where
   pub messages : List Message
@@ -77,6 +82,15 @@ unfoldable pub body_at : List Entity → Awaiting → ℕ → Heard → List ℕ
 body_at reg waits zero heard bytes = body_end heard bytes
 body_at reg waits (suc n) heard bytes = body_with (λ m. body_at reg (λ ms. waits (m ∷ ms)) n) heard bytes (message_at reg (waits []) heard bytes)
 
+-- the offset of the message that stands behind the first n ones: how many bytes these have
+abbrev pub offset_with : (Message → Heard → List ℕ → ℕ) → List ℕ → Result (Message × Heard × List ℕ) Fault → ℕ
+offset_with others bytes (Err fault) = 0
+offset_with others bytes (Ok x) = (length bytes - length x.2) + others x.0 x.1 x.2
+
+unfoldable pub offset_at : List Entity → Awaiting → ℕ → Heard → List ℕ → ℕ
+offset_at reg waits zero heard bytes = 0
+offset_at reg waits (suc n) heard bytes = offset_with (λ m. offset_at reg (λ ms. waits (m ∷ ms)) n) bytes (message_at reg (waits []) heard bytes)
+
 -- ---- what a body is
 
 -- what stands behind the messages of a body: nothing, and they are all; bytes, though they are all; or the next one, which is not read
@@ -92,12 +106,21 @@ IsFinal (left_over offset) = Unit
 IsFinal (unread reason offset) = reason ≢ ShortMessage
 
 -- a body of so many messages has these at its front, and behind them what is said
-pub record IsBody (reg : List Entity) (waits : Awaiting) (count : ℕ) (heard : Heard) (body : List ℕ) (read : BodyRead) : Type 0 where
+pub record IsBodyRead (reg : List Entity) (waits : Awaiting) (count : ℕ) (heard : Heard) (body : List ℕ) (read : BodyRead) : Type 0 where
   pub front : List ℕ
   pub rest : List ℕ
   pub split : body ≡ front ++ rest
   pub spelled : SpellsBody reg (along waits read.messages) front heard read.messages read.heard
   pub ends : Ends reg waits count read.messages read.heard rest (length front) read.fault
+
+-- these messages stand at the front of a body, and what stands behind them begins at their offset
+pub record BeginsWith (reg : List Entity) (waits : Awaiting) (heard : Heard) (body : List ℕ) (ms : List Message) : Type 0 where
+  pub front : List ℕ
+  pub rest : List ℕ
+  pub between : Heard
+  pub split : body ≡ front ++ rest
+  pub spelled : SpellsBody reg (along waits ms) front heard ms between
+  pub offset : offset_at reg waits (length ms) heard body ≡ length front
 
 -- ---- a stream
 
@@ -156,13 +179,13 @@ pub record IsBrokenStream (reg : List Entity) (waits : Awaiting) (heard : Heard)
   pub splits : blocks ≡ before ++ broken ∷ after
   pub joins : read.messages ≡ joined messages ++ last
   pub spelled : SpellsStream reg (along_blocks waits messages) (spell_blocks before) heard messages between
-  pub breaks : IsBody reg (λ ms. waits (joined messages ++ ms)) broken.count between broken.body (record { messages = last; heard = read.heard; fault = Some within })
+  pub breaks : IsBodyRead reg (λ ms. waits (joined messages ++ ms)) broken.count between broken.body (record { messages = last; heard = read.heard; fault = Some within })
   pub at : fault ≡ placed broken.place within
 
 -- blocks are these messages, up to the first fault
-abbrev pub IsStreamOf : List Entity → Awaiting → Heard → List PlacedBlock → StreamRead → Option StreamFault → Type 0
-IsStreamOf reg waits heard blocks read None = IsWholeStream reg waits heard blocks read
-IsStreamOf reg waits heard blocks read (Some fault) = IsBrokenStream reg waits heard blocks read fault
+abbrev pub IsReadUpTo : List Entity → Awaiting → Heard → List PlacedBlock → StreamRead → Option StreamFault → Type 0
+IsReadUpTo reg waits heard blocks read None = IsWholeStream reg waits heard blocks read
+IsReadUpTo reg waits heard blocks read (Some fault) = IsBrokenStream reg waits heard blocks read fault
 
-abbrev pub IsStream : List Entity → Awaiting → Heard → List PlacedBlock → StreamRead → Type 0
-IsStream reg waits heard blocks read = IsStreamOf reg waits heard blocks read read.fault
+abbrev pub IsStreamRead : List Entity → Awaiting → Heard → List PlacedBlock → StreamRead → Type 0
+IsStreamRead reg waits heard blocks read = IsReadUpTo reg waits heard blocks read read.fault

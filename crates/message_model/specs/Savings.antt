@@ -1,5 +1,6 @@
 -- What a sender's spelling saves against the weight: names that are held where they are used, parts of headers that are left out, and short headers.
-use Rattle.std.specs.Prelude.{◌≡◌, ℕ, ◌+◌, ◌-◌, ◌<◌, Bool, true, false, List, [], ◌∷◌, length, if◌then◌else◌}
+use Rattle.std.specs.Prelude.{◌≡◌, ℕ, ◌+◌, ◌-◌, ◌<◌, nat_lt, not, Bool, true, false, List, [], ◌∷◌, if◌then◌else◌}
+use Rattle.std.specs.Int.{from_bool}
 use Rattle.uno_model.specs.Entities.{Entity}
 use Rattle.uno_model.specs.Kinds as kd
 use Rattle.uno_model.specs.Weights.{text_weight, kind_weight}
@@ -9,7 +10,7 @@ use Rattle.message_model.specs.Headers.{Last}
 use Rattle.message_model.specs.Messages.{Message, request, release, reply}
 use Rattle.message_model.specs.Said.{Uses, message_uses}
 use Rattle.message_model.specs.Sayable.{name_weight}
-use Rattle.message_model.specs.WritingMessages.{Spoken, is_new, is_new_face, Heading, opening_spelling, call_heading, release_heading}
+use Rattle.message_model.specs.WritingMessages.{Spoken, is_new, is_new_face, Heading, is_long, call_heading, release_heading}
 
 -- ---- names
 
@@ -45,10 +46,15 @@ abbrev pub left_out : Bool → ℕ → ℕ
 left_out true weight = 0
 left_out false weight = weight
 
--- the header of a request: of the four bytes that its beginning has at most those that it has not, and the parts that are left out
+-- of the four bytes that the beginning of a request has at most, a long header saves one where no answer comes to a one-way call, and one where its function is
+-- below 256; a short one saves three, or two where its function is above 63
+unfoldable pub opening_saved : Heading → Last → ℕ
+opening_saved h last = if is_long h last then from_bool (not h.answered) + from_bool (not (nat_lt 255 h.function)) else (if nat_lt h.function 64 then 3 else 2)
+
+-- the header of a request saves that, and the parts that are left out
 abbrev pub heading_saved : Heading → Last → ℕ
 heading_saved h last =
-    (4 - length (opening_spelling h last))
+    opening_saved h last
     + (left_out (is_new_face h.face last.kind) (kind_weight (kd.interface h.face)) + (left_out (is_new h.oid last.oid) (name_weight h.oid) + left_out (is_new h.tid last.tid) (name_weight h.tid)))
 
 abbrev pub header_saved : List Entity → Message → Last → ℕ

@@ -18,11 +18,12 @@ pub use reading_laws::{
     a_front_of_a_message_is_short, a_message_that_is_read_fits,
     a_message_that_is_read_is_spellable, messages_are_read_as_they_are_spelled,
     no_message_begins_with_what_is_broken, one_message_stands_at_the_front,
+    the_messages_of_a_body_fit,
 };
 pub use refusal_laws::{
-    bodies_are_read_as_they_are_spelled, later_bytes_mend_no_fault,
-    more_bytes_in_a_body_mend_no_fault, streams_are_read_as_they_are_spelled,
-    what_was_said_stands_as_blocks,
+    bodies_are_read_as_they_are_spelled, each_message_stands_behind_those_before_it,
+    later_bytes_mend_no_fault, more_bytes_in_a_body_mend_no_fault,
+    streams_are_read_as_they_are_spelled, what_was_said_stands_as_blocks,
 };
 pub use said_laws::{
     a_prefix_of_what_was_said_stays_one, what_is_held_is_what_all_uses_leave,

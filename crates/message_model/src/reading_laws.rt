@@ -1,5 +1,6 @@
 //! Laws of the reading of messages: each function has an empty body, and its clause is the law.
 ghost use Rattle.std.specs.Prelude.{◌≡◌, ◌≢◌, ℕ, List, [], ◌++◌, Err};
+ghost use Rattle.std.specs.List.{AllByRecursion};
 ghost use Rattle.message_model.specs.Arriving.{IsHeard, MessageFits, HearsTexts, HasSmallFunction, AwaitSmallFunctions};
 ghost use Rattle.message_model.specs.Calls.{Waits};
 ghost use Rattle.message_model.specs.Headers.{Heard, nothing_heard};
@@ -7,6 +8,7 @@ ghost use Rattle.message_model.specs.Messages.{Message};
 ghost use Rattle.message_model.specs.ReadingMessages.{message_at};
 ghost use Rattle.message_model.specs.Sayable.{MessageSpellable};
 ghost use Rattle.message_model.specs.SpellingMessages.{SpellsMessage};
+ghost use Rattle.message_model.specs.Streams.{SpellsBody};
 ghost use Rattle.uno_model.specs.Entities.{Entity};
 ghost use Rattle.uno_model.specs.Sound.{IsSound};
 ghost use Rattle.urp_model.specs.Agreement.{Agrees, triple};
@@ -53,4 +55,14 @@ pub fn a_message_that_is_read_is_spellable()
         → SpellsMessage reg waits heard m b t → MessageSpellable m × HearsTexts t }
     ensures small { (reg : List Entity) (waits : Waits) (heard t : Heard) (m : Message) (b : List ℕ) → AreBytes b → AwaitSmallFunctions waits
         → SpellsMessage reg waits heard m b t → HasSmallFunction m }
+{}
+
+/// Each message of a body that is read fits and can be written again, and what is remembered after the body goes on to mean what it should.
+pub fn the_messages_of_a_body_fit()
+    ensures fits { (reg : List Entity) (ws : List Waits) (body : List ℕ) (heard t : Heard) (ms : List Message) → IsSound reg → IsHeard reg heard
+        → SpellsBody reg ws body heard ms t → AllByRecursion (MessageFits reg) ms × IsHeard reg t }
+    ensures spellable { (reg : List Entity) (ws : List Waits) (body : List ℕ) (heard t : Heard) (ms : List Message) → AreBytes body → HearsTexts heard
+        → SpellsBody reg ws body heard ms t → AllByRecursion MessageSpellable ms × HearsTexts t }
+    ensures small { (reg : List Entity) (ws : List Waits) (body : List ℕ) (heard t : Heard) (ms : List Message) → AreBytes body
+        → AllByRecursion AwaitSmallFunctions ws → SpellsBody reg ws body heard ms t → AllByRecursion HasSmallFunction ms }
 {}

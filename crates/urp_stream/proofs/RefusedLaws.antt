@@ -6,8 +6,9 @@ use Rattle.std.proofs.lemmas.List.{length-take}
 use Rattle.urp_model.specs.PlacedBlocks.{PlacedBlock, AreBlocksAnd}
 use Rattle.urp_stream.specs.Headers.{HasNoBadHeader}
 use Rattle.urp_stream.specs.Standing.{StandsAs, BeginsBad, IsRefusedAt}
+use Rattle.urp_stream.specs.Streams.{Stream, AreParts}
 use Rattle.urp_stream.proofs.CutLaws.{not_bad, bad_stays}
-use Rattle.urp_stream.proofs.FeedLaws.{whole_is}
+use Rattle.urp_stream.proofs.FeedLaws.{whole_is, parts_stream}
 use Rattle.urp_stream.proofs.HeaderLaws.{said_apart, none_apart}
 
 -- eight bytes are there where a header is bad
@@ -48,6 +49,12 @@ refused_whole held piece n is =
     let parts : (held ++ take n piece) ++ drop n piece ≡ held ++ piece
     = append_assoc held (take n piece) (drop n piece) ∙ ap (λ z. held ++ z) (take-append-drop n piece) in
     subst BeginsBad parts (bad_stays (held ++ take n piece) (drop n piece) is.bad)
+
+-- so it is where a stream is parts that are such
+pub fed_refused_at : {old : Stream} {header body : List ℕ} (place : ℕ) (piece : List ℕ) → record { place = place; held = header ++ body } ≡ old → AreParts place header body
+    → BeginsBad (old.held ++ piece) → IsRefusedAt old.held piece (8 - length old.held)
+fed_refused_at {old} {header} {body} place piece view parts bad =
+    refused_at old.held piece (subst (λ (s : Stream). HasNoBadHeader s.held) view (parts_stream place header body parts).header) bad
 
 -- blocks with nothing behind them stand as they are
 pub alone_stand : (s : List ℕ) (blocks : List PlacedBlock) → AreBlocksAnd s blocks [] → StandsAs s blocks []

@@ -2,6 +2,7 @@
 ghost use Rattle.std.specs.Prelude.{◌≡◌, ℕ, ◌+◌, ◌-◌, ◌^◌, ◌<◌, ◌↔◌, ◌++◌, length, take, drop, IsTrue, IsSome, IfNone, IfSome, IfOk, OnErr, Err};
 ghost use Rattle.urp_model.specs.Blocks.{BeginsWhole};
 ghost use Rattle.urp_stream.specs.Headers.{SaysTooLarge, SaysNoMessages};
+ghost use Rattle.urp_stream.specs.Standing.{BeginsBad, IsRefusedAt};
 ghost use Rattle.urp_stream.specs.Streams.{nothing_yet, IsStream};
 ghost use Rattle.urp_stream.specs.Calls.{Took, Gave};
 
@@ -55,6 +56,8 @@ impl Blocks {
             → (result ≡ Err (StreamError.TooLarge size)) ↔ SaysTooLarge (self.old.held ++ piece.now) size }
         ensures no_messages { (result ≡ Err StreamError.NoMessages) ↔ SaysNoMessages (self.old.held ++ piece.now) }
         ensures refused { OnErr result (self.new ≡ self.old) }
+        ensures refused_at { BeginsBad (self.old.held ++ piece.now)
+            → IsRefusedAt self.old.held piece.now (8 - length self.old.held) }
     {
         let (front, behind) = parted(piece, HEADER_SIZE - self.header.len());
         let header = self.header.followed_by(front);

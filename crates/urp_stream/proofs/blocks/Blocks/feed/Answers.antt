@@ -5,6 +5,7 @@ use Rattle.urp_stream.specs.declared.error.StreamError.{StreamError}
 use Rattle.urp_stream.specs.declared.error.StreamError.TheVariants.{NoMemory, TooLarge, NoMessages}
 use Rattle.urp_stream.proofs.FeedLaws.{fed_too_large, fed_no_messages, fed_took, fed_good}
 use Rattle.urp_stream.proofs.HeaderLaws.{none_too_large, some_messages}
+use Rattle.urp_stream.proofs.RefusedLaws.{fed_refused_at}
 use Rattle.urp_stream.proofs.blocks.Blocks.feed.Goals as goal
 use Rattle.urp_stream.proofs.blocks.Blocks.feed.Goals.{After-parted-2}
 
@@ -61,3 +62,12 @@ returns-clause-too_large c size = number_large _ _ size (good (goal.at.returns-c
 
 pub returns-clause-no_messages : goal.returns-clause-no_messages
 returns-clause-no_messages c = number_none _ _ (good (goal.at.returns-clause-no_messages c).After-parted-2)
+
+pub returns-in_err-size-clause-refused_at : goal.returns-in_err-size-clause-refused_at
+returns-in_err-size-clause-refused_at c = fed_refused_at c.self.inside.place c.args.piece.now c.self.view_is c.self.invariant
+
+pub returns-in_err-extend_from_slice-clause-refused_at : goal.returns-in_err-extend_from_slice-clause-refused_at
+returns-in_err-extend_from_slice-clause-refused_at c = fed_refused_at c.self.inside.place c.args.piece.now c.self.view_is c.self.invariant
+
+pub returns-clause-refused_at : goal.returns-clause-refused_at
+returns-clause-refused_at c = fed_refused_at c.self.inside.place c.args.piece.now c.self.view_is c.self.invariant
