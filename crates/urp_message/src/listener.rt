@@ -5,9 +5,10 @@ ghost use Rattle.message_model.specs.Messages.{Message as Said};
 ghost use Rattle.message_model.specs.ReadingMessages.{message_at};
 ghost use Rattle.message_model.specs.SpellingMessages.{SpellsMessage};
 ghost use Rattle.uno_model.specs.Sound.{IsSound};
-ghost use Rattle.urp_message.specs.Listening.{Reads, refusal_of};
+ghost use Rattle.urp_message.specs.Listening.{Refuses, refusal_of};
 ghost use Rattle.urp_message.specs.Messages.{message_of, heard_of};
 ghost use Rattle.urp_message.specs.declared.error.ReadError.{ReadError};
+ghost use Rattle.urp_wire.specs.Gives.{GivesOr};
 
 mod message;
 mod opening;
@@ -77,7 +78,7 @@ impl Listener {
         expect: &E,
     ) -> Result<(Message, usize), ReadError>
         requires { IsSound registry.now }
-        ensures gives { self.old.refusal ≡ None → Reads (λ x. (message_of x.0, self.new.heard, drop x.1 body.now)) result (message_at registry.now (E.calls expect.now) self.old.heard body.now) }
+        ensures gives { self.old.refusal ≡ None → GivesOr Refuses (λ x. (message_of x.0, self.new.heard, drop x.1 body.now)) result (message_at registry.now (E.calls expect.now) self.old.heard body.now) }
         ensures found { self.old.refusal ≡ None → IfOk result (λ x. (x.1 ≤ length body.now)
             × SpellsMessage registry.now (E.calls expect.now) self.old.heard (message_of x.0) (take x.1 body.now) self.new.heard) }
         ensures only { self.old.refusal ≡ None → (m : Said) (used rest : List ℕ) (after : Remembered)
