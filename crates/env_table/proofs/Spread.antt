@@ -37,13 +37,13 @@ module _ (eq : Holder → Holder → Bool) (ties : (a b : Holder) → eq a b ≡
         | false ↦ λ _. let rest = often_spread h es d.1 in omega arith
       ] refl
 
-  module _ (k : Holder) (old new : List (Holder × ℕ)) (unique : IsDistinct eq (keys_of old)) (unique_after : IsDistinct eq (keys_of new)) (others : (q : Holder) → eq k q ≡ false → lookup (eq q) new ≡ lookup (eq q) old) where
+  module _ (k : Holder) (old new : List (Holder × ℕ)) (unique : IsDistinct eq (keys_of old)) (unique_after : IsDistinct eq (keys_of new)) (others : (q : Holder) → eq k q ≡ false → unwrap_or (lookup (eq q) new) 0 ≡ unwrap_or (lookup (eq q) old) 0) where
     often_after : unwrap_or (lookup (eq k) new) 0 ≡ unwrap_or (lookup (eq k) old) 0 + 1 → (q : Holder) → how_often holder_cmp q (spread new) ≡ how_often holder_cmp q (k ∷ spread old)
     often_after more q =
         often_spread q new unique_after
         ∙ elim (eq k q) as (λ b. eq k q ≡ b → unwrap_or (lookup (eq q) new) 0 ≡ cond b 1 0 + unwrap_or (lookup (eq q) old) 0) [
           | true ↦ λ is. subst (λ q. unwrap_or (lookup (eq q) new) 0 ≡ 1 + unwrap_or (lookup (eq q) old) 0) (same_holder k q ((Equal-is _).0 (sym (ties k q) ∙ is))) (omega arith)
-          | false ↦ λ is. ap (λ o. unwrap_or o 0) (others q is) ∙ omega arith
+          | false ↦ λ is. let same = others q is in omega arith
         ] refl
         ∙ (λ i. cond ((ties k q ∙ (eq_by_cmp_equiv holder_order).symm k q) i) 1 0 + sym (often_spread q old unique) i)
 

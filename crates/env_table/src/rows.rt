@@ -48,12 +48,12 @@ pub fn hold(
     ensures kept { OnErr result (pairs.new ≡ pairs.old) }
 {
     if pairs.get(oid, face).is_none() {
-        let mut holders = Holders::new(alloc);
-        holders.hold(holder)?;
+        let mut holders = Holders::new();
+        holders.hold(alloc, holder)?;
         return pairs.insert(oid, face, holders);
     }
-    let mut holders = pairs.replace(oid, face, Holders::new(alloc));
-    let held = holders.hold(holder);
+    let mut holders = pairs.replace(oid, face, Holders::new());
+    let held = holders.hold(alloc, holder);
     pairs.replace(oid, face, holders);
     held
 }
@@ -70,7 +70,7 @@ pub fn let_go(
     ensures last { result ≡ nat_eq (length (holders_or_none (find pair_cmp (pair oid.now face.now) pairs.old))) 1 }
     ensures gone { pairs.new ≡ with_holders (pair oid.now face.now) (one_less holder_cmp holder (holders_or_none (find pair_cmp (pair oid.now face.now) pairs.old))) pairs.old }
 {
-    let mut holders = pairs.replace(oid, face, Holders::new(alloc));
+    let mut holders = pairs.replace(oid, face, Holders::new());
     holders.let_go(holder);
     if holders.number() == 0 {
         pairs.remove(oid, face);

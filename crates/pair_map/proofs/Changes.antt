@@ -1,6 +1,5 @@
--- What nested maps have at pairs, after a change at one OID.
+-- What the map has at pairs, after a change at one OID.
 use Rattle.std.proofs.Common.{◌≡◌, ℕ, Bool, true, false, cond, ◌&&◌, List, [], ◌∷◌, length, arith, Option, None, Some, refl, sym, ap, ◌∙◌, subst, Result, Ok, Err, OnErr, OnOk}
-use Rattle.std.specs.Map.{lookup}
 use Rattle.std.specs.HashMap.{HashMap, get_by_text, UpdatesBy}
 use Rattle.std.specs.String.{string_bytes, string_eq}
 use Rattle.std.specs.Str.{bytes_eq}
@@ -10,11 +9,12 @@ use Rattle.std.proofs.lemmas.Map.Text.{hash_map_updates_text}
 use Rattle.table_model.specs.Pair.{Pair, pair, is_pair}
 use Rattle.table_model.proofs.PairLaws.{is_pair_by_texts}
 use Rattle.pair_map.specs.ByOid.{at_pair, at_face}
+use Rattle.pair_map.specs.Faces.{value_of, ChangesFace}
 
 both_chosen : {X : Type 0} (a b : Bool) (x y : X) → cond (a && b) x y ≡ cond a (cond b x y) y
 both_chosen a b x y = elim a as (λ a. cond (a && b) x y ≡ cond a (cond b x y) y) [ true ↦ refl | false ↦ refl ]
 
-module _ {X Y Z S T : Type 0} (m n : HashMap (String Y) (HashMap (String Z) X T) S) (oid : List ℕ) (others : (other : List ℕ) → bytes_eq oid other ≡ false → get_by_text n other ≡ get_by_text m other) where
+module _ {X Y Z S : Type 0} (m n : HashMap (String Y) (List (String Z × X)) S) (oid : List ℕ) (others : (other : List ℕ) → bytes_eq oid other ≡ false → get_by_text n other ≡ get_by_text m other) where
   at_same : (face : List ℕ) (w : Option X) (a : Bool) (q : Pair) → bytes_eq oid q.oid ≡ a
       → at_face (get_by_text n oid) q.face ≡ cond (bytes_eq q.face face) w (at_face (get_by_text m oid) q.face)
       → at_pair n q ≡ cond a (cond (bytes_eq q.face face) w (at_pair m q)) (at_pair m q)
@@ -38,43 +38,42 @@ module _ {X Y Z S T : Type 0} (m n : HashMap (String Y) (HashMap (String Z) X T)
         | false ↦ λ is. ap (λ faces. at_face faces q.face) (others q.oid is)
       ] refl
 
-no_length : {A : Type 0} (xs : List A) → length xs ≡ 0 → xs ≡ []
-no_length [] e = refl
-no_length (x ∷ xs) e = let bad : ⊥ = omega arith in absurd bad
+no_rows : {X Z : Type 0} (rows : List (String Z × X)) (face : List ℕ) → length rows ≡ 0 → value_of face rows ≡ None
+no_rows [] face e = refl
+no_rows (r ∷ rows) face e = let bad : ⊥ = omega arith in absurd bad
 
-module _ {X Y Z S T : Type 0} (m n : HashMap (String Y) (HashMap (String Z) X T) S) (oid : List ℕ) (a b : HashMap (String Z) X T) where
-  others_stay : (v : Option (HashMap (String Z) X T)) → UpdatesBy string_eq (λ k. bytes_eq oid (string_bytes k)) m n v → (other : List ℕ) → bytes_eq oid other ≡ false → get_by_text n other ≡ get_by_text m other
+module _ {X Y Z S : Type 0} (m n : HashMap (String Y) (List (String Z × X)) S) (oid : List ℕ) where
+  others_stay : (v : Option (List (String Z × X))) → UpdatesBy string_eq (λ k. bytes_eq oid (string_bytes k)) m n v → (other : List ℕ) → bytes_eq oid other ≡ false → get_by_text n other ≡ get_by_text m other
   others_stay v up other is = hash_map_updates_text oid m n v up other ∙ ap (λ b. cond b v (get_by_text m other)) is
 
-  nothing_in : (g : List ℕ) → length a.entries ≡ 0 → get_by_text a g ≡ None
-  nothing_in g empty = ap (lookup (λ k. bytes_eq g (string_bytes k))) (no_length a.entries empty)
+  module _ (a : List (String Z × X)) (was : Some a ≡ get_by_text m oid) where
+    -- rows that stay change nothing
+    pub kept : (b : List (String Z × X)) → UpdatesBy string_eq (λ k. bytes_eq oid (string_bytes k)) m n (Some b) → b ≡ a → (q : Pair) → at_pair n q ≡ at_pair m q
+    kept b up same = kept_at m n oid (others_stay (Some b) up) (λ g. ap (λ faces. at_face faces g) up.1 ∙ ap (value_of g) same ∙ ap (λ faces. at_face faces g) was)
 
-  -- a map that has what it had changes nothing
-  pub kept : UpdatesBy string_eq (λ k. bytes_eq oid (string_bytes k)) m n (Some b) → Some a ≡ get_by_text m oid → b.entries ≡ a.entries → (q : Pair) → at_pair n q ≡ at_pair m q
-  kept up was same = kept_at m n oid (others_stay (Some b) up) (λ g. ap (λ faces. at_face faces g) up.1 ∙ ap (lookup (λ k. bytes_eq g (string_bytes k))) same ∙ ap (λ faces. at_face faces g) was)
+    -- no rows that go change nothing
+    pub emptied : UpdatesBy string_eq (λ k. bytes_eq oid (string_bytes k)) m n None → length a ≡ 0 → (q : Pair) → at_pair n q ≡ at_pair m q
+    emptied up empty = kept_at m n oid (others_stay None up) (λ g. ap (λ faces. at_face faces g) up.1 ∙ sym (no_rows a g empty) ∙ ap (λ faces. at_face faces g) was)
 
-  -- an empty map that goes changes nothing
-  pub emptied : UpdatesBy string_eq (λ k. bytes_eq oid (string_bytes k)) m n None → Some a ≡ get_by_text m oid → length a.entries ≡ 0 → (q : Pair) → at_pair n q ≡ at_pair m q
-  emptied up was empty = kept_at m n oid (others_stay None up) (λ g. ap (λ faces. at_face faces g) up.1 ∙ sym (nothing_in g empty) ∙ ap (λ faces. at_face faces g) was)
-
-  module _ (face f : List ℕ) (w : Option X) (inner : UpdatesBy string_eq (λ k. bytes_eq f (string_bytes k)) a b w) (is : f ≡ face) where
-    -- a change of the map at an OID is one at the pair
-    pub changed : UpdatesBy string_eq (λ k. bytes_eq oid (string_bytes k)) m n (Some b) → Some a ≡ get_by_text m oid → (q : Pair) → at_pair n q ≡ cond (is_pair q (pair oid face)) w (at_pair m q)
-    changed up was =
+    -- a change of the rows of an OID is one at the pair
+    pub changed : (face f : List ℕ) (w : Option X) (b : List (String Z × X)) → ChangesFace f w a b → f ≡ face → UpdatesBy string_eq (λ k. bytes_eq oid (string_bytes k)) m n (Some b)
+        → (q : Pair) → at_pair n q ≡ cond (is_pair q (pair oid face)) w (at_pair m q)
+    changed face f w b change is up =
         changed_at m n oid (others_stay (Some b) up) face w
-        (λ g. ap (λ faces. at_face faces g) up.1 ∙ hash_map_updates_text f a b w inner g ∙ ap (λ h. cond (bytes_eq h g) w (get_by_text a g)) is ∙ ap (λ faces. cond (bytes_eq face g) w (at_face faces g)) was)
+        (λ g. ap (λ faces. at_face faces g) up.1 ∙ change g ∙ ap (λ h. cond (bytes_eq h g) w (value_of g a)) is ∙ ap (λ faces. cond (bytes_eq face g) w (at_face faces g)) was)
 
-    -- a new map with one face is a change at the pair
-    pub begun : (o : List ℕ) → UpdatesBy string_eq (λ k. bytes_eq o (string_bytes k)) m n (Some b) → o ≡ oid → get_by_text m oid ≡ None → length a.entries ≡ 0 → (q : Pair) → at_pair n q ≡ cond (is_pair q (pair oid face)) w (at_pair m q)
-    begun o at one none empty =
-        let up : UpdatesBy string_eq (λ k. bytes_eq oid (string_bytes k)) m n (Some b) = subst (λ o. UpdatesBy string_eq (λ k. bytes_eq o (string_bytes k)) m n (Some b)) one at in
-        changed_at m n oid (others_stay (Some b) up) face w
-        (λ g. ap (λ faces. at_face faces g) up.1 ∙ hash_map_updates_text f a b w inner g ∙ ap (λ h. cond (bytes_eq h g) w (get_by_text a g)) is ∙ ap (cond (bytes_eq face g) w) (nothing_in g empty ∙ sym (ap (λ faces. at_face faces g) none)))
-
--- whatever was answered, what holds holds at a refusal
-pub at_refusal : {A E : Type 0} {P : Type 0} (r : Result A E) → P → OnErr r P
-at_refusal (Ok x) p = tt
-at_refusal (Err e) p = p
+  -- the first face of an OID is a change at the pair
+  pub begun : (face : List ℕ) (key : String Z) (v : X) → string_bytes key ≡ face → (o : List ℕ) → o ≡ oid → (b : List (String Z × X)) → b ≡ (key, v) ∷ []
+      → (l : HashMap (String Y) (List (String Z × X)) S) → l ≡ m → UpdatesBy string_eq (λ k. bytes_eq o (string_bytes k)) l n (Some b) → get_by_text m oid ≡ None → (q : Pair) → at_pair n q ≡ cond (is_pair q (pair oid face)) (Some v) (at_pair m q)
+  begun face key v is o at b lone l before one none =
+      let up : UpdatesBy string_eq (λ k. bytes_eq oid (string_bytes k)) m n (Some b) = subst (λ o. UpdatesBy string_eq (λ k. bytes_eq o (string_bytes k)) m n (Some b)) at
+      (subst (λ l. UpdatesBy string_eq (λ k. bytes_eq o (string_bytes k)) l n (Some b)) before one) in
+      changed_at m n oid (others_stay _ up) face (Some v)
+      (λ g. ap (λ faces. at_face faces g) up.1
+      ∙ ap (value_of g) lone
+      ∙ ap (λ b. cond b (Some v) None) (nat_list_eq_equiv.symm g (string_bytes key))
+      ∙ ap (λ h. cond (bytes_eq h g) (Some v) None) is
+      ∙ ap (cond (bytes_eq face g) (Some v)) (sym (ap (λ faces. at_face faces g) none)))
 
 -- what follows holds where an answer is given
 pub then_ok : {A E : Type 0} {P Q : Type 0} (r : Result A E) → (P → Q) → OnOk r P → OnOk r Q

@@ -1,4 +1,4 @@
--- Nested maps as rows in order, before and after a change.
+-- The map of pairs as rows in order, before and after a change.
 use Rattle.std.proofs.Common.{◌≡◌, ℕ, cond, List, Option, None, Some, sym, ap, ◌∙◌}
 use Rattle.std.specs.HashMap.{HashMap, IsUnique}
 use Rattle.std.specs.List.{list_any}
@@ -17,12 +17,12 @@ use Rattle.pair_map.proofs.Reading.{found_rows}
 pub same_texts : {a b x y : List ℕ} → a ≡ b → x ≡ y → pair a x ≡ pair b y
 same_texts e f = λ i. record { oid = e i; face = f i }
 
-module _ {X Y Z S T : Type 0} (m : HashMap (String Y) (HashMap (String Z) X T) S) (unique : IsUnique string_eq m) (rows : List (Pair × X)) (is : in_order pair_cmp (pair_rows m.entries) ≡ rows) (p q : Pair) (same : p ≡ q) where
+module _ {X Y Z S : Type 0} (m : HashMap (String Y) (List (String Z × X)) S) (unique : IsUnique string_eq m) (rows : List (Pair × X)) (is : in_order pair_cmp (pair_rows m.entries) ≡ rows) (p q : Pair) (same : p ≡ q) where
   -- what the maps have at a pair is found in the rows
   pub found_at : at_pair m p ≡ find pair_cmp q rows
   found_at = sym (found_rows p m.entries unique) ∙ sym (found_in_order pair_order p (pair_rows m.entries)) ∙ (λ i. find pair_cmp (same i) (is i))
 
-  module _ (n : HashMap (String Y) (HashMap (String Z) X T) S) (unique_after : IsUnique string_eq n) where
+  module _ (n : HashMap (String Y) (List (String Z × X)) S) (unique_after : IsUnique string_eq n) where
     found_after : (w : Option X) → ((r : Pair) → at_pair n r ≡ cond (is_pair r p) w (at_pair m r)) → (r : Pair) → find pair_cmp r (pair_rows n.entries) ≡ cond (is_pair r p) w (find pair_cmp r (pair_rows m.entries))
     found_after w change r = found_rows r n.entries unique_after ∙ change r ∙ ap (cond (is_pair r p) w) (sym (found_rows r m.entries unique))
 
@@ -39,5 +39,5 @@ module _ {X Y Z S T : Type 0} (m : HashMap (String Y) (HashMap (String Z) X T) S
     same_at change = in_order_same pair_order same_pair (pair_rows m.entries) (pair_rows n.entries) (λ r. found_rows r n.entries unique_after ∙ change r ∙ sym (found_rows r m.entries unique)) ∙ is
 
 -- whether a row has an OID
-pub any_at : {X Y Z S T : Type 0} (m : HashMap (String Y) (HashMap (String Z) X T) S) (rows : List (Pair × X)) → in_order pair_cmp (pair_rows m.entries) ≡ rows → (o oid : List ℕ) → o ≡ oid → list_any (λ row. bytes_eq o row.0.oid) (pair_rows m.entries) ≡ list_any (λ row. bytes_eq oid row.0.oid) rows
+pub any_at : {X Y Z S : Type 0} (m : HashMap (String Y) (List (String Z × X)) S) (rows : List (Pair × X)) → in_order pair_cmp (pair_rows m.entries) ≡ rows → (o oid : List ℕ) → o ≡ oid → list_any (λ row. bytes_eq o row.0.oid) (pair_rows m.entries) ≡ list_any (λ row. bytes_eq oid row.0.oid) rows
 any_at m rows is o oid same = any_in_order same_pair (λ p. bytes_eq o p.oid) (pair_rows m.entries) ∙ (λ i. list_any (λ row. bytes_eq (same i) row.0.oid) (is i))

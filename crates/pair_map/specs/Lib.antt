@@ -1,1 +1,3 @@
 pub mod ByOid
+pub mod FaceRows
+pub mod Faces
