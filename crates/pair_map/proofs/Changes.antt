@@ -1,5 +1,5 @@
 -- What the map has at pairs, after a change at one OID.
-use Rattle.std.proofs.Common.{◌≡◌, ℕ, Bool, true, false, cond, ◌&&◌, List, [], ◌∷◌, length, arith, Option, None, Some, refl, sym, ap, ◌∙◌, subst, Result, Ok, Err, OnErr, OnOk}
+use Rattle.std.proofs.Common.{◌≡◌, ℕ, Bool, true, false, cond, ◌&&◌, List, [], ◌∷◌, length, arith, Option, None, Some, refl, sym, ap, ◌∙◌, subst, Result, Ok, Err, OnErr, OnOk, IfSome}
 use Rattle.std.specs.HashMap.{HashMap, get_by_text, UpdatesBy}
 use Rattle.std.specs.String.{string_bytes, string_eq}
 use Rattle.std.specs.Str.{bytes_eq}
@@ -51,16 +51,20 @@ module _ {X Y Z S : Type 0} (m n : HashMap (String Y) (List (String Z × X)) S) 
     pub kept : (b : List (String Z × X)) → UpdatesBy string_eq (λ k. bytes_eq oid (string_bytes k)) m n (Some b) → b ≡ a → (q : Pair) → at_pair n q ≡ at_pair m q
     kept b up same = kept_at m n oid (others_stay (Some b) up) (λ g. ap (λ faces. at_face faces g) up.1 ∙ ap (value_of g) same ∙ ap (λ faces. at_face faces g) was)
 
-    -- no rows that go change nothing
-    pub emptied : UpdatesBy string_eq (λ k. bytes_eq oid (string_bytes k)) m n None → length a ≡ 0 → (q : Pair) → at_pair n q ≡ at_pair m q
-    emptied up empty = kept_at m n oid (others_stay None up) (λ g. ap (λ faces. at_face faces g) up.1 ∙ sym (no_rows a g empty) ∙ ap (λ faces. at_face faces g) was)
-
     -- a change of the rows of an OID is one at the pair
     pub changed : (face f : List ℕ) (w : Option X) (b : List (String Z × X)) → ChangesFace f w a b → f ≡ face → UpdatesBy string_eq (λ k. bytes_eq oid (string_bytes k)) m n (Some b)
         → (q : Pair) → at_pair n q ≡ cond (is_pair q (pair oid face)) w (at_pair m q)
     changed face f w b change is up =
         changed_at m n oid (others_stay (Some b) up) face w
         (λ g. ap (λ faces. at_face faces g) up.1 ∙ change g ∙ ap (λ h. cond (bytes_eq h g) w (value_of g a)) is ∙ ap (λ faces. cond (bytes_eq face g) w (at_face faces g)) was)
+
+  bare_at : (found : Option (List (String Z × X))) (g : List ℕ) → IfSome found (λ faces. length faces ≡ 0) → None ≡ at_face found g
+  bare_at None g bare = refl
+  bare_at (Some faces) g bare = sym (no_rows faces g bare)
+
+  -- an OID without faces that goes changes nothing
+  pub emptied : UpdatesBy string_eq (λ k. bytes_eq oid (string_bytes k)) m n None → IfSome (get_by_text m oid) (λ faces. length faces ≡ 0) → (q : Pair) → at_pair n q ≡ at_pair m q
+  emptied up bare = kept_at m n oid (others_stay None up) (λ g. ap (λ faces. at_face faces g) up.1 ∙ bare_at (get_by_text m oid) g bare)
 
   -- the first face of an OID is a change at the pair
   pub begun : (face : List ℕ) (key : String Z) (v : X) → string_bytes key ≡ face → (o : List ℕ) → o ≡ oid → (b : List (String Z × X)) → b ≡ (key, v) ∷ []

@@ -1,5 +1,5 @@
 //! A map from OIDs to the faces of each, read and changed at one pair.
-ghost use Rattle.std.specs.Prelude.{◌≡◌, None, Some, cond, OnOk, OnErr, IsSome, option_copied};
+ghost use Rattle.std.specs.Prelude.{◌≡◌, None, Some, cond, OnOk, OnErr, IsSome, IfSome, IsTrue, length, option_copied};
 ghost use Rattle.indexmap.specs.IndexMap.{IsUnique};
 ghost use Rattle.std.specs.HashMap.{get_by_text};
 ghost use Rattle.std.specs.List.{list_any};
@@ -76,20 +76,34 @@ pub fn remove<V: Drop>(by_oid: &mut ByOid<V>, oid: &str, face: &str) -> V
     ensures without { (q : Pair) → at_pair by_oid.new q ≡ cond (is_pair q (pair oid.now face.now)) None (at_pair by_oid.old q) }
     ensures unique { IsUnique string_eq by_oid.new }
 {
+    let (value, bare) = take(by_oid, oid, face);
+    if bare {
+        drop_bare(by_oid, oid);
+    }
+    value
+}
+
+/// Takes out the value at a pair, and tells whether its OID has no face left.
+fn take<V: Drop>(by_oid: &mut ByOid<V>, oid: &str, face: &str) -> (V, bool)
+    requires { IsSome (at_pair by_oid.old (pair oid.now face.now)) }
+    ensures was { Some result.0 ≡ at_pair by_oid.old (pair oid.now face.now) }
+    ensures without { (q : Pair) → at_pair by_oid.new q ≡ cond (is_pair q (pair oid.now face.now)) None (at_pair by_oid.old q) }
+    ensures bare { IsTrue result.1 → IfSome (get_by_text by_oid.new oid.now) (λ faces. length faces ≡ 0) }
+    ensures unique { IsUnique string_eq by_oid.new }
+{
     let Some(faces) = by_oid.get_mut(oid) else {
         unreachable!()
     };
-    faces.remove(face)
+    let value = faces.remove(face);
+    let bare = faces.is_empty();
+    (value, bare)
 }
 
-/// Takes out the map at an OID where it is empty.
-pub fn drop_empty<V: Drop>(by_oid: &mut ByOid<V>, oid: &str)
-    requires { IsUnique string_eq by_oid.old }
+/// Takes out an OID that has no face.
+fn drop_bare<V: Drop>(by_oid: &mut ByOid<V>, oid: &str)
+    requires { IfSome (get_by_text by_oid.old oid.now) (λ faces. length faces ≡ 0) }
     ensures kept { (q : Pair) → at_pair by_oid.new q ≡ at_pair by_oid.old q }
     ensures unique { IsUnique string_eq by_oid.new }
 {
-    let Some(faces) = by_oid.get(oid) else { return };
-    if faces.is_empty() {
-        by_oid.swap_remove(oid);
-    }
+    by_oid.swap_remove(oid);
 }
