@@ -1,3 +1,3 @@
 pub mod ByOid
-pub mod FaceRows
 pub mod Faces
+pub mod Layout

@@ -12,26 +12,25 @@ use uno_base::NoMemory;
 /// A value for each of some faces.
 #[derive(Drop)]
 pub struct Faces<V> {
-    rows: Rows<V>,
+    layout: Layout<V>,
 }
 
 /// A second face makes the rows a map, and they stay one.
 #[derive(Drop)]
-enum Rows<V> {
+enum Layout<V> {
     Empty,
     Lone(String, V),
     Several(Box<IndexMap<String, V>>),
 }
 
 impl<V> Model for Faces<V> {
-    ghost use Rattle.std.specs.Prelude.{List};
     ghost use Rattle.std.specs.declared.alloc.Global.{Global};
-    ghost use Rattle.std.specs.declared.string.String.{String};
-    ghost use Rattle.pair_map.specs.FaceRows.{rows_of};
+    ghost use Rattle.pair_map.specs.Faces.{Rows};
+    ghost use Rattle.pair_map.specs.Layout.{rows_of};
 
-    ghost Value = { List (String Global × V) };
+    ghost Value = { Rows V Global };
 
-    ghost view = { λ f. rows_of f.rows };
+    ghost view = { λ f. rows_of f.layout };
 }
 
 impl<V> Faces<V> {
@@ -40,7 +39,7 @@ impl<V> Faces<V> {
         ensures { result ≡ (face, value) ∷ [] }
     {
         Faces {
-            rows: Rows::Lone(face, value),
+            layout: Layout::Lone(face, value),
         }
     }
 
@@ -48,16 +47,16 @@ impl<V> Faces<V> {
     pub fn get(&self, face: &str) -> Option<&V>
         ensures { option_copied result ≡ value_of face.now self.now }
     {
-        match &self.rows {
-            Rows::Empty => None,
-            Rows::Lone(only, value) => {
+        match &self.layout {
+            Layout::Empty => None,
+            Layout::Lone(only, value) => {
                 if face == only.as_str() {
                     Some(value)
                 } else {
                     None
                 }
             }
-            Rows::Several(faces) => faces.get(face),
+            Layout::Several(faces) => faces.get(face),
         }
     }
 
@@ -65,10 +64,10 @@ impl<V> Faces<V> {
     pub fn is_empty(&self) -> bool
         ensures { IsTrue result ↔ (length self.now ≡ 0) }
     {
-        match &self.rows {
-            Rows::Empty => true,
-            Rows::Lone(_, _) => false,
-            Rows::Several(faces) => faces.is_empty(),
+        match &self.layout {
+            Layout::Empty => true,
+            Layout::Lone(_, _) => false,
+            Layout::Several(faces) => faces.is_empty(),
         }
     }
 
@@ -78,10 +77,10 @@ impl<V> Faces<V> {
         ensures was { Some result ≡ value_of face.now self.old }
         ensures put { ChangesFace face.now (Some value) self.old self.new }
     {
-        match &mut self.rows {
-            Rows::Empty => unreachable!(),
-            Rows::Lone(_, place) => mem::replace(place, value),
-            Rows::Several(faces) => replace(faces, face, value),
+        match &mut self.layout {
+            Layout::Empty => unreachable!(),
+            Layout::Lone(_, place) => mem::replace(place, value),
+            Layout::Several(faces) => replace(faces, face, value),
         }
     }
 }
@@ -92,20 +91,20 @@ impl<V: Drop> Faces<V> {
         ensures put { OnOk result (ChangesFace (string_bytes face) (Some value) self.old self.new) }
         ensures kept { OnErr result (self.new ≡ self.old) }
     {
-        if let Rows::Several(faces) = &mut self.rows {
+        if let Layout::Several(faces) = &mut self.layout {
             return insert(faces, face, value);
         }
-        if let Rows::Empty = &self.rows {
-            self.rows = Rows::Lone(face, value);
+        if let Layout::Empty = &self.layout {
+            self.layout = Layout::Lone(face, value);
             return Ok(());
         }
         let mut faces = room_for_two(alloc)?;
-        let Rows::Lone(first, kept) = mem::replace(&mut self.rows, Rows::Empty) else {
+        let Layout::Lone(first, kept) = mem::replace(&mut self.layout, Layout::Empty) else {
             unreachable!()
         };
         insert(&mut faces, first, kept).ok();
         insert(&mut faces, face, value).ok();
-        self.rows = Rows::Several(faces);
+        self.layout = Layout::Several(faces);
         Ok(())
     }
 
@@ -115,10 +114,10 @@ impl<V: Drop> Faces<V> {
         ensures was { Some result ≡ value_of face.now self.old }
         ensures without { ChangesFace face.now None self.old self.new }
     {
-        if let Rows::Several(faces) = &mut self.rows {
+        if let Layout::Several(faces) = &mut self.layout {
             return remove(faces, face);
         }
-        let Rows::Lone(_, value) = mem::replace(&mut self.rows, Rows::Empty) else {
+        let Layout::Lone(_, value) = mem::replace(&mut self.layout, Layout::Empty) else {
             unreachable!()
         };
         value
