@@ -29,22 +29,28 @@ passed b n m is = ap (λ b. cond b n m) is
 itself : (k : Holder) → derived.ghosts.eq k k ≡ true
 itself k = holder_ties k k ∙ ap is_eq (tied_itself holder_order k)
 
-module _ (m : List (Holder × ℕ)) (distinct : IsDistinct derived.ghosts.eq (keys_of m)) (holders : List Holder) (is : bag_of holder_cmp (spread m) ≡ holders) (k : Holder) where
+module _ (m : List (Holder × ℕ)) (distinct : IsDistinct derived.ghosts.eq (keys_of m)) (holders : List Holder)
+    (is : bag_of holder_cmp (spread m) ≡ holders) (k : Holder) where
   -- a holder is there as often as it is counted
   pub counted_times : times_of derived.ghosts.eq k m ≡ how_often holder_cmp k holders
-  counted_times = sym (often_spread derived.ghosts.eq holder_ties k m distinct) ∙ sym (how_many_bag_of holder_cmp (eq_by_cmp holder_cmp k) (spread m)) ∙ ap (how_often holder_cmp k) is
+  counted_times =
+      sym (often_spread derived.ghosts.eq holder_ties k m distinct)
+      ∙ sym (how_many_bag_of holder_cmp (eq_by_cmp holder_cmp k) (spread m))
+      ∙ ap (how_often holder_cmp k) is
 
   -- a holder that is there is counted
   pub has_times : 0 < how_often holder_cmp k holders → IsSome (lookup (derived.ghosts.eq k) m)
   has_times there = some_at (lookup (derived.ghosts.eq k) m) (subst (λ n. 0 < n) (sym counted_times) there)
 
-  module _ (n : List (Holder × ℕ)) (distinct_after : IsDistinct derived.ghosts.eq (keys_of n)) (t : ℕ) (counted : t ≡ how_often holder_cmp k holders) where
+  module _ (n : List (Holder × ℕ)) (distinct_after : IsDistinct derived.ghosts.eq (keys_of n)) (t : ℕ)
+      (counted : t ≡ how_often holder_cmp k holders) where
     -- after one more is counted, one more is there
     pub bag_more : Recounts derived.ghosts.eq k (t + 1) m n → bag_of holder_cmp (spread n) ≡ one_more holder_cmp k holders
     bag_more set =
         let times = counted_times in
         let one = set k ∙ chosen _ _ _ (itself k) in
-        counted_more derived.ghosts.eq holder_ties k m n distinct distinct_after (λ q apart. set q ∙ passed _ _ _ apart) (omega arith) ∙ ap (one_more holder_cmp k) is
+        counted_more derived.ghosts.eq holder_ties k m n distinct distinct_after (λ q apart. set q ∙ passed _ _ _ apart) (omega arith)
+        ∙ ap (one_more holder_cmp k) is
 
     module _ (there : 0 < how_often holder_cmp k holders) (set : Recounts derived.ghosts.eq k (t - 1) m n) where
       before_less : holders ≡ one_more holder_cmp k (bag_of holder_cmp (spread n))

@@ -1,3 +1,3 @@
 pub mod Holders
+pub mod Layout
 pub mod Times
-pub mod TimesRows

@@ -14,12 +14,12 @@ use uno_base::NoMemory;
 /// A number for each of some holders.
 #[derive(Drop)]
 pub struct Times {
-    rows: Rows,
+    layout: Layout,
 }
 
 /// A second holder makes the rows a map, and they stay one.
 #[derive(Drop)]
-enum Rows {
+enum Layout {
     Empty,
     Lone(Holder, u64),
     Several(Box<IndexMap<Holder, u64>>),
@@ -30,13 +30,13 @@ impl Model for Times {
     ghost use Rattle.std.specs.List.{IsDistinct};
     ghost use Rattle.std.specs.Map.{keys_of};
     ghost use Rattle.table_model.specs.declared.holder.Holder.{Holder};
-    ghost use Rattle.env_table.specs.TimesRows.{rows_of};
+    ghost use Rattle.env_table.specs.Layout.{rows_of};
 
     ghost Value = { List (Holder × ℕ) };
 
-    ghost view = { λ t. rows_of t.rows };
+    ghost view = { λ t. rows_of t.layout };
 
-    ghost invariant = { λ t. IsDistinct ⟦<Holder as PartialEq>⟧.eq (keys_of (rows_of t.rows)) };
+    ghost invariant = { λ t. IsDistinct ⟦<Holder as PartialEq>⟧.eq (keys_of (rows_of t.layout)) };
 }
 
 impl Times {
@@ -45,7 +45,9 @@ impl Times {
     pub fn new() -> Times
         ensures { result ≡ [] }
     {
-        Times { rows: Rows::Empty }
+        Times {
+            layout: Layout::Empty,
+        }
     }
 
     /// How often a holder is counted.
@@ -53,16 +55,10 @@ impl Times {
         ensures number { result ≡ times_of ⟦<Holder as PartialEq>⟧.eq holder self.now }
         ensures distinct { IsDistinct ⟦<Holder as PartialEq>⟧.eq (keys_of self.now) }
     {
-        match &self.rows {
-            Rows::Empty => 0,
-            Rows::Lone(only, times) => {
-                if holder == *only {
-                    *times
-                } else {
-                    0
-                }
-            }
-            Rows::Several(times) => times.get(&holder).copied().unwrap_or(0),
+        match &self.layout {
+            Layout::Empty => 0,
+            Layout::Lone(only, times) => { if holder == *only { *times } else { 0 } }
+            Layout::Several(times) => times.get(&holder).copied().unwrap_or(0),
         }
     }
 
@@ -73,21 +69,21 @@ impl Times {
         ensures kept { OnErr result (self.new ≡ self.old) }
         ensures distinct { IsDistinct ⟦<Holder as PartialEq>⟧.eq (keys_of self.new) }
     {
-        match &mut self.rows {
-            Rows::Empty => {
-                self.rows = Rows::Lone(holder, number);
+        match &mut self.layout {
+            Layout::Empty => {
+                self.layout = Layout::Lone(holder, number);
                 Ok(())
             }
-            Rows::Lone(only, times) => {
+            Layout::Lone(only, times) => {
                 if holder == *only {
                     *times = number;
                     return Ok(());
                 }
                 let several = two(alloc, *only, *times, holder, number)?;
-                self.rows = Rows::Several(several);
+                self.layout = Layout::Several(several);
                 Ok(())
             }
-            Rows::Several(times) => insert(times, holder, number),
+            Layout::Several(times) => insert(times, holder, number),
         }
     }
 
@@ -98,16 +94,16 @@ impl Times {
         ensures set { Recounts ⟦<Holder as PartialEq>⟧.eq holder number self.old self.new }
         ensures distinct { IsDistinct ⟦<Holder as PartialEq>⟧.eq (keys_of self.new) }
     {
-        match &mut self.rows {
-            Rows::Empty => unreachable!(),
-            Rows::Lone(_, times) => {
+        match &mut self.layout {
+            Layout::Empty => unreachable!(),
+            Layout::Lone(_, times) => {
                 if number == 0 {
-                    self.rows = Rows::Empty;
+                    self.layout = Layout::Empty;
                 } else {
                     *times = number;
                 }
             }
-            Rows::Several(times) => reset(times, holder, number),
+            Layout::Several(times) => reset(times, holder, number),
         }
     }
 }
