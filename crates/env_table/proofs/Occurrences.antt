@@ -37,7 +37,7 @@ module _ (test : Hold → Bool) (p : Pair) (number : List Holder → ℕ) (none 
         | true ↦ λ is.
             let same : p ≡ row.0 = same_pair p row.0 ((Equal-is _).0 is) in
             let nothing : find pair_cmp p rows ≡ None =
-                find_below pair_order p rows (subst (λ q. T (below_all pair_cmp q rows)) (sym same) (rows_first _ _ rises)) in
+            find_below pair_order p rows (subst (λ q. T (below_all pair_cmp q rows)) (sym same) (rows_first _ _ rises)) in
             let zeros : how_many test (all_occurrences rows) ≡ 0 = rest ∙ ap (λ o. number (holders_or_none o)) nothing ∙ none in
             omega arith
         | false ↦ λ _. omega arith
