@@ -1,4 +1,5 @@
 mod Counted
+mod Distinct
 mod Occurrences
 mod RowChanges
 mod Spread

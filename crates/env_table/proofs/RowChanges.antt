@@ -1,5 +1,6 @@
 -- The rows of pairs with their holders, after one of them is counted more or less.
-use Rattle.std.proofs.Common.{◌≡◌, ℕ, ◌+◌, ◌<◌, true, false, cond, List, [], ◌∷◌, length, Option, None, Some, IsSome, Result, Ok, Err, OnOk, OnErr, refl, sym, ap, ◌∙◌, subst, arith, nat_eq, nat_lt, if◌then◌else◌}
+use Rattle.std.proofs.Common.{◌≡◌, ℕ, ◌+◌, ◌<◌, true, false, cond, List, [], ◌∷◌, length, Option, None, Some, IsSome}
+use Rattle.std.proofs.Common.{Result, Ok, Err, OnOk, OnErr, refl, sym, ap, ◌∙◌, subst, arith, nat_eq, nat_lt, if◌then◌else◌}
 use borrow.Author.Tests.{lt-ltb}
 use Rattle.std.specs.Prelude.{T}
 use Rattle.std.proofs.lemmas.Bool.Decides.{nat_tests}
@@ -16,7 +17,7 @@ use Rattle.table_model.proofs.BagLaws.{how_many_one_more, how_often_one_less, le
 use Rattle.table_model.proofs.HoldLaws.{same_holder}
 use Rattle.table_model.proofs.PairLaws.{pair_order, same_pair}
 use Rattle.table_model.proofs.RowLaws.{found_without, put_twice, without_put, put_same}
-use Rattle.env_table.specs.Holders.{holders_or_none, all_occurrences, with_holders}
+use Rattle.env_table.specs.Holders.{holders_at, holders_or_none, all_occurrences, with_holders}
 use Rattle.env_table.proofs.Occurrences.{occurs_more, occurs_less}
 
 module _ {X : Type 0} (p : Pair) (rows : List (Pair × X)) where
@@ -27,43 +28,55 @@ module _ {X : Type 0} (p : Pair) (rows : List (Pair × X)) where
   pub some_after : (v : X) (after : List (Pair × X)) → after ≡ put pair_cmp p v rows → IsSome (find pair_cmp p after)
   some_after v after is = subst (λ rows. IsSome (find pair_cmp p rows)) (sym is) (subst IsSome (sym (found_put v)) refl)
 
-module _ (k : Holder) (p : Pair) (rows between after : List (Pair × List Holder)) (hs changed : List Holder) (was : Some hs ≡ find pair_cmp p rows) (out : between ≡ put pair_cmp p [] rows) where
+module _ (k : Holder) (p : Pair) (rows between after : List (Pair × List Holder)) (hs changed : List Holder)
+    (was : Some hs ≡ find pair_cmp p rows) (out : between ≡ put pair_cmp p [] rows) where
   put_back : after ≡ put pair_cmp p changed between → after ≡ put pair_cmp p changed rows
   put_back back = back ∙ ap (put pair_cmp p changed) out ∙ put_twice pair_order p [] changed rows
 
   -- holders that were taken out and put back with one more
-  pub held_again : {E : Type 0} (r : Result (Unit {0}) E) → after ≡ put pair_cmp p changed between → OnOk r (changed ≡ one_more holder_cmp k hs) → OnOk r (after ≡ put pair_cmp p (one_more holder_cmp k (holders_or_none (find pair_cmp p rows))) rows)
+  pub held_again : {E : Type 0} (r : Result (Unit {0}) E) → after ≡ put pair_cmp p changed between
+      → OnOk r (changed ≡ one_more holder_cmp k hs) → OnOk r (after ≡ put pair_cmp p (one_more holder_cmp k (holders_at p rows)) rows)
   held_again (Ok x) back is = put_back back ∙ ap (λ hs. put pair_cmp p hs rows) (is ∙ ap (λ o. one_more holder_cmp k (holders_or_none o)) was)
   held_again (Err e) back is = is
 
   -- holders that were taken out and put back as they were
-  pub kept_again : {E : Type 0} (r : Result (Unit {0}) E) → T (is_sorted pair_cmp rows) → after ≡ put pair_cmp p changed between → OnErr r (changed ≡ hs) → OnErr r (after ≡ rows)
+  pub kept_again : {E : Type 0} (r : Result (Unit {0}) E) → T (is_sorted pair_cmp rows)
+      → after ≡ put pair_cmp p changed between → OnErr r (changed ≡ hs) → OnErr r (after ≡ rows)
   kept_again (Ok x) rises back is = is
   kept_again (Err e) rises back is = put_back back ∙ put_same pair_order p same_pair changed rows rises (sym was ∙ ap Some (sym is))
 
   -- holders of which the last is gone
-  pub gone_with_last : changed ≡ one_less holder_cmp k hs → length changed ≡ 0 → after ≡ without pair_cmp p between → after ≡ with_holders p (one_less holder_cmp k (holders_or_none (find pair_cmp p rows))) rows
-  gone_with_last is none gone = gone ∙ ap (without pair_cmp p) out ∙ without_put pair_order p [] rows ∙ none_left changed none ∙ ap (λ hs. with_holders p hs rows) (is ∙ ap (λ o. one_less holder_cmp k (holders_or_none o)) was)
+  pub gone_with_last : changed ≡ one_less holder_cmp k hs → length changed ≡ 0 → after ≡ without pair_cmp p between
+      → after ≡ with_holders p (one_less holder_cmp k (holders_at p rows)) rows
+  gone_with_last is none gone =
+      gone ∙ ap (without pair_cmp p) out ∙ without_put pair_order p [] rows ∙ none_left changed none
+      ∙ ap (λ hs. with_holders p hs rows) (is ∙ ap (λ o. one_less holder_cmp k (holders_or_none o)) was)
     where
       none_left : (hs : List Holder) → length hs ≡ 0 → without pair_cmp p rows ≡ with_holders p hs rows
       none_left [] e = refl
       none_left (h ∷ hs) e = absurd (omega arith)
 
   -- holders of which some are left
-  pub gone_with_others : changed ≡ one_less holder_cmp k hs → ¬ (length changed ≡ 0) → after ≡ put pair_cmp p changed between → after ≡ with_holders p (one_less holder_cmp k (holders_or_none (find pair_cmp p rows))) rows
-  gone_with_others is some back = put_back back ∙ some_left changed some ∙ ap (λ hs. with_holders p hs rows) (is ∙ ap (λ o. one_less holder_cmp k (holders_or_none o)) was)
+  pub gone_with_others : changed ≡ one_less holder_cmp k hs → ¬ (length changed ≡ 0) → after ≡ put pair_cmp p changed between
+      → after ≡ with_holders p (one_less holder_cmp k (holders_at p rows)) rows
+  gone_with_others is some back =
+      put_back back ∙ some_left changed some
+      ∙ ap (λ hs. with_holders p hs rows) (is ∙ ap (λ o. one_less holder_cmp k (holders_or_none o)) was)
     where
       some_left : (hs : List Holder) → ¬ (length hs ≡ 0) → put pair_cmp p hs rows ≡ with_holders p hs rows
       some_left [] e = absurd (e refl)
       some_left (h ∷ hs) e = refl
 
 -- how many holders are left, and how many were there
-pub left_of : (k : Holder) (hs changed : List Holder) (found : Option (List Holder)) → Some hs ≡ found → changed ≡ one_less holder_cmp k hs → 0 < how_often holder_cmp k (holders_or_none found) → length (holders_or_none found) ≡ length changed + 1
+pub left_of : (k : Holder) (hs changed : List Holder) (found : Option (List Holder)) → Some hs ≡ found
+    → changed ≡ one_less holder_cmp k hs → 0 < how_often holder_cmp k (holders_or_none found) → length (holders_or_none found) ≡ length changed + 1
 left_of k hs changed found was is there =
-    subst (λ o. 0 < how_often holder_cmp k (holders_or_none o) → length (holders_or_none o) ≡ length changed + 1) was (λ there. length_one_less holder_cmp k hs there ∙ ap (λ hs. length hs + 1) (sym is)) there
+    subst (λ o. 0 < how_often holder_cmp k (holders_or_none o) → length (holders_or_none o) ≡ length changed + 1) was
+    (λ there. length_one_less holder_cmp k hs there ∙ ap (λ hs. length hs + 1) (sym is)) there
 
 -- a holder that is there is among those that are found
-pub there_in : (k : Holder) (hs : List Holder) (found : Option (List Holder)) → Some hs ≡ found → 0 < how_often holder_cmp k (holders_or_none found) → 0 < how_often holder_cmp k hs
+pub there_in : (k : Holder) (hs : List Holder) (found : Option (List Holder)) → Some hs ≡ found
+    → 0 < how_often holder_cmp k (holders_or_none found) → 0 < how_often holder_cmp k hs
 there_in k hs found was there = subst (λ o. 0 < how_often holder_cmp k (holders_or_none o)) (sym was) there
 
 pub last_told : (n m : ℕ) → n ≡ m + 1 → m ≡ 0 → true ≡ nat_eq n 1
@@ -74,13 +87,15 @@ others_told n m e some = grind (arith, nat_tests)
 
 module _ (k : Holder) (p : Pair) (old new : List (Pair × List Holder)) (rises : T (is_sorted pair_cmp old)) where
   -- a row with one holder more is one occurrence more
-  pub view_more : new ≡ put pair_cmp p (one_more holder_cmp k (holders_or_none (find pair_cmp p old))) old → bag_of hold_cmp (all_occurrences new) ≡ one_more hold_cmp (hold k p) (bag_of hold_cmp (all_occurrences old))
+  pub view_more : new ≡ put pair_cmp p (one_more holder_cmp k (holders_at p old)) old
+      → bag_of hold_cmp (all_occurrences new) ≡ one_more hold_cmp (hold k p) (bag_of hold_cmp (all_occurrences old))
   view_more is =
-      let more = one_more holder_cmp k (holders_or_none (find pair_cmp p old)) in
+      let more = one_more holder_cmp k (holders_at p old) in
       ap (λ rows. bag_of hold_cmp (all_occurrences rows)) is
       ∙ occurs_more k p old (put pair_cmp p more old) rises (is_sorted-put pair_cmp pair_order p more old rises)
       (λ q apart. find-put pair_cmp pair_order q p more old ∙ ap (λ b. cond b (Some more) (find pair_cmp q old)) apart)
-      (λ z. ap (λ o. how_often holder_cmp z (holders_or_none o)) (found_put p old more) ∙ how_many_one_more holder_cmp (eq_by_cmp holder_cmp z) k (holders_or_none (find pair_cmp p old)))
+      (λ z. ap (λ o. how_often holder_cmp z (holders_or_none o)) (found_put p old more)
+      ∙ how_many_one_more holder_cmp (eq_by_cmp holder_cmp z) k (holders_at p old))
 
   with_rises : (hs : List Holder) → T (is_sorted pair_cmp (with_holders p hs old))
   with_rises [] = is_sorted-where_key pair_cmp _ old rises
@@ -95,12 +110,14 @@ module _ (k : Holder) (p : Pair) (old new : List (Pair × List Holder)) (rises :
   with_others (h ∷ hs) q apart = sym (find-put pair_cmp pair_order q p (h ∷ hs) old ∙ ap (λ b. cond b (Some (h ∷ hs)) (find pair_cmp q old)) apart)
 
   -- a row with one holder less is one occurrence less
-  pub view_less : 0 < how_often holder_cmp k (holders_or_none (find pair_cmp p old)) → new ≡ with_holders p (one_less holder_cmp k (holders_or_none (find pair_cmp p old))) old → bag_of hold_cmp (all_occurrences new) ≡ one_less hold_cmp (hold k p) (bag_of hold_cmp (all_occurrences old))
+  pub view_less : 0 < how_often holder_cmp k (holders_at p old) → new ≡ with_holders p (one_less holder_cmp k (holders_at p old)) old
+      → bag_of hold_cmp (all_occurrences new) ≡ one_less hold_cmp (hold k p) (bag_of hold_cmp (all_occurrences old))
   view_less there is =
-      let less = one_less holder_cmp k (holders_or_none (find pair_cmp p old)) in
+      let less = one_less holder_cmp k (holders_at p old) in
       ap (λ rows. bag_of hold_cmp (all_occurrences rows)) is
       ∙ occurs_less k p (with_holders p less old) old (with_rises less) rises (with_others less)
-      (λ z. how_often_one_less same_holder k (holders_or_none (find pair_cmp p old)) there z ∙ ap (λ hs. cond (eq_by_cmp holder_cmp z k) 1 0 + how_often holder_cmp z hs) (sym (with_found less)))
+      (λ z. how_often_one_less same_holder k (holders_at p old) there z
+      ∙ ap (λ hs. cond (eq_by_cmp holder_cmp z k) 1 0 + how_often holder_cmp z hs) (sym (with_found less)))
 
 -- nothing is answered where nothing is there
 pub refused : {A : Type 0} (n : ℕ) (x : A) → n ≡ 0 → None ≡ (if nat_lt 0 n then Some x else None)

@@ -1,6 +1,6 @@
 -- What the maps of an environment stand for.
 use Rattle.std.specs.Prelude.{ℕ, List, [], ◌∷◌, map, Option, None, Some, replicate}
-use Rattle.std.specs.FinMap.{put}
+use Rattle.std.specs.FinMap.{find, put}
 use Rattle.std.specs.List.{flat_map}
 use Rattle.table_model.specs.Holdings.{Hold, hold}
 use Rattle.table_model.specs.Pair.{Pair, pair_cmp}
@@ -15,6 +15,10 @@ spread times = flat_map (λ t. replicate t.1 t.0) times
 abbrev pub holders_or_none : Option (List Holder) → List Holder
 holders_or_none None = []
 holders_or_none (Some holders) = holders
+
+-- the holders of a pair in some rows
+abbrev pub holders_at : Pair → List (Pair × List Holder) → List Holder
+holders_at p rows = holders_or_none (find pair_cmp p rows)
 
 -- the occurrences of a pair with some holders
 abbrev pub occurrences : Pair → List Holder → List Hold

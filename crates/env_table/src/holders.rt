@@ -1,11 +1,9 @@
 //! The holders of one pair, which contracts see in rising order, each as often as it holds the pair.
-ghost use Rattle.std.specs.Prelude.{◌≡◌, ℕ, ◌-◌, ◌<◌, ◌^◌, [], length, false, IsSome, OnOk, OnErr};
-ghost use Rattle.indexmap.specs.IndexMap.{get, IsUnique};
-ghost use Rattle.std.specs.Option.{unwrap_or};
+ghost use Rattle.std.specs.Prelude.{◌≡◌, ◌-◌, ◌<◌, ◌^◌, [], length, OnOk, OnErr};
 ghost use Rattle.table_model.specs.Bags.{how_often, one_more, one_less};
 ghost use Rattle.table_model.specs.Holdings.{holder_cmp};
 
-use indexmap::IndexMap;
+use crate::times::Times;
 use std::alloc::Global;
 use std::marker::Model;
 use table_model::Holder;
@@ -15,12 +13,13 @@ use uno_base::NoMemory;
 #[derive(Drop)]
 pub struct Holders {
     number: u64,
-    times: IndexMap<Holder, u64>,
+    times: Times,
 }
 
 impl Model for Holders {
     ghost use Rattle.std.specs.Prelude.{◌≡◌, List, length};
-    ghost use Rattle.indexmap.specs.IndexMap.{IsUnique};
+    ghost use Rattle.std.specs.List.{IsDistinct};
+    ghost use Rattle.std.specs.Map.{keys_of};
     ghost use Rattle.table_model.specs.Bags.{bag_of};
     ghost use Rattle.table_model.specs.Holdings.{holder_cmp};
     ghost use Rattle.table_model.specs.declared.holder.Holder.{Holder};
@@ -28,19 +27,20 @@ impl Model for Holders {
 
     ghost Value = { List Holder };
 
-    ghost view = { λ h. bag_of holder_cmp (spread h.times.entries) };
+    ghost view = { λ h. bag_of holder_cmp (spread h.times) };
 
-    ghost invariant = { λ h. IsUnique ⟦<Holder as PartialEq>⟧.eq h.times × (h.number ≡ length (bag_of holder_cmp (spread h.times.entries))) };
+    ghost invariant = { λ h. IsDistinct ⟦<Holder as PartialEq>⟧.eq (keys_of h.times) × (h.number ≡ length (bag_of holder_cmp (spread h.times))) };
 }
 
 impl Holders {
     /// No holders.
-    pub fn new(alloc: Global) -> Holders
+    #[tactic(auto, using(crate::proofs::Distinct::none_distinct))]
+    pub fn new() -> Holders
         ensures { result ≡ [] }
     {
         Holders {
             number: 0,
-            times: IndexMap::new(alloc),
+            times: Times::new(),
         }
     }
 
@@ -55,17 +55,17 @@ impl Holders {
     pub fn times(&self, holder: Holder) -> u64
         ensures { result ≡ how_often holder_cmp holder self.now }
     {
-        self.times.get(&holder).copied().unwrap_or(0)
+        self.times.of(holder)
     }
 
     /// Counts an occurrence.
-    pub fn hold(&mut self, holder: Holder) -> Result<(), NoMemory>
+    pub fn hold(&mut self, alloc: Global, holder: Holder) -> Result<(), NoMemory>
         requires { length self.old < 2 ^ 64 - 1 }
         ensures held { OnOk result (self.new ≡ one_more holder_cmp holder self.old) }
         ensures kept { OnErr result (self.new ≡ self.old) }
     {
         let times = self.times(holder);
-        self.times.insert(holder, times + 1)?;
+        self.times.set(alloc, holder, times + 1)?;
         self.number += 1;
         Ok(())
     }
@@ -76,21 +76,7 @@ impl Holders {
         ensures { self.new ≡ one_less holder_cmp holder self.old }
     {
         let times = self.times(holder);
-        set_times(&mut self.times, holder, times - 1);
+        self.times.reset(holder, times - 1);
         self.number -= 1;
-    }
-}
-
-/// Sets how often a holder that is there holds the pair.
-fn set_times(times: &mut IndexMap<Holder, u64>, holder: Holder, number: u64)
-    requires { IsSome (get ⟦<Holder as PartialEq>⟧.eq times.old holder) }
-    ensures set { unwrap_or (get ⟦<Holder as PartialEq>⟧.eq times.new holder) 0 ≡ number }
-    ensures others { (q : Holder) → ⟦<Holder as PartialEq>⟧.eq holder q ≡ false → get ⟦<Holder as PartialEq>⟧.eq times.new q ≡ get ⟦<Holder as PartialEq>⟧.eq times.old q }
-    ensures unique { IsUnique ⟦<Holder as PartialEq>⟧.eq times.new }
-{
-    if number == 0 {
-        times.swap_remove(&holder);
-    } else if let Some(place) = times.get_mut(&holder) {
-        *place = number;
     }
 }

@@ -6,6 +6,7 @@ mod error;
 mod holders;
 mod rows;
 mod threads;
+mod times;
 
 pub use environment::Environment;
 pub use error::NotHeld;

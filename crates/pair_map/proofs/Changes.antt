@@ -1,6 +1,6 @@
--- What nested maps have at pairs, after a change at one OID.
-use Rattle.std.proofs.Common.{◌≡◌, ℕ, Bool, true, false, cond, ◌&&◌, List, [], ◌∷◌, length, arith, Option, None, Some, refl, sym, ap, ◌∙◌, subst, Result, Ok, Err, OnErr, OnOk}
-use Rattle.std.specs.Map.{lookup}
+-- What the map has at pairs, after a change at one OID.
+use Rattle.std.proofs.Common.{◌≡◌, ℕ, Bool, true, false, cond, ◌&&◌, List, [], ◌∷◌, length, arith, Option, None, Some}
+use Rattle.std.proofs.Common.{refl, sym, ap, ◌∙◌, subst, Result, Ok, Err, OnErr, OnOk, IfSome}
 use Rattle.std.specs.HashMap.{HashMap, get_by_text, UpdatesBy}
 use Rattle.std.specs.String.{string_bytes, string_eq}
 use Rattle.std.specs.Str.{bytes_eq}
@@ -10,71 +10,101 @@ use Rattle.std.proofs.lemmas.Map.Text.{hash_map_updates_text}
 use Rattle.table_model.specs.Pair.{Pair, pair, is_pair}
 use Rattle.table_model.proofs.PairLaws.{is_pair_by_texts}
 use Rattle.pair_map.specs.ByOid.{at_pair, at_face}
+use Rattle.pair_map.specs.Faces.{Rows, value_of, ChangesFace}
 
 both_chosen : {X : Type 0} (a b : Bool) (x y : X) → cond (a && b) x y ≡ cond a (cond b x y) y
 both_chosen a b x y = elim a as (λ a. cond (a && b) x y ≡ cond a (cond b x y) y) [ true ↦ refl | false ↦ refl ]
 
-module _ {X Y Z S T : Type 0} (m n : HashMap (String Y) (HashMap (String Z) X T) S) (oid : List ℕ) (others : (other : List ℕ) → bytes_eq oid other ≡ false → get_by_text n other ≡ get_by_text m other) where
-  at_same : (face : List ℕ) (w : Option X) (a : Bool) (q : Pair) → bytes_eq oid q.oid ≡ a
-      → at_face (get_by_text n oid) q.face ≡ cond (bytes_eq q.face face) w (at_face (get_by_text m oid) q.face)
-      → at_pair n q ≡ cond a (cond (bytes_eq q.face face) w (at_pair m q)) (at_pair m q)
-  at_same face w true q is here = subst (λ o. at_face (get_by_text n o) q.face ≡ cond (bytes_eq q.face face) w (at_face (get_by_text m o) q.face)) (same_text oid q.oid (sym is)) here
-  at_same face w false q is here = ap (λ faces. at_face faces q.face) (others q.oid is)
+no_rows : {X Z : Type 0} (rows : Rows X Z) (face : List ℕ) → length rows ≡ 0 → value_of face rows ≡ None
+no_rows [] face e = refl
+no_rows (r ∷ rows) face e = let bad : ⊥ = omega arith in absurd bad
 
-  -- a change at one face of one OID is one at the pair
-  changed_at : (face : List ℕ) (w : Option X) → ((f : List ℕ) → at_face (get_by_text n oid) f ≡ cond (bytes_eq face f) w (at_face (get_by_text m oid) f))
-      → (q : Pair) → at_pair n q ≡ cond (is_pair q (pair oid face)) w (at_pair m q)
-  changed_at face w here q =
-      at_same face w (bytes_eq oid q.oid) q refl (here q.face ∙ ap (λ b. cond b w (at_face (get_by_text m oid) q.face)) (nat_list_eq_equiv.symm face q.face))
-      ∙ sym (both_chosen (bytes_eq oid q.oid) (bytes_eq q.face face) w (at_pair m q))
-      ∙ ap (λ b. cond (b && bytes_eq q.face face) w (at_pair m q)) (nat_list_eq_equiv.symm oid q.oid)
-      ∙ ap (λ b. cond b w (at_pair m q)) (sym (is_pair_by_texts q (pair oid face)))
+bare_at : {X Z : Type 0} (found : Option (Rows X Z)) (g : List ℕ) → IfSome found (λ faces. length faces ≡ 0) → None ≡ at_face found g
+bare_at None g bare = refl
+bare_at (Some faces) g bare = sym (no_rows faces g bare)
 
-  -- what the map at one OID has stays, so all does
-  kept_at : ((f : List ℕ) → at_face (get_by_text n oid) f ≡ at_face (get_by_text m oid) f) → (q : Pair) → at_pair n q ≡ at_pair m q
-  kept_at here q =
-      elim (bytes_eq oid q.oid) as (λ a. bytes_eq oid q.oid ≡ a → at_pair n q ≡ at_pair m q) [
-        | true ↦ λ is. subst (λ o. at_face (get_by_text n o) q.face ≡ at_face (get_by_text m o) q.face) (same_text oid q.oid (sym is)) (here q.face)
-        | false ↦ λ is. ap (λ faces. at_face faces q.face) (others q.oid is)
-      ] refl
+module _ {X Y Z S : Type 0} (m n : HashMap (String Y) (Rows X Z) S) where
+  -- the second map is the first with these rows, or none, at an OID
+  abbrev SetsRows : List ℕ → Option (Rows X Z) → Type 0
+  SetsRows oid rows = UpdatesBy string_eq (λ k. bytes_eq oid (string_bytes k)) m n rows
 
-no_length : {A : Type 0} (xs : List A) → length xs ≡ 0 → xs ≡ []
-no_length [] e = refl
-no_length (x ∷ xs) e = let bad : ⊥ = omega arith in absurd bad
+  -- and has this value, or none, at a pair
+  abbrev SetsPair : Pair → Option X → Type 0
+  SetsPair p w = (q : Pair) → at_pair n q ≡ cond (is_pair q p) w (at_pair m q)
 
-module _ {X Y Z S T : Type 0} (m n : HashMap (String Y) (HashMap (String Z) X T) S) (oid : List ℕ) (a b : HashMap (String Z) X T) where
-  others_stay : (v : Option (HashMap (String Z) X T)) → UpdatesBy string_eq (λ k. bytes_eq oid (string_bytes k)) m n v → (other : List ℕ) → bytes_eq oid other ≡ false → get_by_text n other ≡ get_by_text m other
+module _ {X Y Z S : Type 0} (m n : HashMap (String Y) (Rows X Z) S) (oid : List ℕ) where
+  module _ (others : (other : List ℕ) → bytes_eq oid other ≡ false → get_by_text n other ≡ get_by_text m other) where
+    at_same : (face : List ℕ) (w : Option X) (a : Bool) (q : Pair) → bytes_eq oid q.oid ≡ a
+        → at_face (get_by_text n oid) q.face ≡ cond (bytes_eq q.face face) w (at_face (get_by_text m oid) q.face)
+        → at_pair n q ≡ cond a (cond (bytes_eq q.face face) w (at_pair m q)) (at_pair m q)
+    at_same face w true q is here =
+        subst (λ o. at_face (get_by_text n o) q.face ≡ cond (bytes_eq q.face face) w (at_face (get_by_text m o) q.face))
+        (same_text oid q.oid (sym is)) here
+    at_same face w false q is here = ap (λ faces. at_face faces q.face) (others q.oid is)
+
+    -- a change at one face of one OID is one at the pair
+    changed_at : (face : List ℕ) (w : Option X)
+        → ((f : List ℕ) → at_face (get_by_text n oid) f ≡ cond (bytes_eq face f) w (at_face (get_by_text m oid) f))
+        → SetsPair m n (pair oid face) w
+    changed_at face w here q =
+        let turned = ap (λ b. cond b w (at_face (get_by_text m oid) q.face)) (nat_list_eq_equiv.symm face q.face) in
+        at_same face w (bytes_eq oid q.oid) q refl (here q.face ∙ turned)
+        ∙ sym (both_chosen (bytes_eq oid q.oid) (bytes_eq q.face face) w (at_pair m q))
+        ∙ ap (λ b. cond (b && bytes_eq q.face face) w (at_pair m q)) (nat_list_eq_equiv.symm oid q.oid)
+        ∙ ap (λ b. cond b w (at_pair m q)) (sym (is_pair_by_texts q (pair oid face)))
+
+    -- what the rows of one OID have stays, so all does
+    kept_at : ((f : List ℕ) → at_face (get_by_text n oid) f ≡ at_face (get_by_text m oid) f) → (q : Pair) → at_pair n q ≡ at_pair m q
+    kept_at here q =
+        elim (bytes_eq oid q.oid) as (λ a. bytes_eq oid q.oid ≡ a → at_pair n q ≡ at_pair m q) [
+          | true ↦ λ is.
+              subst (λ o. at_face (get_by_text n o) q.face ≡ at_face (get_by_text m o) q.face)
+              (same_text oid q.oid (sym is)) (here q.face)
+          | false ↦ λ is. ap (λ faces. at_face faces q.face) (others q.oid is)
+        ] refl
+
+  others_stay : (v : Option (Rows X Z)) → SetsRows m n oid v
+      → (other : List ℕ) → bytes_eq oid other ≡ false → get_by_text n other ≡ get_by_text m other
   others_stay v up other is = hash_map_updates_text oid m n v up other ∙ ap (λ b. cond b v (get_by_text m other)) is
 
-  nothing_in : (g : List ℕ) → length a.entries ≡ 0 → get_by_text a g ≡ None
-  nothing_in g empty = ap (lookup (λ k. bytes_eq g (string_bytes k))) (no_length a.entries empty)
+  module _ (a : Rows X Z) (was : Some a ≡ get_by_text m oid) where
+    -- rows that stay change nothing
+    pub kept : (b : Rows X Z) → SetsRows m n oid (Some b) → b ≡ a → (q : Pair) → at_pair n q ≡ at_pair m q
+    kept b up same =
+        kept_at (others_stay (Some b) up)
+        (λ g. ap (λ faces. at_face faces g) up.1 ∙ ap (value_of g) same ∙ ap (λ faces. at_face faces g) was)
 
-  -- a map that has what it had changes nothing
-  pub kept : UpdatesBy string_eq (λ k. bytes_eq oid (string_bytes k)) m n (Some b) → Some a ≡ get_by_text m oid → b.entries ≡ a.entries → (q : Pair) → at_pair n q ≡ at_pair m q
-  kept up was same = kept_at m n oid (others_stay (Some b) up) (λ g. ap (λ faces. at_face faces g) up.1 ∙ ap (lookup (λ k. bytes_eq g (string_bytes k))) same ∙ ap (λ faces. at_face faces g) was)
+    -- a change of the rows of an OID is one at the pair
+    pub changed : (face f : List ℕ) (w : Option X) (b : Rows X Z) → ChangesFace f w a b → f ≡ face → SetsRows m n oid (Some b)
+        → SetsPair m n (pair oid face) w
+    changed face f w b change is up =
+        changed_at (others_stay (Some b) up) face w
+        (λ g. ap (λ faces. at_face faces g) up.1
+        ∙ change g
+        ∙ ap (λ h. cond (bytes_eq h g) w (value_of g a)) is
+        ∙ ap (λ faces. cond (bytes_eq face g) w (at_face faces g)) was)
 
-  -- an empty map that goes changes nothing
-  pub emptied : UpdatesBy string_eq (λ k. bytes_eq oid (string_bytes k)) m n None → Some a ≡ get_by_text m oid → length a.entries ≡ 0 → (q : Pair) → at_pair n q ≡ at_pair m q
-  emptied up was empty = kept_at m n oid (others_stay None up) (λ g. ap (λ faces. at_face faces g) up.1 ∙ sym (nothing_in g empty) ∙ ap (λ faces. at_face faces g) was)
+  -- an OID without faces that goes changes nothing
+  pub emptied : SetsRows m n oid None → IfSome (get_by_text m oid) (λ faces. length faces ≡ 0) → (q : Pair) → at_pair n q ≡ at_pair m q
+  emptied up bare =
+      kept_at (others_stay None up) (λ g. ap (λ faces. at_face faces g) up.1 ∙ bare_at (get_by_text m oid) g bare)
 
-  module _ (face f : List ℕ) (w : Option X) (inner : UpdatesBy string_eq (λ k. bytes_eq f (string_bytes k)) a b w) (is : f ≡ face) where
-    -- a change of the map at an OID is one at the pair
-    pub changed : UpdatesBy string_eq (λ k. bytes_eq oid (string_bytes k)) m n (Some b) → Some a ≡ get_by_text m oid → (q : Pair) → at_pair n q ≡ cond (is_pair q (pair oid face)) w (at_pair m q)
-    changed up was =
-        changed_at m n oid (others_stay (Some b) up) face w
-        (λ g. ap (λ faces. at_face faces g) up.1 ∙ hash_map_updates_text f a b w inner g ∙ ap (λ h. cond (bytes_eq h g) w (get_by_text a g)) is ∙ ap (λ faces. cond (bytes_eq face g) w (at_face faces g)) was)
+  -- the first face of an OID is a change at the pair
+  pub begun : (face : List ℕ) (key : String Z) (v : X) → string_bytes key ≡ face
+      → (b : Rows X Z) → b ≡ (key, v) ∷ [] → get_by_text m oid ≡ None → SetsRows m n oid (Some b)
+      → SetsPair m n (pair oid face) (Some v)
+  begun face key v is b lone none up =
+      changed_at (others_stay _ up) face (Some v)
+      (λ g. ap (λ faces. at_face faces g) up.1
+      ∙ ap (value_of g) lone
+      ∙ ap (λ b. cond b (Some v) None) (nat_list_eq_equiv.symm g (string_bytes key))
+      ∙ ap (λ h. cond (bytes_eq h g) (Some v) None) is
+      ∙ ap (cond (bytes_eq face g) (Some v)) (sym (ap (λ faces. at_face faces g) none)))
 
-    -- a new map with one face is a change at the pair
-    pub begun : (o : List ℕ) → UpdatesBy string_eq (λ k. bytes_eq o (string_bytes k)) m n (Some b) → o ≡ oid → get_by_text m oid ≡ None → length a.entries ≡ 0 → (q : Pair) → at_pair n q ≡ cond (is_pair q (pair oid face)) w (at_pair m q)
-    begun o at one none empty =
-        let up : UpdatesBy string_eq (λ k. bytes_eq oid (string_bytes k)) m n (Some b) = subst (λ o. UpdatesBy string_eq (λ k. bytes_eq o (string_bytes k)) m n (Some b)) one at in
-        changed_at m n oid (others_stay (Some b) up) face w
-        (λ g. ap (λ faces. at_face faces g) up.1 ∙ hash_map_updates_text f a b w inner g ∙ ap (λ h. cond (bytes_eq h g) w (get_by_text a g)) is ∙ ap (cond (bytes_eq face g) w) (nothing_in g empty ∙ sym (ap (λ faces. at_face faces g) none)))
-
--- whatever was answered, what holds holds at a refusal
-pub at_refusal : {A E : Type 0} {P : Type 0} (r : Result A E) → P → OnErr r P
-at_refusal (Ok x) p = tt
-at_refusal (Err e) p = p
+-- rows that are set at a text, in a map that is another
+pub as_set : {X Y Z S : Type 0} (l m n : HashMap (String Y) (Rows X Z) S) (o oid : List ℕ) (v : Option (Rows X Z))
+    → l ≡ m → o ≡ oid → SetsRows l n o v → SetsRows m n oid v
+as_set l m n o oid v before same up = subst (λ m. SetsRows m n oid v) before (subst (λ o. SetsRows l n o v) same up)
 
 -- what follows holds where an answer is given
 pub then_ok : {A E : Type 0} {P Q : Type 0} (r : Result A E) → (P → Q) → OnOk r P → OnOk r Q

@@ -1,3 +1,4 @@
 mod Changes
 mod Reading
+mod Updates
 mod Views

@@ -1,6 +1,6 @@
--- What is read of the rows of nested maps.
-use Rattle.std.proofs.Common.{◌≡◌, ℕ, Bool, true, false, cond, ◌&&◌, ◌||◌, not, List, [], ◌∷◌, ◌++◌, Option, None, Some, refl, sym, ap, ◌∙◌, length, arith, IsTrue, ◌↔◌}
-use Rattle.std.specs.HashMap.{HashMap}
+-- What is read of the rows of all pairs.
+use Rattle.std.proofs.Common.{◌≡◌, ℕ, Bool, true, false, cond, ◌&&◌, ◌||◌, not, List, [], ◌∷◌, ◌++◌, Option, None, Some}
+use Rattle.std.proofs.Common.{refl, sym, ap, ◌∙◌, length, arith, IsTrue, ◌↔◌}
 use Rattle.std.specs.List.{list_any, IsDistinct, AllByRecursion}
 use Rattle.std.specs.Map.{lookup, keys_of}
 use Rattle.std.specs.String.{string_bytes, string_eq}
@@ -11,6 +11,7 @@ use Rattle.std.specs.FinMap.{find}
 use Rattle.table_model.specs.Pair.{Pair, pair, pair_cmp}
 use Rattle.table_model.proofs.PairLaws.{is_pair_by_texts}
 use Rattle.pair_map.specs.ByOid.{at_face, face_rows, pair_rows}
+use Rattle.pair_map.specs.Faces.{Rows, value_of}
 
 -- the first of two options that has a value
 abbrev or_else : {X : Type 0} → Option X → Option X → Option X
@@ -22,19 +23,22 @@ abbrev pub has_items : {A : Type 0} → List A → Bool
 has_items [] = false
 has_items (x ∷ xs) = true
 
--- whether a map that is there has a face
-abbrev pub has_faces : {X Z T : Type 0} → Option (HashMap (String Z) X T) → Bool
+-- whether the rows that are there have a face
+abbrev pub has_faces : {X Z : Type 0} → Option (Rows X Z) → Bool
 has_faces None = false
-has_faces (Some faces) = has_items faces.entries
+has_faces (Some faces) = has_items faces
 
 -- a text that is the first of distinct keys is none of the others
-absent : {Y B : Type 0} (text : List ℕ) (key : String Y) (es : List (String Y × B)) → bytes_eq text (string_bytes key) ≡ true → AllByRecursion (λ y. string_eq key y ≡ false) (keys_of es) → lookup (λ k. bytes_eq text (string_bytes k)) es ≡ None
+absent : {Y B : Type 0} (text : List ℕ) (key : String Y) (es : List (String Y × B)) → bytes_eq text (string_bytes key) ≡ true
+    → AllByRecursion (λ y. string_eq key y ≡ false) (keys_of es) → lookup (λ k. bytes_eq text (string_bytes k)) es ≡ None
 absent text key [] is apart = refl
 absent text key (e ∷ es) is apart =
-    let other : bytes_eq text (string_bytes e.0) ≡ false = sym (nat_list_eq_equiv.congr (string_bytes key) text (string_bytes e.0) (nat_list_eq_equiv.symm (string_bytes key) text ∙ is)) ∙ apart.0 in
+    let same = nat_list_eq_equiv.symm (string_bytes key) text ∙ is in
+    let other : bytes_eq text (string_bytes e.0) ≡ false = sym (nat_list_eq_equiv.congr (string_bytes key) text (string_bytes e.0) same) ∙ apart.0 in
     ap (λ b. cond b (Some e.1) (lookup (λ k. bytes_eq text (string_bytes k)) es)) other ∙ absent text key es is apart.1
 
-chosen : {X : Type 0} (a b : Bool) (x : X) (found rest : Option X) → cond (a && b) (Some x) (cond a (or_else found rest) rest) ≡ cond a (or_else (cond b (Some x) found) rest) rest
+chosen : {X : Type 0} (a b : Bool) (x : X) (found rest : Option X)
+    → cond (a && b) (Some x) (cond a (or_else found rest) rest) ≡ cond a (or_else (cond b (Some x) found) rest) rest
 chosen true true x found rest = refl
 chosen true false x found rest = refl
 chosen false b x found rest = refl
@@ -44,8 +48,9 @@ none_first true rest = refl
 none_first false rest = refl
 
 -- of the rows of one OID and others, the first that fits is found
-found_face : {X Z : Type 0} (oid : List ℕ) (q : Pair) (faces : List (String Z × X)) (rest : List (Pair × X))
-    → find pair_cmp q (face_rows oid faces ++ rest) ≡ cond (bytes_eq q.oid oid) (or_else (lookup (λ k. bytes_eq q.face (string_bytes k)) faces) (find pair_cmp q rest)) (find pair_cmp q rest)
+found_face : {X Z : Type 0} (oid : List ℕ) (q : Pair) (faces : Rows X Z) (rest : List (Pair × X))
+    → find pair_cmp q (face_rows oid faces ++ rest)
+    ≡ cond (bytes_eq q.oid oid) (or_else (value_of q.face faces) (find pair_cmp q rest)) (find pair_cmp q rest)
 found_face oid q [] rest = none_first (bytes_eq q.oid oid) (find pair_cmp q rest)
 found_face oid q (f ∷ faces) rest =
     ap (λ b. cond b (Some f.1) (find pair_cmp q (face_rows oid faces ++ rest))) (is_pair_by_texts q (pair oid (string_bytes f.0)))
@@ -69,35 +74,40 @@ or_false true = refl
 or_false false = refl
 
 -- of the rows of one OID and others, some have an OID
-any_face : {X Z : Type 0} (oid other : List ℕ) (faces : List (String Z × X)) (rest : List (Pair × X))
-    → list_any (λ row. bytes_eq oid row.0.oid) (face_rows other faces ++ rest) ≡ ((bytes_eq oid other && has_items faces) || list_any (λ row. bytes_eq oid row.0.oid) rest)
+any_face : {X Z : Type 0} (oid other : List ℕ) (faces : Rows X Z) (rest : List (Pair × X))
+    → list_any (λ row. bytes_eq oid row.0.oid) (face_rows other faces ++ rest)
+    ≡ ((bytes_eq oid other && has_items faces) || list_any (λ row. bytes_eq oid row.0.oid) rest)
 any_face oid other [] rest = no_more (bytes_eq oid other) _
 any_face oid other (f ∷ faces) rest = ap (λ b. bytes_eq oid other || b) (any_face oid other faces rest) ∙ one_more (bytes_eq oid other) (has_items faces) _
 
-module _ {X Y Z T : Type 0} where
+module _ {X Y Z : Type 0} where
   -- what is found in the rows is what the maps have
-  pub found_rows : (q : Pair) (es : List (String Y × HashMap (String Z) X T)) → IsDistinct string_eq (keys_of es) → find pair_cmp q (pair_rows es) ≡ at_face (lookup (λ k. bytes_eq q.oid (string_bytes k)) es) q.face
+  pub found_rows : (q : Pair) (es : List (String Y × Rows X Z)) → IsDistinct string_eq (keys_of es)
+      → find pair_cmp q (pair_rows es) ≡ at_face (lookup (λ k. bytes_eq q.oid (string_bytes k)) es) q.face
   unfolding IsDistinct
   found_rows q [] d = refl
   found_rows q (e ∷ es) d =
       let rest = found_rows q es d.1 in
-      found_face (string_bytes e.0) q e.1.entries (pair_rows es)
+      found_face (string_bytes e.0) q e.1 (pair_rows es)
       ∙ elim (bytes_eq q.oid (string_bytes e.0)) as (λ a. bytes_eq q.oid (string_bytes e.0) ≡ a
-      → cond a (or_else (lookup (λ k. bytes_eq q.face (string_bytes k)) e.1.entries) (find pair_cmp q (pair_rows es))) (find pair_cmp q (pair_rows es)) ≡ at_face (cond a (Some e.1) (lookup (λ k. bytes_eq q.oid (string_bytes k)) es)) q.face) [
-        | true ↦ λ is. ap (or_else (lookup (λ k. bytes_eq q.face (string_bytes k)) e.1.entries)) (rest ∙ ap (λ faces. at_face faces q.face) (absent q.oid e.0 es is d.0)) ∙ or_none _
+      → cond a (or_else (value_of q.face e.1) (find pair_cmp q (pair_rows es))) (find pair_cmp q (pair_rows es))
+      ≡ at_face (cond a (Some e.1) (lookup (λ k. bytes_eq q.oid (string_bytes k)) es)) q.face) [
+        | true ↦ λ is. ap (or_else (value_of q.face e.1)) (rest ∙ ap (λ faces. at_face faces q.face) (absent q.oid e.0 es is d.0)) ∙ or_none _
         | false ↦ λ is. rest
       ] refl
 
   -- a row has an OID where the map at the OID has a face
-  pub any_row : (oid : List ℕ) (es : List (String Y × HashMap (String Z) X T)) → IsDistinct string_eq (keys_of es) → list_any (λ row. bytes_eq oid row.0.oid) (pair_rows es) ≡ has_faces (lookup (λ k. bytes_eq oid (string_bytes k)) es)
+  pub any_row : (oid : List ℕ) (es : List (String Y × Rows X Z)) → IsDistinct string_eq (keys_of es)
+      → list_any (λ row. bytes_eq oid row.0.oid) (pair_rows es) ≡ has_faces (lookup (λ k. bytes_eq oid (string_bytes k)) es)
   unfolding IsDistinct
   any_row oid [] d = refl
   any_row oid (e ∷ es) d =
       let rest = any_row oid es d.1 in
-      any_face oid (string_bytes e.0) e.1.entries (pair_rows es)
+      any_face oid (string_bytes e.0) e.1 (pair_rows es)
       ∙ elim (bytes_eq oid (string_bytes e.0)) as (λ a. bytes_eq oid (string_bytes e.0) ≡ a
-      → ((a && has_items e.1.entries) || list_any (λ row. bytes_eq oid row.0.oid) (pair_rows es)) ≡ has_faces (cond a (Some e.1) (lookup (λ k. bytes_eq oid (string_bytes k)) es))) [
-        | true ↦ λ is. ap (λ b. has_items e.1.entries || b) (rest ∙ ap has_faces (absent oid e.0 es is d.0)) ∙ or_false (has_items e.1.entries)
+      → ((a && has_items e.1) || list_any (λ row. bytes_eq oid row.0.oid) (pair_rows es))
+      ≡ has_faces (cond a (Some e.1) (lookup (λ k. bytes_eq oid (string_bytes k)) es))) [
+        | true ↦ λ is. ap (λ b. has_items e.1 || b) (rest ∙ ap has_faces (absent oid e.0 es is d.0)) ∙ or_false (has_items e.1)
         | false ↦ λ is. rest
       ] refl
 

@@ -1,4 +1,4 @@
--- Nested maps as rows in order, before and after a change.
+-- The map of pairs as rows in order, before and after a change.
 use Rattle.std.proofs.Common.{◌≡◌, ℕ, cond, List, Option, None, Some, sym, ap, ◌∙◌}
 use Rattle.std.specs.HashMap.{HashMap, IsUnique}
 use Rattle.std.specs.List.{list_any}
@@ -11,33 +11,50 @@ use Rattle.table_model.specs.Rows.{in_order, without}
 use Rattle.table_model.proofs.PairLaws.{pair_order, same_pair}
 use Rattle.table_model.proofs.RowLaws.{found_in_order, in_order_put, in_order_without, in_order_same, any_in_order}
 use Rattle.pair_map.specs.ByOid.{at_pair, pair_rows}
+use Rattle.pair_map.specs.Faces.{Rows}
 use Rattle.pair_map.proofs.Reading.{found_rows}
 
 -- pairs of the same texts are the same
 pub same_texts : {a b x y : List ℕ} → a ≡ b → x ≡ y → pair a x ≡ pair b y
 same_texts e f = λ i. record { oid = e i; face = f i }
 
-module _ {X Y Z S T : Type 0} (m : HashMap (String Y) (HashMap (String Z) X T) S) (unique : IsUnique string_eq m) (rows : List (Pair × X)) (is : in_order pair_cmp (pair_rows m.entries) ≡ rows) (p q : Pair) (same : p ≡ q) where
+module _ {X Y Z S : Type 0} (m : HashMap (String Y) (Rows X Z) S) (unique : IsUnique string_eq m) (rows : List (Pair × X))
+    (is : in_order pair_cmp (pair_rows m.entries) ≡ rows) (p q : Pair) (same : p ≡ q) where
   -- what the maps have at a pair is found in the rows
   pub found_at : at_pair m p ≡ find pair_cmp q rows
   found_at = sym (found_rows p m.entries unique) ∙ sym (found_in_order pair_order p (pair_rows m.entries)) ∙ (λ i. find pair_cmp (same i) (is i))
 
-  module _ (n : HashMap (String Y) (HashMap (String Z) X T) S) (unique_after : IsUnique string_eq n) where
-    found_after : (w : Option X) → ((r : Pair) → at_pair n r ≡ cond (is_pair r p) w (at_pair m r)) → (r : Pair) → find pair_cmp r (pair_rows n.entries) ≡ cond (is_pair r p) w (find pair_cmp r (pair_rows m.entries))
-    found_after w change r = found_rows r n.entries unique_after ∙ change r ∙ ap (cond (is_pair r p) w) (sym (found_rows r m.entries unique))
+  module _ (n : HashMap (String Y) (Rows X Z) S) (unique_after : IsUnique string_eq n) where
+    found_after : (w : Option X) → ((r : Pair) → at_pair n r ≡ cond (is_pair r p) w (at_pair m r))
+        → (r : Pair) → find pair_cmp r (pair_rows n.entries) ≡ cond (is_pair r p) w (find pair_cmp r (pair_rows m.entries))
+    found_after w change r =
+        found_rows r n.entries unique_after ∙ change r ∙ ap (cond (is_pair r p) w) (sym (found_rows r m.entries unique))
 
     -- a value put at a pair is put in the rows
-    pub put_at : (v : X) → ((r : Pair) → at_pair n r ≡ cond (is_pair r p) (Some v) (at_pair m r)) → in_order pair_cmp (pair_rows n.entries) ≡ put pair_cmp q v rows
-    put_at v change = in_order_put pair_order same_pair (pair_rows m.entries) (pair_rows n.entries) p v (found_after (Some v) change) ∙ (λ i. put pair_cmp (same i) v (is i))
+    pub put_at : (v : X) → ((r : Pair) → at_pair n r ≡ cond (is_pair r p) (Some v) (at_pair m r))
+        → in_order pair_cmp (pair_rows n.entries) ≡ put pair_cmp q v rows
+    put_at v change =
+        in_order_put pair_order same_pair (pair_rows m.entries) (pair_rows n.entries) p v (found_after (Some v) change)
+        ∙ (λ i. put pair_cmp (same i) v (is i))
 
     -- a pair without a value is without a row
-    pub without_at : ((r : Pair) → at_pair n r ≡ cond (is_pair r p) None (at_pair m r)) → in_order pair_cmp (pair_rows n.entries) ≡ without pair_cmp q rows
-    without_at change = in_order_without pair_order same_pair (pair_rows m.entries) (pair_rows n.entries) p (found_after None change) ∙ (λ i. without pair_cmp (same i) (is i))
+    pub without_at : ((r : Pair) → at_pair n r ≡ cond (is_pair r p) None (at_pair m r))
+        → in_order pair_cmp (pair_rows n.entries) ≡ without pair_cmp q rows
+    without_at change =
+        in_order_without pair_order same_pair (pair_rows m.entries) (pair_rows n.entries) p (found_after None change)
+        ∙ (λ i. without pair_cmp (same i) (is i))
 
     -- maps that have the same have the same rows
     pub same_at : ((r : Pair) → at_pair n r ≡ at_pair m r) → in_order pair_cmp (pair_rows n.entries) ≡ rows
-    same_at change = in_order_same pair_order same_pair (pair_rows m.entries) (pair_rows n.entries) (λ r. found_rows r n.entries unique_after ∙ change r ∙ sym (found_rows r m.entries unique)) ∙ is
+    same_at change =
+        in_order_same pair_order same_pair (pair_rows m.entries) (pair_rows n.entries)
+        (λ r. found_rows r n.entries unique_after ∙ change r ∙ sym (found_rows r m.entries unique))
+        ∙ is
 
 -- whether a row has an OID
-pub any_at : {X Y Z S T : Type 0} (m : HashMap (String Y) (HashMap (String Z) X T) S) (rows : List (Pair × X)) → in_order pair_cmp (pair_rows m.entries) ≡ rows → (o oid : List ℕ) → o ≡ oid → list_any (λ row. bytes_eq o row.0.oid) (pair_rows m.entries) ≡ list_any (λ row. bytes_eq oid row.0.oid) rows
-any_at m rows is o oid same = any_in_order same_pair (λ p. bytes_eq o p.oid) (pair_rows m.entries) ∙ (λ i. list_any (λ row. bytes_eq (same i) row.0.oid) (is i))
+pub any_at : {X Y Z S : Type 0} (m : HashMap (String Y) (Rows X Z) S) (rows : List (Pair × X))
+    → in_order pair_cmp (pair_rows m.entries) ≡ rows → (o oid : List ℕ) → o ≡ oid
+    → list_any (λ row. bytes_eq o row.0.oid) (pair_rows m.entries) ≡ list_any (λ row. bytes_eq oid row.0.oid) rows
+any_at m rows is o oid same =
+    any_in_order same_pair (λ p. bytes_eq o p.oid) (pair_rows m.entries)
+    ∙ (λ i. list_any (λ row. bytes_eq (same i) row.0.oid) (is i))

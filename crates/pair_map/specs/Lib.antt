@@ -1,1 +1,3 @@
 pub mod ByOid
+pub mod Faces
+pub mod Layout

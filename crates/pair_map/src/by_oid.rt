@@ -1,5 +1,5 @@
-//! Nested maps, from OIDs to maps from faces, read and changed at one pair.
-ghost use Rattle.std.specs.Prelude.{◌≡◌, None, Some, cond, OnOk, OnErr, IsSome, option_copied};
+//! A map from OIDs to the faces of each, read and changed at one pair.
+ghost use Rattle.std.specs.Prelude.{◌≡◌, None, Some, cond, OnOk, OnErr, IsSome, IfSome, IsTrue, length, option_copied};
 ghost use Rattle.indexmap.specs.IndexMap.{IsUnique};
 ghost use Rattle.std.specs.HashMap.{get_by_text};
 ghost use Rattle.std.specs.List.{list_any};
@@ -8,13 +8,13 @@ ghost use Rattle.std.specs.String.{string_eq};
 ghost use Rattle.table_model.specs.Pair.{Pair, pair, is_pair};
 ghost use Rattle.pair_map.specs.ByOid.{at_pair, pair_rows};
 
+use crate::faces::Faces;
 use indexmap::IndexMap;
 use std::alloc::Global;
-use std::mem;
 use uno_base::NoMemory;
 
-/// Maps from faces, each at its OID.
-pub type ByOid<V> = IndexMap<String, IndexMap<String, V>>;
+/// Faces, each at its OID.
+pub type ByOid<V> = IndexMap<String, Faces<V>>;
 
 /// The value at a pair.
 pub fn at_pair<'a, V>(by_oid: &'a ByOid<V>, oid: &str, face: &str) -> Option<&'a V>
@@ -47,54 +47,12 @@ pub fn insert<V: Drop>(
     ensures kept { OnErr result ((q : Pair) → at_pair by_oid.new q ≡ at_pair by_oid.old q) }
     ensures unique { IsUnique string_eq by_oid.new }
 {
-    if by_oid.contains_key(oid) {
-        insert_face(alloc, by_oid, oid, face, value)
-    } else {
-        insert_oid(alloc, by_oid, oid, face, value)
+    let face = String::from_str(alloc, face)?;
+    if let Some(faces) = by_oid.get_mut(oid) {
+        return faces.insert(alloc, face, value);
     }
-}
-
-/// Puts a value at a pair whose OID is there.
-fn insert_face<V: Drop>(
-    alloc: Global,
-    by_oid: &mut ByOid<V>,
-    oid: &str,
-    face: &str,
-    value: V,
-) -> Result<(), NoMemory>
-    requires there { IsSome (get_by_text by_oid.old oid.now) }
-    requires unique { IsUnique string_eq by_oid.old }
-    ensures put { OnOk result ((q : Pair) → at_pair by_oid.new q ≡ cond (is_pair q (pair oid.now face.now)) (Some value) (at_pair by_oid.old q)) }
-    ensures kept { OnErr result ((q : Pair) → at_pair by_oid.new q ≡ at_pair by_oid.old q) }
-    ensures unique { IsUnique string_eq by_oid.new }
-{
-    let key = String::from_str(alloc, face)?;
-    let Some(faces) = by_oid.get_mut(oid) else {
-        unreachable!()
-    };
-    faces.insert(key, value)?;
-    Ok(())
-}
-
-/// Puts a value at a pair whose OID is not there.
-fn insert_oid<V: Drop>(
-    alloc: Global,
-    by_oid: &mut ByOid<V>,
-    oid: &str,
-    face: &str,
-    value: V,
-) -> Result<(), NoMemory>
-    requires absent { get_by_text by_oid.old oid.now ≡ None }
-    requires unique { IsUnique string_eq by_oid.old }
-    ensures put { OnOk result ((q : Pair) → at_pair by_oid.new q ≡ cond (is_pair q (pair oid.now face.now)) (Some value) (at_pair by_oid.old q)) }
-    ensures kept { OnErr result ((q : Pair) → at_pair by_oid.new q ≡ at_pair by_oid.old q) }
-    ensures unique { IsUnique string_eq by_oid.new }
-{
-    let oid_key = String::from_str(alloc, oid)?;
-    let face_key = String::from_str(alloc, face)?;
-    let mut faces = IndexMap::new(alloc);
-    faces.insert(face_key, value)?;
-    by_oid.insert(oid_key, faces)?;
+    let oid = String::from_str(alloc, oid)?;
+    by_oid.insert(oid, Faces::lone(face, value))?;
     Ok(())
 }
 
@@ -108,36 +66,44 @@ pub fn replace<V>(by_oid: &mut ByOid<V>, oid: &str, face: &str, value: V) -> V
     let Some(faces) = by_oid.get_mut(oid) else {
         unreachable!()
     };
-    let Some(place) = faces.get_mut(face) else {
-        unreachable!()
-    };
-    mem::replace(place, value)
+    faces.replace(face, value)
 }
 
 /// Takes out the value at a pair.
-pub fn remove<V>(by_oid: &mut ByOid<V>, oid: &str, face: &str) -> V
+pub fn remove<V: Drop>(by_oid: &mut ByOid<V>, oid: &str, face: &str) -> V
     requires { IsSome (at_pair by_oid.old (pair oid.now face.now)) }
     ensures was { Some result ≡ at_pair by_oid.old (pair oid.now face.now) }
     ensures without { (q : Pair) → at_pair by_oid.new q ≡ cond (is_pair q (pair oid.now face.now)) None (at_pair by_oid.old q) }
     ensures unique { IsUnique string_eq by_oid.new }
 {
-    let Some(faces) = by_oid.get_mut(oid) else {
-        unreachable!()
-    };
-    let Some(value) = faces.swap_remove(face) else {
-        unreachable!()
-    };
+    let (value, bare) = take(by_oid, oid, face);
+    if bare {
+        drop_bare(by_oid, oid);
+    }
     value
 }
 
-/// Takes out the map at an OID where it is empty.
-pub fn drop_empty<V: Drop>(by_oid: &mut ByOid<V>, oid: &str)
-    requires { IsUnique string_eq by_oid.old }
+/// Takes out the value at a pair, and tells whether its OID has no face left.
+fn take<V: Drop>(by_oid: &mut ByOid<V>, oid: &str, face: &str) -> (V, bool)
+    requires { IsSome (at_pair by_oid.old (pair oid.now face.now)) }
+    ensures was { Some result.0 ≡ at_pair by_oid.old (pair oid.now face.now) }
+    ensures without { (q : Pair) → at_pair by_oid.new q ≡ cond (is_pair q (pair oid.now face.now)) None (at_pair by_oid.old q) }
+    ensures bare { IsTrue result.1 → IfSome (get_by_text by_oid.new oid.now) (λ faces. length faces ≡ 0) }
+    ensures unique { IsUnique string_eq by_oid.new }
+{
+    let Some(faces) = by_oid.get_mut(oid) else {
+        unreachable!()
+    };
+    let value = faces.remove(face);
+    let bare = faces.is_empty();
+    (value, bare)
+}
+
+/// Takes out an OID that has no face.
+fn drop_bare<V: Drop>(by_oid: &mut ByOid<V>, oid: &str)
+    requires { IfSome (get_by_text by_oid.old oid.now) (λ faces. length faces ≡ 0) }
     ensures kept { (q : Pair) → at_pair by_oid.new q ≡ at_pair by_oid.old q }
     ensures unique { IsUnique string_eq by_oid.new }
 {
-    let Some(faces) = by_oid.get(oid) else { return };
-    if faces.is_empty() {
-        by_oid.swap_remove(oid);
-    }
+    by_oid.swap_remove(oid);
 }

@@ -2,6 +2,7 @@
 #![tactic(auto)]
 
 mod by_oid;
+mod faces;
 mod pair_map;
 
 pub use pair_map::PairMap;

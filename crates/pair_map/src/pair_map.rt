@@ -92,8 +92,6 @@ impl<V: Drop> PairMap<V> {
         ensures was { Some result ≡ find pair_cmp (pair oid.now face.now) self.old }
         ensures without { self.new ≡ without pair_cmp (pair oid.now face.now) self.old }
     {
-        let value = by_oid::remove(&mut self.by_oid, oid.as_str(), face.as_str());
-        by_oid::drop_empty(&mut self.by_oid, oid.as_str());
-        value
+        by_oid::remove(&mut self.by_oid, oid.as_str(), face.as_str())
     }
 }

@@ -6,7 +6,11 @@ pub replace-requires : goal.replace-requires
 replace-requires c = some_after _ c.args.pairs.now _ c.replace-holders.new.self c.replace-holders.ensures.put
 
 pub returns-clause-held : goal.returns-clause-held
-returns-clause-held c = held_again c.args.holder _ c.args.pairs.now c.replace-holders.new.self c.replace.new.self c.replace-holders.result c.hold-held.new.self c.replace-holders.ensures.was (search rules) c.hold-held.result c.replace.ensures.put c.hold-held.ensures.held
+returns-clause-held c =
+    held_again c.args.holder _ c.args.pairs.now c.replace-holders.new.self c.replace.new.self c.replace-holders.result c.hold-held.new.self
+    c.replace-holders.ensures.was (search rules) c.hold-held.result c.replace.ensures.put c.hold-held.ensures.held
 
 pub returns-clause-kept : goal.returns-clause-kept
-returns-clause-kept c = kept_again c.args.holder _ c.args.pairs.now c.replace-holders.new.self c.replace.new.self c.replace-holders.result c.hold-held.new.self c.replace-holders.ensures.was (search rules) c.hold-held.result c.get.ensures.rises c.replace.ensures.put c.hold-held.ensures.kept
+returns-clause-kept c =
+    kept_again c.args.holder _ c.args.pairs.now c.replace-holders.new.self c.replace.new.self c.replace-holders.result c.hold-held.new.self
+    c.replace-holders.ensures.was (search rules) c.hold-held.result c.get.ensures.rises c.replace.ensures.put c.hold-held.ensures.kept

@@ -12,13 +12,21 @@ pub let_go-requires : goal.let_go-requires
 let_go-requires c = there_in c.args.holder _ _ c.replace-holders.ensures.was c.requires
 
 pub returns-then-number-eq0-clause-last : goal.returns-then-number-eq0-clause-last
-returns-then-number-eq0-clause-last c = last_told _ _ (left_of c.args.holder c.replace-holders.result c.let_go.new.self _ c.replace-holders.ensures.was c.let_go.ensures c.requires) (sym c.number.ensures ∙ c.if-number-eq0.true)
+returns-then-number-eq0-clause-last c =
+    let left = left_of c.args.holder c.replace-holders.result c.let_go.new.self _ c.replace-holders.ensures.was c.let_go.ensures c.requires in
+    last_told _ _ left (sym c.number.ensures ∙ c.if-number-eq0.true)
 
 pub returns-clause-last : goal.returns-clause-last
-returns-clause-last c = others_told _ _ (left_of c.args.holder c.replace-holders.result c.let_go.new.self _ c.replace-holders.ensures.was c.let_go.ensures c.requires) (λ none. c.if-number-eq0.false (c.number.ensures ∙ none))
+returns-clause-last c =
+    let left = left_of c.args.holder c.replace-holders.result c.let_go.new.self _ c.replace-holders.ensures.was c.let_go.ensures c.requires in
+    others_told _ _ left (λ none. c.if-number-eq0.false (c.number.ensures ∙ none))
 
 pub returns-then-number-eq0-clause-gone : goal.returns-then-number-eq0-clause-gone
-returns-then-number-eq0-clause-gone c = gone_with_last c.args.holder _ c.args.pairs.now c.replace-holders.new.self c.remove.new.self c.replace-holders.result c.let_go.new.self c.replace-holders.ensures.was (search rules) c.let_go.ensures (sym c.number.ensures ∙ c.if-number-eq0.true) c.remove.ensures.without
+returns-then-number-eq0-clause-gone c =
+    gone_with_last c.args.holder _ c.args.pairs.now c.replace-holders.new.self c.remove.new.self c.replace-holders.result c.let_go.new.self
+    c.replace-holders.ensures.was (search rules) c.let_go.ensures (sym c.number.ensures ∙ c.if-number-eq0.true) c.remove.ensures.without
 
 pub returns-clause-gone : goal.returns-clause-gone
-returns-clause-gone c = gone_with_others c.args.holder _ c.args.pairs.now c.replace-holders.new.self c.replace.new.self c.replace-holders.result c.let_go.new.self c.replace-holders.ensures.was (search rules) c.let_go.ensures (λ none. c.if-number-eq0.false (c.number.ensures ∙ none)) c.replace.ensures.put
+returns-clause-gone c =
+    gone_with_others c.args.holder _ c.args.pairs.now c.replace-holders.new.self c.replace.new.self c.replace-holders.result c.let_go.new.self
+    c.replace-holders.ensures.was (search rules) c.let_go.ensures (λ none. c.if-number-eq0.false (c.number.ensures ∙ none)) c.replace.ensures.put

@@ -1,8 +1,5 @@
-use Rattle.std.proofs.Common.{rules, refl, None}
-use Rattle.pair_map.proofs.Changes.{changed}
+use Rattle.std.proofs.Common.{◌∙◌}
 use Rattle.pair_map.proofs.by_oid.remove.Goals as goal
 
-pub returns-clause-without : goal.returns-clause-without
-returns-clause-without g c =
-    let faces = c.swap_remove.new.self in
-    changed c.args.by_oid.now (c.get_mut.follows.lender faces) c.args.oid.now c.in-Some.faces.now faces c.args.face.now c.args.face.now None c.swap_remove.ensures.updates refl ((c.get_mut.follows.holds faces).3 (search rules)) c.in-Some.ensures.value
+pub returns-then-bare-clause-without : goal.returns-then-bare-clause-without
+returns-then-bare-clause-without g c q = c.drop_bare.ensures.kept q ∙ c.take-value.ensures.without q

@@ -10,16 +10,20 @@ pub let_go-requires : goal.let_go-requires
 let_go-requires c = let times = c.times.ensures.times in omega arith
 
 pub returns-then-times-eq0-clause-answer : goal.returns-then-times-eq0-clause-answer
-returns-then-times-eq0-clause-answer c = refused _ _ (sym (times_are c.self.inside.pairs c.times.ensures.rises c.args.self.now c.self.view_is _ _ c.args.holder c.times.ensures.times) ∙ c.if-times-eq0.true)
+returns-then-times-eq0-clause-answer c =
+    let times = times_are c.self.inside.pairs c.times.ensures.rises c.args.self.now c.self.view_is _ _ c.args.holder c.times.ensures.times in
+    refused _ _ (sym times ∙ c.if-times-eq0.true)
 
 pub returns-then-times-eq0-clause-gone : goal.returns-then-times-eq0-clause-gone
 returns-then-times-eq0-clause-gone c =
-    sym (one_less_none hold_order _ c.args.self.now (sym (times_are c.self.inside.pairs c.times.ensures.rises c.args.self.now c.self.view_is _ _ c.args.holder c.times.ensures.times) ∙ c.if-times-eq0.true))
+    let times = times_are c.self.inside.pairs c.times.ensures.rises c.args.self.now c.self.view_is _ _ c.args.holder c.times.ensures.times in
+    sym (one_less_none hold_order _ c.args.self.now (sym times ∙ c.if-times-eq0.true))
 
 pub returns-clause-answer : goal.returns-clause-answer
 returns-clause-answer c =
     let times = times_are c.self.inside.pairs c.times.ensures.rises c.args.self.now c.self.view_is _ _ c.args.holder c.times.ensures.times in
-    answered _ _ _ (omega (arith, times)) (c.let_go.ensures.last ∙ ap (λ n. nat_eq n 1) (holders_are c.self.inside.pairs c.times.ensures.rises c.args.self.now c.self.view_is _ _ refl))
+    answered _ _ _ (omega (arith, times))
+    (c.let_go.ensures.last ∙ ap (λ n. nat_eq n 1) (holders_are c.self.inside.pairs c.times.ensures.rises c.args.self.now c.self.view_is _ _ refl))
 
 pub returns-clause-gone : goal.returns-clause-gone
 returns-clause-gone c =

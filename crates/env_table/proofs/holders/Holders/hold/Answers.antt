@@ -12,11 +12,13 @@ overflow_add-times c =
 
 pub invariant_of-self-2 : goal.invariant_of-self-2
 invariant_of-self-2 c =
-    let more = bag_more c.self.inside.times c.self.invariant.0 c.args.self.now c.self.view_is c.args.holder c.insert.new.self c.in_ok-insert.ensures.unique c.times-times.result c.times-times.ensures c.in_ok-insert.ensures.updates in
+    let more = bag_more c.self.inside.times c.self.invariant.0 c.args.self.now c.self.view_is c.args.holder
+    c.set.new.self c.set.ensures.distinct c.times-times.result c.times-times.ensures c.in_ok-set.ensures.set in
     let longer = ap length more ∙ length_one_more holder_cmp c.args.holder c.args.self.now in
     let was = c.self.invariant.1 ∙ ap length c.self.view_is in
-    (c.in_ok-insert.ensures.unique, omega (arith, longer, was))
+    (c.set.ensures.distinct, omega (arith, longer, was))
 
 pub returns-clause-held : goal.returns-clause-held
 returns-clause-held c =
-    bag_more c.self.inside.times c.self.invariant.0 c.args.self.now c.self.view_is c.args.holder c.insert.new.self c.in_ok-insert.ensures.unique c.times-times.result c.times-times.ensures c.in_ok-insert.ensures.updates
+    bag_more c.self.inside.times c.self.invariant.0 c.args.self.now c.self.view_is c.args.holder
+    c.set.new.self c.set.ensures.distinct c.times-times.result c.times-times.ensures c.in_ok-set.ensures.set

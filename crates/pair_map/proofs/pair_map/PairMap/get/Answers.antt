@@ -9,7 +9,9 @@ use Rattle.pair_map.proofs.Views.{found_at, same_texts}
 use Rattle.pair_map.proofs.pair_map.PairMap.get.Goals as goal
 
 pub returns-clause-found : goal.returns-clause-found
-returns-clause-found g c = c.at_pair.ensures ∙ found_at c.self.inside.by_oid c.self.invariant c.args.self.now c.self.view_is _ _ (same_texts c.as_str.ensures c.as_str-2.ensures)
+returns-clause-found g c =
+    let same = same_texts c.as_str.ensures c.as_str-2.ensures in
+    c.at_pair.ensures ∙ found_at c.self.inside.by_oid c.self.invariant c.args.self.now c.self.view_is _ _ same
 
 pub returns-clause-rises : goal.returns-clause-rises
 returns-clause-rises g c = subst (λ rows. T (is_sorted pair_cmp rows)) c.self.view_is (in_order_rises pair_order (pair_rows c.self.inside.by_oid.entries))

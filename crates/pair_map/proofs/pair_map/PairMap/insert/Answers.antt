@@ -4,8 +4,14 @@ use Rattle.pair_map.proofs.pair_map.PairMap.insert.Goals as goal
 
 pub returns-clause-put : goal.returns-clause-put
 returns-clause-put g c =
-    then_ok c.insert.result (put_at c.self.inside.by_oid c.self.invariant c.args.self.now c.self.view_is _ _ (same_texts c.as_str.ensures c.as_str-2.ensures) c.insert.new.by_oid c.insert.ensures.unique c.args.value) c.insert.ensures.put
+    let same = same_texts c.as_str.ensures c.as_str-2.ensures in
+    then_ok c.insert.result
+    (put_at c.self.inside.by_oid c.self.invariant c.args.self.now c.self.view_is _ _ same c.insert.new.by_oid c.insert.ensures.unique c.args.value)
+    c.insert.ensures.put
 
 pub returns-clause-kept : goal.returns-clause-kept
 returns-clause-kept g c =
-    then_err c.insert.result (same_at c.self.inside.by_oid c.self.invariant c.args.self.now c.self.view_is _ _ (same_texts c.as_str.ensures c.as_str-2.ensures) c.insert.new.by_oid c.insert.ensures.unique) c.insert.ensures.kept
+    let same = same_texts c.as_str.ensures c.as_str-2.ensures in
+    then_err c.insert.result
+    (same_at c.self.inside.by_oid c.self.invariant c.args.self.now c.self.view_is _ _ same c.insert.new.by_oid c.insert.ensures.unique)
+    c.insert.ensures.kept
