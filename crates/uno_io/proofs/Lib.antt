@@ -1,3 +1,4 @@
+pub mod Finding
 pub mod Pieces
 pub mod Portions
 pub mod Rounds
