@@ -1,0 +1,46 @@
+-- How the tokens of a line are written one after the other.
+use Rattle.std.specs.Prelude.{ℕ, Bool, List, [], ◌∷◌, ◌++◌, map, codes}
+use Rattle.std.specs.Borrow.{Bor}
+use Rattle.std.specs.List.{flat_map}
+use Rattle.uno_model.specs.Entities.{Body}
+use Rattle.uno_model.specs.Kinds.{Kind}
+use Rattle.uno_model.specs.Kinds as kd
+use Rattle.registry_text_model.specs.Canonical.{kind_tokens, published_flag, declaration}
+
+-- tokens that are lent
+abbrev pub tokens_at : List (Bor (List ℕ)) → List (List ℕ)
+tokens_at tokens = map (λ t. t.now) tokens
+
+-- each token, and a blank
+unfoldable pub followed : List (List ℕ) → List ℕ
+followed tokens = flat_map (λ t. t ++ 32 ∷ []) tokens
+
+-- what stands before the type below all sequences, and behind it
+unfoldable pub opening : Kind → List (List ℕ)
+opening (kd.sequence k) = codes "sequence" ∷ (codes "<" ∷ opening k)
+opening k = []
+
+unfoldable pub closing : Kind → List (List ℕ)
+closing (kd.sequence k) = codes ">" ∷ closing k
+closing k = []
+
+-- a type that is no sequence
+unfoldable pub word_tokens : Kind → List (List ℕ)
+word_tokens (kd.sequence k) = []
+word_tokens k = kind_tokens k
+
+-- the modules round the last of the parts of a name: opened, and closed
+unfoldable pub opened : List (List ℕ) → List (List ℕ)
+opened [] = []
+opened (id ∷ []) = []
+opened (m ∷ (n ∷ ns)) = codes "module" ∷ (m ∷ (codes "{" ∷ opened (n ∷ ns)))
+
+unfoldable pub closed : List (List ℕ) → List (List ℕ)
+closed [] = []
+closed (id ∷ []) = []
+closed (m ∷ (n ∷ ns)) = codes ";" ∷ (codes "}" ∷ closed (n ∷ ns))
+
+unfoldable pub last_part : List (List ℕ) → List ℕ
+last_part [] = []
+last_part (id ∷ []) = id
+last_part (m ∷ (n ∷ ns)) = last_part (n ∷ ns)
