@@ -1,5 +1,6 @@
 -- How the tokens of a line are written one after the other.
-use Rattle.std.specs.Prelude.{ℕ, Bool, List, [], ◌∷◌, ◌++◌, map, codes}
+use Rattle.std.specs.Prelude.{ℕ, ℤ, Bool, List, [], ◌∷◌, ◌++◌, map, codes, Option, None, Some, if◌then◌else◌}
+use Rattle.std.specs.Int.{is_negative}
 use Rattle.std.specs.Borrow.{Bor}
 use Rattle.std.specs.List.{flat_map}
 use Rattle.uno_model.specs.Entities.{Body}
@@ -15,6 +16,11 @@ tokens_at tokens = map (λ t. t.now) tokens
 unfoldable pub followed : List (List ℕ) → List ℕ
 followed tokens = flat_map (λ t. t ++ 32 ∷ []) tokens
 
+-- the elements of a sequence
+abbrev pub element_of : Kind → Option Kind
+element_of (kd.sequence k) = Some k
+element_of k = None
+
 -- what stands before the type below all sequences, and behind it
 unfoldable pub opening : Kind → List (List ℕ)
 opening (kd.sequence k) = codes "sequence" ∷ (codes "<" ∷ opening k)
@@ -28,6 +34,10 @@ closing k = []
 unfoldable pub word_tokens : Kind → List (List ℕ)
 word_tokens (kd.sequence k) = []
 word_tokens k = kind_tokens k
+
+-- the sign of a negative number
+unfoldable pub sign_tokens : ℤ → List (List ℕ)
+sign_tokens n = if is_negative n then codes "-" ∷ [] else []
 
 -- the modules round the last of the parts of a name: opened, and closed
 unfoldable pub opened : List (List ℕ) → List (List ℕ)

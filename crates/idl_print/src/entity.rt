@@ -15,6 +15,7 @@ use std::alloc::Global;
 use uno_base::NoMemory;
 use uno_types::{Base, Body, Constant, Field, Item, Member, Name, Service, Singleton, TypeName};
 
+#[tactic(auto, using(crate::proofs::TokenLemmas::tokens_more, crate::proofs::TokenLemmas::no_tokens))]
 fn push_interface(
     text: &mut Vec<u8>,
     id: &str,
@@ -32,6 +33,7 @@ fn push_interface(
 }
 
 /// A struct or an exception.
+#[tactic(auto, using(crate::proofs::TokenLemmas::tokens_more, crate::proofs::TokenLemmas::no_tokens))]
 fn push_fields_of(
     text: &mut Vec<u8>,
     word: &str,
@@ -48,6 +50,7 @@ fn push_fields_of(
     push_token(text, "}")
 }
 
+#[tactic(auto, using(crate::proofs::TokenLemmas::tokens_more, crate::proofs::TokenLemmas::no_tokens))]
 fn push_enum(alloc: Global, text: &mut Vec<u8>, id: &str, items: &[Item]) -> Result<(), NoMemory>
     ensures { OnOk result (text.new.items ≡ text.old.items ++ followed (declaration id.now (plain.enum (map item_of items.now)))) }
 {
@@ -56,6 +59,7 @@ fn push_enum(alloc: Global, text: &mut Vec<u8>, id: &str, items: &[Item]) -> Res
     push_token(text, "}")
 }
 
+#[tactic(auto, using(crate::proofs::TokenLemmas::tokens_more, crate::proofs::TokenLemmas::no_tokens))]
 fn push_group(
     alloc: Global,
     text: &mut Vec<u8>,
@@ -69,6 +73,7 @@ fn push_group(
     push_token(text, "}")
 }
 
+#[tactic(auto, using(crate::proofs::TokenLemmas::tokens_more, crate::proofs::TokenLemmas::no_tokens))]
 fn push_typedef(text: &mut Vec<u8>, id: &str, kind: &TypeName) -> Result<(), NoMemory>
     ensures { OnOk result (text.new.items ≡ text.old.items ++ followed (declaration id.now (plain.typedef (kind_of kind.now)))) }
 {
@@ -77,6 +82,7 @@ fn push_typedef(text: &mut Vec<u8>, id: &str, kind: &TypeName) -> Result<(), NoM
     push_token(text, id)
 }
 
+#[tactic(auto, using(crate::proofs::TokenLemmas::tokens_more, crate::proofs::TokenLemmas::no_tokens))]
 fn push_service(
     alloc: Global,
     text: &mut Vec<u8>,
@@ -99,20 +105,28 @@ fn push_service(
     }
 }
 
+#[tactic(auto, using(crate::proofs::TokenLemmas::tokens_more, crate::proofs::TokenLemmas::no_tokens))]
 fn push_singleton(text: &mut Vec<u8>, id: &str, singleton: &Singleton) -> Result<(), NoMemory>
     ensures { OnOk result (text.new.items ≡ text.old.items ++ followed (declaration id.now (singleton_of singleton.now))) }
 {
     push_tokens(text, &["singleton", id])?;
     match singleton {
         Singleton::New { base } => push_behind_colon(text, base.as_str()),
-        Singleton::Old { service } => {
-            push_token(text, "{")?;
-            push_named(text, "service", service.as_str())?;
-            push_token(text, "}")
-        }
+        Singleton::Old { service } => push_in_braces(text, service.as_str()),
     }
 }
 
+/// The service of a singleton of the old form.
+#[tactic(auto, using(crate::proofs::TokenLemmas::tokens_more, crate::proofs::TokenLemmas::no_tokens))]
+fn push_in_braces(text: &mut Vec<u8>, service: &str) -> Result<(), NoMemory>
+    ensures { OnOk result (text.new.items ≡ text.old.items ++ followed (codes "{" ∷ (codes "service" ∷ (absolute service.now ∷ (codes ";" ∷ (codes "}" ∷ [])))))) }
+{
+    push_token(text, "{")?;
+    push_named(text, "service", service)?;
+    push_token(text, "}")
+}
+
+#[tactic(auto, using(crate::proofs::TokenLemmas::tokens_more, crate::proofs::TokenLemmas::no_tokens))]
 pub(crate) fn push_declaration(
     alloc: Global,
     text: &mut Vec<u8>,

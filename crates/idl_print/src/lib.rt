@@ -1,11 +1,12 @@
 //! Canonical UNOIDL of a registry.
 #![tactic(auto)]
 
+mod canonical;
 mod entity;
 mod interface;
-mod print;
+
 mod service;
 mod token;
 mod value;
 
-pub use print::print;
+pub use canonical::print;

@@ -12,6 +12,7 @@ use uno_base::NoMemory;
 use uno_types::{Constant, Field, Item, Name};
 
 /// The base behind `:`, where there is one.
+#[tactic(auto, using(crate::proofs::TokenLemmas::tokens_more, crate::proofs::TokenLemmas::no_tokens))]
 pub(crate) fn push_base(text: &mut Vec<u8>, base: &Option<Name>) -> Result<(), NoMemory>
     ensures { OnOk result (text.new.items ≡ text.old.items ++ followed (base_tokens base.now)) }
 {
@@ -21,6 +22,7 @@ pub(crate) fn push_base(text: &mut Vec<u8>, base: &Option<Name>) -> Result<(), N
     }
 }
 
+#[tactic(auto, using(crate::proofs::TokenLemmas::tokens_more, crate::proofs::TokenLemmas::no_tokens))]
 fn push_field(text: &mut Vec<u8>, field: &Field) -> Result<(), NoMemory>
     ensures { OnOk result (text.new.items ≡ text.old.items ++ followed (field_tokens (field_of field.now))) }
 {
@@ -38,6 +40,7 @@ pub(crate) fn push_fields(text: &mut Vec<u8>, fields: &[Field]) -> Result<(), No
     Ok(())
 }
 
+#[tactic(auto, using(crate::proofs::TokenLemmas::tokens_more, crate::proofs::TokenLemmas::no_tokens))]
 fn push_item(alloc: Global, text: &mut Vec<u8>, item: &Item) -> Result<(), NoMemory>
     ensures { OnOk result (text.new.items ≡ text.old.items ++ followed (item_tokens (item_of item.now))) }
 {
@@ -46,6 +49,7 @@ fn push_item(alloc: Global, text: &mut Vec<u8>, item: &Item) -> Result<(), NoMem
     push_number(alloc, text, item.number as i128)
 }
 
+#[tactic(auto, using(crate::proofs::TokenLemmas::tokens_more, crate::proofs::TokenLemmas::no_tokens))]
 fn push_other_item(alloc: Global, text: &mut Vec<u8>, item: &Item) -> Result<(), NoMemory>
     ensures { OnOk result (text.new.items ≡ text.old.items ++ followed (codes "," ∷ item_tokens (item_of item.now))) }
 {
@@ -62,16 +66,18 @@ fn push_other_items(alloc: Global, text: &mut Vec<u8>, items: &[Item]) -> Result
     Ok(())
 }
 
+#[tactic(auto, using(crate::proofs::TokenLemmas::tokens_more, crate::proofs::TokenLemmas::no_tokens))]
 pub(crate) fn push_items(alloc: Global, text: &mut Vec<u8>, items: &[Item]) -> Result<(), NoMemory>
     ensures { OnOk result (text.new.items ≡ text.old.items ++ followed (listed item_tokens (map item_of items.now))) }
 {
-    let Some((first, others)) = items.split_first() else {
+    let [first, others @ ..] = items else {
         return Ok(());
     };
     push_item(alloc, text, first)?;
     push_other_items(alloc, text, others)
 }
 
+#[tactic(auto, using(crate::proofs::TokenLemmas::tokens_more, crate::proofs::TokenLemmas::no_tokens))]
 fn push_constant(alloc: Global, text: &mut Vec<u8>, constant: &Constant) -> Result<(), NoMemory>
     ensures { OnOk result (text.new.items ≡ text.old.items ++ followed (constant_tokens (constant_of constant.now))) }
 {

@@ -1,5 +1,5 @@
 -- Canonical UNOIDL: a line for each entity, all its tokens parted by one blank.
-use Rattle.std.specs.Prelude.{ℕ, zero, suc, ◌==◌, ℤ, pos, negsuc, Bool, true, false, not, ◌&&◌, List, [], ◌∷◌, ◌++◌, Option, None, Some, codes, if◌then◌else◌}
+use Rattle.std.specs.Prelude.{ℕ, suc, ◌==◌, ℤ, pos, negsuc, Bool, true, false, not, ◌&&◌, ◌||◌, is_none, List, [], ◌∷◌, ◌++◌, Option, None, Some, codes, if◌then◌else◌}
 use Rattle.std.specs.List.{flat_map}
 use Rattle.std.specs.Fmt.{decimal}
 use Rattle.std.specs.Str.{bytes_eq}
@@ -8,6 +8,7 @@ use Rattle.uno_model.specs.Entities.{Body, interface, struct, exception, enum, c
 use Rattle.uno_model.specs.Kinds.{Kind, name_of}
 use Rattle.uno_model.specs.Kinds as kd
 use Rattle.uno_model.specs.Names.{parts_of}
+use Rattle.uno_model.specs.Sound.{is_some_list}
 use Rattle.registry_text_model.specs.Lines.{way_word, flag_words, written}
 
 -- ---- names, types, numbers and lists
@@ -76,12 +77,11 @@ accessor_tokens word [] = []
 accessor_tokens word (name ∷ names) = word ∷ (raises_tokens (name ∷ names) ++ codes ";" ∷ [])
 
 -- an attribute without raises has no braces
-abbrev pub in_braces : List (List ℕ) → List (List ℕ)
-in_braces [] = []
-in_braces (t ∷ ts) = codes "{" ∷ ((t ∷ ts) ++ codes "}" ∷ [])
-
 abbrev pub accessors : Attribute → List (List ℕ)
-accessors a = in_braces (accessor_tokens (codes "get") a.get_raises ++ accessor_tokens (codes "set") a.set_raises)
+accessors a =
+    if is_some_list a.get_raises || is_some_list a.set_raises
+    then codes "{" ∷ (accessor_tokens (codes "get") a.get_raises ++ (accessor_tokens (codes "set") a.set_raises ++ codes "}" ∷ []))
+    else []
 
 abbrev pub access_flag : Bool → List (List ℕ)
 access_flag true = codes "," ∷ (codes "readonly" ∷ [])
@@ -130,26 +130,22 @@ given_tokens f = codes "[" ∷ (codes "in" ∷ (codes "]" ∷ (kind_tokens f.kin
 abbrev pub rest_param : List ℕ → List (List ℕ)
 rest_param name = codes "[" ∷ (codes "in" ∷ (codes "]" ∷ (codes "any" ∷ (codes "..." ∷ (name ∷ [])))))
 
-abbrev pub rest_tokens : List Field → Option (List ℕ) → List (List ℕ)
-rest_tokens params None = []
-rest_tokens [] (Some name) = rest_param name
-rest_tokens (p ∷ ps) (Some name) = codes "," ∷ rest_param name
+-- a comma behind other parameters
+abbrev pub comma_behind : Bool → List (List ℕ)
+comma_behind true = codes "," ∷ []
+comma_behind false = []
+
+abbrev pub rest_tokens : Bool → Option (List ℕ) → List (List ℕ)
+rest_tokens others None = []
+rest_tokens others (Some name) = comma_behind others ++ rest_param name
 
 abbrev pub constructor_tokens : Constructor → List (List ℕ)
 constructor_tokens c =
-    c.name ∷ (codes "(" ∷ (listed given_tokens c.params ++ (rest_tokens c.params c.rest ++ (codes ")" ∷ (raises_tokens c.raises ++ codes ";" ∷ [])))))
+    c.name ∷ (codes "(" ∷ (listed given_tokens c.params ++ (rest_tokens (is_some_list c.params) c.rest ++ (codes ")" ∷ (raises_tokens c.raises ++ codes ";" ∷ [])))))
 
 -- the constructor that a service without constructors has: `create`, without parameters, and raising nothing
 abbrev pub is_implicit : Constructor → Bool
-is_implicit c = bytes_eq c.name (codes "create") && (is_none_of c.params && (is_no_name c.rest && is_none_of c.raises))
-  where
-    is_none_of : {X : Type 0} → List X → Bool
-    is_none_of [] = true
-    is_none_of (x ∷ xs) = false
-
-    is_no_name : Option (List ℕ) → Bool
-    is_no_name None = true
-    is_no_name (Some name) = false
+is_implicit c = bytes_eq c.name (codes "create") && (not (is_some_list c.params) && (is_none c.rest && not (is_some_list c.raises)))
 
 abbrev pub is_implicit_alone : List Constructor → Bool
 is_implicit_alone (c ∷ []) = is_implicit c

@@ -39,6 +39,7 @@ fn push_closed(text: &mut Vec<u8>, name: &str) -> Result<(), NoMemory>
     Ok(())
 }
 
+#[tactic(auto, using(crate::proofs::TokenLemmas::tokens_more, crate::proofs::TokenLemmas::no_tokens))]
 fn push_published(text: &mut Vec<u8>, published: bool) -> Result<(), NoMemory>
     ensures { OnOk result (text.new.items ≡ text.old.items ++ followed (published_flag published)) }
 {
@@ -49,19 +50,31 @@ fn push_published(text: &mut Vec<u8>, published: bool) -> Result<(), NoMemory>
 }
 
 /// A declaration in its modules, but for the last `;`.
-fn push_in_modules(alloc: Global, text: &mut Vec<u8>, entity: &Entity) -> Result<(), NoMemory>
-    ensures { OnOk result (text.new.items ≡ text.old.items ++ followed (in_modules entity.now.published (body_of entity.now.body) (parts_of entity.now.name))) }
+fn push_in_modules(
+    alloc: Global,
+    text: &mut Vec<u8>,
+    published: bool,
+    name: &str,
+    body: &Body,
+) -> Result<(), NoMemory>
+    ensures { OnOk result (text.new.items ≡ text.old.items ++ followed (in_modules published (body_of body.now) (parts_of name.now))) }
 {
-    let id = push_opened(text, entity.name.as_str())?;
-    push_published(text, entity.published)?;
-    push_declaration(alloc, text, id, &entity.body)?;
-    push_closed(text, entity.name.as_str())
+    let id = push_opened(text, name)?;
+    push_published(text, published)?;
+    push_declaration(alloc, text, id, body)?;
+    push_closed(text, name)
 }
 
 fn push_line(alloc: Global, text: &mut Vec<u8>, entity: &Entity) -> Result<(), NoMemory>
     ensures { OnOk result (text.new.items ≡ text.old.items ++ (canonical_line (entity_of entity.now) ++ 10 ∷ [])) }
 {
-    push_in_modules(alloc, text, entity)?;
+    push_in_modules(
+        alloc,
+        text,
+        entity.published,
+        entity.name.as_str(),
+        &entity.body,
+    )?;
     text.extend_from_slice(b";\n")?;
     Ok(())
 }
