@@ -4,7 +4,7 @@ use Rattle.std.proofs.lemmas.List.{take_more, map-append}
 use Rattle.std.proofs.lemmas.List.Splits.{slice_split_first, slice_split_none}
 use Rattle.std.proofs.lemmas.List.Sums.{fails_before_first}
 use Rattle.std.proofs.lemmas.Str.Pattern.{IsSplitOnceResult, split_once_first}
-use Rattle.std.specs.List.{flat_map, slice_split, position_or_len, before_first, after_first}
+use Rattle.std.specs.List.{flat_map, position_or_len, after_first}
 use Rattle.uno_entities.proofs.NameParts.{is_point, parts_split, length_parts}
 use Rattle.uno_model.specs.Entities.{Body, Entity}
 use Rattle.uno_model.specs.Names.{parts_of}

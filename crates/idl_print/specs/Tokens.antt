@@ -1,12 +1,11 @@
 -- How the tokens of a line are written one after the other.
-use Rattle.std.specs.Prelude.{ℕ, ℤ, Bool, List, [], ◌∷◌, ◌++◌, map, codes, Option, None, Some, if◌then◌else◌}
+use Rattle.std.specs.Prelude.{ℕ, ℤ, List, [], ◌∷◌, ◌++◌, map, codes, Option, None, Some, if◌then◌else◌}
 use Rattle.std.specs.Int.{is_negative}
 use Rattle.std.specs.Borrow.{Bor}
 use Rattle.std.specs.List.{flat_map}
-use Rattle.uno_model.specs.Entities.{Body}
 use Rattle.uno_model.specs.Kinds.{Kind}
 use Rattle.uno_model.specs.Kinds as kd
-use Rattle.registry_text_model.specs.Canonical.{kind_tokens, published_flag, declaration}
+use Rattle.registry_text_model.specs.Canonical.{kind_tokens}
 
 -- tokens that are lent
 abbrev pub tokens_at : List (Bor (List ℕ)) → List (List ℕ)

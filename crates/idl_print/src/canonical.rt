@@ -79,11 +79,7 @@ fn push_line(alloc: Global, text: &mut Vec<u8>, entity: &Entity) -> Result<(), N
     Ok(())
 }
 
-fn push_unless_built_in(
-    alloc: Global,
-    text: &mut Vec<u8>,
-    entity: &Entity,
-) -> Result<(), NoMemory>
+fn push_unless_built_in(alloc: Global, text: &mut Vec<u8>, entity: &Entity) -> Result<(), NoMemory>
     ensures { OnOk result (text.new.items ≡ text.old.items ++ canonical_unoidl (entity_of entity.now ∷ [])) }
 {
     if is_built_in_name(entity.name.as_str()) {

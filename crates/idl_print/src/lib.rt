@@ -4,7 +4,6 @@
 mod canonical;
 mod entity;
 mod interface;
-
 mod service;
 mod token;
 mod value;

@@ -89,10 +89,7 @@ fn push_constructor(text: &mut Vec<u8>, constructor: &Constructor) -> Result<(),
     push_end(text, &constructor.raises)
 }
 
-fn push_all_constructors(
-    text: &mut Vec<u8>,
-    constructors: &[Constructor],
-) -> Result<(), NoMemory>
+fn push_all_constructors(text: &mut Vec<u8>, constructors: &[Constructor]) -> Result<(), NoMemory>
     ensures { OnOk result (text.new.items ≡ text.old.items ++ followed (flat_map constructor_tokens (map constructor_of constructors.now))) }
 {
     for constructor in constructors {

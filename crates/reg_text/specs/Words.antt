@@ -1,5 +1,5 @@
 -- Words of a text, as code lends them.
-use Rattle.std.specs.Prelude.{ℕ, List, [], ◌∷◌, ◌++◌, map, codes}
+use Rattle.std.specs.Prelude.{ℕ, List, ◌++◌, map, codes}
 use Rattle.std.specs.Borrow.{Bor}
 use Rattle.registry_text_model.specs.Lines.{flag_word}
 use Rattle.uno_model.specs.declared.flags.Flags.{Flags}

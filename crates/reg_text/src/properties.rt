@@ -17,7 +17,11 @@ use uno_types::{Flags, Part, TypeName};
 fn face_word(optional: bool) -> &'static str
     ensures { result.now ≡ face_word optional }
 {
-    if optional { "optinterface" } else { "interface" }
+    if optional {
+        "optinterface"
+    } else {
+        "interface"
+    }
 }
 
 #[tactic(auto, unfolding(registry_text_model::specs::Lines::subservice_word))]
@@ -38,11 +42,7 @@ fn push_joined(text: &mut Vec<u8>, words: &[&str]) -> Result<(), NoMemory>
     push_first_and_others(text, first, others)
 }
 
-fn push_first_and_others(
-    text: &mut Vec<u8>,
-    first: &str,
-    others: &[&str],
-) -> Result<(), NoMemory>
+fn push_first_and_others(text: &mut Vec<u8>, first: &str, others: &[&str]) -> Result<(), NoMemory>
     ensures { OnOk result (text.new.items ≡ text.old.items ++ spaced (first.now ++ flat_map (λ w. 44 ∷ w) (words_at others.now)) []) }
 {
     text.extend_from_slice(first.as_bytes())?;

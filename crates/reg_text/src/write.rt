@@ -168,11 +168,7 @@ fn push_entity(alloc: Global, text: &mut Vec<u8>, entity: &Entity) -> Result<(),
 
 /// The lines of an entity that is not built in.
 #[tactic(auto, using(crate::proofs::TextLemmas::no_lines, crate::proofs::TextLemmas::one_written, crate::proofs::TextLemmas::one_left_out))]
-fn push_unless_built_in(
-    alloc: Global,
-    text: &mut Vec<u8>,
-    entity: &Entity,
-) -> Result<(), NoMemory>
+fn push_unless_built_in(alloc: Global, text: &mut Vec<u8>, entity: &Entity) -> Result<(), NoMemory>
     ensures { OnOk result (text.new.items ≡ text.old.items ++ text_of (flat_map entity_lines (written (entity_of entity.now ∷ [])))) }
 {
     if is_built_in_name(entity.name.as_str()) {

@@ -1,7 +1,7 @@
 -- The seventh rule: a constant is of type boolean, byte or one of the six other whole types, and its value is in the range of that.
-use Rattle.std.specs.Prelude.{ℤ, pos, negsuc, Bool, true, false, List}
+use Rattle.std.specs.Prelude.{ℤ, pos, negsuc, Bool, true, false}
 use Rattle.std.specs.List.{list_all}
-use Rattle.uno_model.specs.Entities.{Entity, Body, Constant, constants}
+use Rattle.uno_model.specs.Entities.{Entity, Body, constants}
 use Rattle.uno_model.specs.Kinds.{Kind}
 use Rattle.uno_model.specs.Kinds as kd
 use Rattle.registry_text_model.specs.EnumValues.{is_between, is_long}

@@ -1,5 +1,5 @@
 -- The sixth rule: the value of an item is in the range of `long`.
-use Rattle.std.specs.Prelude.{ℤ, pos, negsuc, Bool, true, ◌&&◌, int_le, List}
+use Rattle.std.specs.Prelude.{ℤ, pos, negsuc, Bool, true, ◌&&◌, int_le}
 use Rattle.std.specs.List.{list_all}
 use Rattle.uno_model.specs.Entities.{Entity, Body, enum}
 

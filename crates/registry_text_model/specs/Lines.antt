@@ -1,12 +1,12 @@
 -- The text of a registry: a line for each thing that an entity says, its words parted by one blank, a type always last.
-use Rattle.std.specs.Prelude.{ℕ, ◌==◌, Bool, true, false, not, ◌∷◌, [], List, ◌++◌, map, filter, Option, None, Some, codes, if◌then◌else◌}
+use Rattle.std.specs.Prelude.{ℕ, Bool, true, false, not, ◌∷◌, [], List, ◌++◌, map, filter, Option, None, Some, codes, if◌then◌else◌}
 use Rattle.std.specs.List.{flat_map, list_any}
 use Rattle.std.specs.Fmt.{signed_decimal}
 use Rattle.std.specs.Str.{bytes_eq}
 use Rattle.uno_model.specs.BuiltIn.{x_interface_name, exception_name, runtime_exception_name, disposed_exception_name, factory_name}
 use Rattle.uno_model.specs.Entities.{Field, Param, Base, Attribute, Method, Member, attribute, method, Item, Constant, Constructor, Part, face, subservice, property}
 use Rattle.uno_model.specs.Entities.{Body, interface, struct, exception, enum, constants, typedef, new_service, old_service, new_singleton, old_singleton, Entity}
-use Rattle.uno_model.specs.Kinds.{Kind, name_of}
+use Rattle.uno_model.specs.Kinds.{name_of}
 use Rattle.uno_model.specs.declared.flags.Flags.{Flags}
 use Rattle.uno_model.specs.declared.way.Way.{Way}
 use Rattle.uno_model.specs.declared.way.Way.TheVariants as way

@@ -1,6 +1,6 @@
 -- The third rule: the names of members, parameters, constructors and items differ, and in an interface those over all its functions, an interface that is met
 -- twice counted once.
-use Rattle.std.specs.Prelude.{ℕ, Bool, true, false, ◌&&◌, List, [], ◌∷◌, ◌++◌, map}
+use Rattle.std.specs.Prelude.{ℕ, Bool, true, ◌&&◌, List, ◌++◌, map}
 use Rattle.std.specs.List.{list_all, flat_map}
 use Rattle.uno_model.specs.Entities.{Entity, Body, Member, attribute, method, Constructor, interface, struct, exception, enum, constants, new_service, old_service}
 use Rattle.uno_model.specs.Functions.{functions_of}

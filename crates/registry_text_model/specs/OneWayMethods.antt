@@ -1,5 +1,5 @@
 -- The fourth rule: a one-way method gives nothing back: its result is void, all its parameters go in, and it raises nothing.
-use Rattle.std.specs.Prelude.{ℕ, Bool, true, false, not, ◌&&◌, ◌||◌, List, [], ◌∷◌}
+use Rattle.std.specs.Prelude.{Bool, true, false, not, ◌&&◌, ◌||◌}
 use Rattle.std.specs.List.{list_all}
 use Rattle.uno_model.specs.Entities.{Entity, Body, Member, attribute, method, Method, interface}
 use Rattle.uno_model.specs.Kinds.{Kind}

@@ -1,5 +1,5 @@
 -- The fifth rule: what is raised are exceptions, and a read-only attribute has no setter that could raise one.
-use Rattle.std.specs.Prelude.{Bool, true, false, not, ◌&&◌, ◌||◌, List}
+use Rattle.std.specs.Prelude.{Bool, true, not, ◌&&◌, ◌||◌, List}
 use Rattle.std.specs.List.{list_all}
 use Rattle.uno_model.specs.Entities.{Entity, Body, Member, attribute, method, interface}
 use Rattle.uno_model.specs.Sound.{raises_known, is_some_list}

@@ -1,5 +1,5 @@
 -- The rules of a registry by their numbers, and the first that is broken.
-use Rattle.std.specs.Prelude.{◌≡◌, ◌≢◌, ℕ, ◌<◌, List, length, take, get_or, Contains, IsTrue}
+use Rattle.std.specs.Prelude.{◌≡◌, ℕ, ◌<◌, List, length, take, get_or, Contains, IsTrue}
 use Rattle.std.specs.List.{list_all}
 use Rattle.uno_model.specs.Entities.{Entity}
 use Rattle.uno_model.specs.Sound.{is_named}

@@ -1,4 +1,4 @@
-use Rattle.std.proofs.Common.{◌∷◌, [], ap, rules, ◌∙◌, ◌++◌}
+use Rattle.std.proofs.Common.{◌∷◌, [], rules}
 use Rattle.std.proofs.lemmas.Result.{on_ok_weaker}
 use Rattle.registry_text_model.specs.Canonical.{absolute}
 use Rattle.idl_print.proofs.TokenLemmas.{no_names, names_written}

@@ -1,4 +1,3 @@
-use Rattle.std.proofs.Common.{rules}
 use Rattle.idl_print.proofs.TokenLemmas.{left_more, none_left}
 use Rattle.idl_print.proofs.token.push_tokens.Goals as goal
 

@@ -1,4 +1,4 @@
-use Rattle.std.proofs.Common.{sym, rules}
+use Rattle.std.proofs.Common.{sym}
 use Rattle.uno_entities.specs.Entities.{entity_of}
 use Rattle.reg_text.proofs.TextLemmas.{written_more, no_lines}
 use Rattle.reg_text.proofs.write.push_entities.Goals as goal
