@@ -8,7 +8,11 @@ use crate::kind::kind_of;
 use crate::lines::{Lines, bad_line};
 use crate::words::entity_name_and;
 use reg_text::is_built_in_name;
-use registry_rules::first_broken;
+use registry_rules::{
+    first_out_of_range, first_two_way, first_with_wrong_base, first_with_wrong_parts,
+    first_with_wrong_raises, first_with_wrong_types, first_without_target,
+};
+use rules_over_bases::{first_not_whole, first_on_a_circle, first_with_twins};
 use std::alloc::Global;
 use uno_base::NoMemory;
 use uno_types::{AddError, Body, Entity, Name, Registry, Singleton, is_entity_name};
@@ -62,11 +66,51 @@ fn judge(
 ) -> Result<Registry, RegError> {
     match first_broken(alloc, registry.entities(), place_of(&registry, beyond_long))? {
         None => Ok(registry),
-        Some(broken) => Err(RegError::Rule(
-            broken.rule,
-            line_of(heads, &registry, broken.place),
-        )),
+        Some((rule, place)) => Err(RegError::Rule(rule, line_of(heads, &registry, place))),
     }
+}
+
+/// The least rule that is broken, and the place of the first entity that breaks it. The items of an entity hold only values of `long`:
+/// where the text has another one, the first entity with one is given.
+fn first_broken(
+    alloc: Global,
+    entities: &[Entity],
+    beyond_long: Option<usize>,
+) -> Result<Option<(u8, usize)>, NoMemory> {
+    if let Some(place) = first_with_wrong_base(entities) {
+        return Ok(Some((1, place)));
+    }
+    if let Some(place) = first_on_a_circle(alloc, entities)? {
+        return Ok(Some((2, place)));
+    }
+    if let Some(place) = first_with_twins(alloc, entities)? {
+        return Ok(Some((3, place)));
+    }
+    if let Some(place) = first_two_way(entities) {
+        return Ok(Some((4, place)));
+    }
+    if let Some(place) = first_with_wrong_raises(entities) {
+        return Ok(Some((5, place)));
+    }
+    if let Some(place) = beyond_long {
+        return Ok(Some((6, place)));
+    }
+    if let Some(place) = first_out_of_range(entities) {
+        return Ok(Some((7, place)));
+    }
+    if let Some(place) = first_with_wrong_parts(entities) {
+        return Ok(Some((8, place)));
+    }
+    if let Some(place) = first_without_target(entities) {
+        return Ok(Some((9, place)));
+    }
+    if let Some(place) = first_with_wrong_types(entities) {
+        return Ok(Some((10, place)));
+    }
+    if let Some(place) = first_not_whole(alloc, entities)? {
+        return Ok(Some((11, place)));
+    }
+    Ok(None)
 }
 
 fn place_of(registry: &Registry, name: Option<&str>) -> Option<usize> {

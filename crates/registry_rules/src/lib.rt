@@ -1,14 +1,13 @@
-//! The rules of a registry: of each, the first entity that breaks it.
+//! The rules of a registry that ask each entity by itself: of each, the first entity that breaks it.
 #![tactic(auto)]
 
-mod circles;
-mod differ;
 mod first;
 mod one_way;
 mod raised;
 mod services;
 mod values;
-mod walk;
-mod whole;
 
-pub use first::{Broken, first_broken};
+pub use first::{
+    first_out_of_range, first_two_way, first_with_wrong_base, first_with_wrong_parts,
+    first_with_wrong_raises, first_with_wrong_types, first_without_target,
+};

@@ -6,7 +6,7 @@ use uno_base::NoMemory;
 use uno_entities::{Base, Body, Entity, Field, Name, TypeClass, TypeName, place_in};
 
 /// The place of the first entity on a circle.
-pub(crate) fn first_on_a_circle(
+pub fn first_on_a_circle(
     alloc: Global,
     entities: &[Entity],
 ) -> Result<Option<usize>, NoMemory> {

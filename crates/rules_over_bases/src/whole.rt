@@ -10,7 +10,7 @@ use uno_entities::{Body, Entity, Member, Name, all_have_few_functions, place_in}
 const MOST_FUNCTIONS: u64 = 65_536;
 
 /// The place of the first entity that is not whole or not within the limits. No circle may be among the entities.
-pub(crate) fn first_not_whole(
+pub fn first_not_whole(
     alloc: Global,
     entities: &[Entity],
 ) -> Result<Option<usize>, NoMemory> {

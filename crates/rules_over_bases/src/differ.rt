@@ -10,7 +10,7 @@ use uno_entities::{
 };
 
 /// The place of the first entity with two of one name.
-pub(crate) fn first_with_twins(
+pub fn first_with_twins(
     alloc: Global,
     entities: &[Entity],
 ) -> Result<Option<usize>, NoMemory> {
