@@ -9,10 +9,10 @@ use crate::lines::{Lines, bad_line};
 use crate::words::entity_name_and;
 use reg_text::is_built_in_name;
 use registry_rules::{
-    first_out_of_range, first_two_way, first_with_wrong_base, first_with_wrong_parts,
+    first_on_a_circle, first_out_of_range, first_two_way, first_with_wrong_base, first_with_wrong_parts,
     first_with_wrong_raises, first_with_wrong_types, first_without_target,
 };
-use rules_over_bases::{first_not_whole, first_on_a_circle, first_with_twins};
+use rules_over_bases::{first_not_whole, first_with_twins};
 use std::alloc::Global;
 use uno_base::NoMemory;
 use uno_types::{AddError, Body, Entity, Name, Registry, Singleton, is_entity_name};

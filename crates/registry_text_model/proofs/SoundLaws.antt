@@ -2,7 +2,6 @@
 use Rattle.std.proofs.Common.{◌≡◌, ℕ, ◌≤◌, Bool, true, false, ◌&&◌, List, [], ◌∷◌, length, Option, None, Some, refl, sym, ap, ◌∙◌, subst, arith}
 use Rattle.std.specs.List.{Contains}
 use Rattle.std.proofs.lemmas.Bool.{and_parts}
-use Rattle.std.proofs.lemmas.List.Elements.{Contains-append_left}
 use Rattle.std.proofs.lemmas.Slice.Eq.{bytes_eq-Decides}
 use Rattle.std.specs.Prelude.{nat_le}
 use Rattle.std.specs.Str.{bytes_eq}
@@ -11,11 +10,11 @@ use Rattle.uno_model.proofs.PlaceLaws.{contains_head, contains_behind}
 use Rattle.uno_model.specs.Circles.{Leads, step, on, HasNoCircle}
 use Rattle.uno_model.specs.Entities.{Entity, Body, interface, struct, exception, enum, constants, typedef, new_service, old_service, new_singleton, old_singleton}
 use Rattle.uno_model.specs.Functions.{functions_of}
-use Rattle.uno_model.specs.Registry.{find_entity, leads_to, leads_to_body}
+use Rattle.uno_model.specs.Registry.{find_entity, leads_to, leads_to_body, led_to}
 use Rattle.uno_model.specs.Sound.{IsSound, items_differ, bases_known, raises_known, services_known, types_known, types_allowed, is_complete, has_member, is_within_limits}
 use Rattle.registry_text_model.specs.BasesAreOfTheirKind.{bases_are_of_their_kind}
 use Rattle.registry_text_model.specs.NamesDiffer.{names_differ, own_names_differ, all_names_differ}
-use Rattle.registry_text_model.specs.NoCircles.{leads_on_to, targets_of}
+use Rattle.registry_text_model.specs.NoCircles.{leads_on_to, leads_on, led_on}
 use Rattle.registry_text_model.specs.RaisedExceptions.{raises_exceptions, setters_raise_rightly}
 use Rattle.registry_text_model.specs.ServiceParts.{services_have_parts, parts_of_service_known}
 use Rattle.registry_text_model.specs.SingletonTargets.{singletons_have_targets, target_known}
@@ -74,9 +73,25 @@ whole_of_rule reg e keeps =
 
 -- ---- circles
 
+body_leads : (reg : List Entity) (body : Body) (b : List ℕ) → Contains (led_to body) b → Contains (led_on reg body) b
+body_leads reg (typedef k) b there = absurd (omega (arith, there.1))
+body_leads reg (interface bases members) b there = there
+body_leads reg (struct base members) b there = there
+body_leads reg (exception base members) b there = there
+body_leads reg (enum items) b there = there
+body_leads reg (constants cs) b there = there
+body_leads reg (new_service base constructors) b there = there
+body_leads reg (old_service parts) b there = there
+body_leads reg (new_singleton base) b there = there
+body_leads reg (old_singleton service) b there = there
+
 more_leads : (reg : List Entity) (a b : List ℕ) → Contains (leads_to reg a) b → Contains (leads_on_to reg a) b
 unfolding leads_on_to
-more_leads reg a b there = Contains-append_left (leads_to reg a) (targets_of reg (find_entity a reg)) b there
+more_leads reg a b there = by_find (find_entity a reg) there
+  where
+    by_find : (o : Option Entity) → Contains (leads_to_body o) b → Contains (leads_on reg o) b
+    by_find None has = has
+    by_find (Some e) has = body_leads reg e.body b has
 
 also_leads : (reg : List Entity) (a b : List ℕ) → Leads (leads_to reg) a b → Leads (leads_on_to reg) a b
 also_leads reg a b (step a' b' there) = step a b (more_leads reg a b there)

@@ -2,6 +2,7 @@ pub mod BasesAreOfTheirKind
 pub mod Canonical
 pub mod ConstantValues
 pub mod EnumValues
+pub mod Grammar
 pub mod Lines
 pub mod NamesDiffer
 pub mod NoCircles

@@ -3,4 +3,4 @@
 
 mod laws;
 
-pub use laws::a_registry_that_keeps_the_rules_is_sound;
+pub use laws::{a_registry_that_keeps_the_rules_is_sound, the_lines_of_a_registry_are_in_order};

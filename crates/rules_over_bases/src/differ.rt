@@ -1,5 +1,7 @@
 //! The names of members, parameters, constructors and items differ, and in an interface, a struct or an exception also those that
 //! it has from its bases.
+ghost use Rattle.uno_model.specs.Registry.{IsRising};
+ghost use Rattle.uno_entities.specs.Entities.{entities_of};
 
 use crate::walk::Walk;
 use std::alloc::Global;
@@ -13,7 +15,9 @@ use uno_entities::{
 pub fn first_with_twins(
     alloc: Global,
     entities: &[Entity],
-) -> Result<Option<usize>, NoMemory> {
+) -> Result<Option<usize>, NoMemory>
+    requires { IsRising (entities_of entities.now) }
+{
     let mut walk = Walk::new(alloc, entities)?;
     let suspects = suspects(alloc, entities, &mut walk)?;
     for place in 0..entities.len() {

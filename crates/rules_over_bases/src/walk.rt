@@ -1,4 +1,6 @@
 //! Walks over bases: what an entity stands on, itself among it, each once.
+ghost use Rattle.uno_model.specs.Registry.{IsRising};
+ghost use Rattle.uno_entities.specs.Entities.{entities_of};
 
 use circle_search::Graph;
 use std::alloc::Global;
@@ -14,7 +16,9 @@ pub(crate) struct Walk {
 }
 
 impl Walk {
-    pub(crate) fn new(alloc: Global, entities: &[Entity]) -> Result<Walk, NoMemory> {
+    pub(crate) fn new(alloc: Global, entities: &[Entity]) -> Result<Walk, NoMemory>
+        requires { IsRising (entities_of entities.now) }
+    {
         let mut bases = Graph::new(alloc);
         for entity in entities {
             let mut row = Vec::new(alloc);
@@ -44,19 +48,21 @@ impl Walk {
         self.stamp = self.stamp.saturating_add(1);
         let mut reached = Vec::new(alloc);
         self.reach(&mut reached, start)?;
-        let mut next = 0;
-        while next < reached.len() {
-            let node = reached[next];
+        for next in 0..self.bases.len() {
+            let Some(node) = reached.get(next).copied() else {
+                return Ok(reached);
+            };
             self.reach_bases(&mut reached, node)?;
-            next += 1;
         }
         Ok(reached)
     }
 
     fn reach_bases(&mut self, reached: &mut Vec<usize>, node: usize) -> Result<(), NoMemory> {
         for at in 0..self.bases.targets(node).len() {
-            let place = self.bases.targets(node)[at] as usize;
-            self.reach(reached, place)?;
+            let Some(place) = self.bases.targets(node).get(at).copied() else {
+                return Ok(());
+            };
+            self.reach(reached, place as usize)?;
         }
         Ok(())
     }
@@ -71,7 +77,9 @@ impl Walk {
     }
 }
 
-fn push_name(entities: &[Entity], name: &str, row: &mut Vec<u32>) -> Result<(), NoMemory> {
+fn push_name(entities: &[Entity], name: &str, row: &mut Vec<u32>) -> Result<(), NoMemory>
+    requires { IsRising (entities_of entities.now) }
+{
     let Ok(place) = place_in(entities, name) else {
         return Ok(());
     };
@@ -82,7 +90,9 @@ fn push_name(entities: &[Entity], name: &str, row: &mut Vec<u32>) -> Result<(), 
     Ok(())
 }
 
-fn push_bases(entities: &[Entity], body: &Body, row: &mut Vec<u32>) -> Result<(), NoMemory> {
+fn push_bases(entities: &[Entity], body: &Body, row: &mut Vec<u32>) -> Result<(), NoMemory>
+    requires { IsRising (entities_of entities.now) }
+{
     match body {
         Body::Interface { bases, .. } => push_required(entities, bases, row),
         Body::Struct { base, .. } | Body::Exception { base, .. } => push_base(entities, base, row),
@@ -90,7 +100,9 @@ fn push_bases(entities: &[Entity], body: &Body, row: &mut Vec<u32>) -> Result<()
     }
 }
 
-fn push_required(entities: &[Entity], bases: &[Base], row: &mut Vec<u32>) -> Result<(), NoMemory> {
+fn push_required(entities: &[Entity], bases: &[Base], row: &mut Vec<u32>) -> Result<(), NoMemory>
+    requires { IsRising (entities_of entities.now) }
+{
     for base in bases {
         if !base.optional {
             push_name(entities, base.name.as_str(), row)?;
@@ -99,7 +111,9 @@ fn push_required(entities: &[Entity], bases: &[Base], row: &mut Vec<u32>) -> Res
     Ok(())
 }
 
-fn push_base(entities: &[Entity], base: &Option<Name>, row: &mut Vec<u32>) -> Result<(), NoMemory> {
+fn push_base(entities: &[Entity], base: &Option<Name>, row: &mut Vec<u32>) -> Result<(), NoMemory>
+    requires { IsRising (entities_of entities.now) }
+{
     match base {
         Some(name) => push_name(entities, name.as_str(), row),
         None => Ok(()),

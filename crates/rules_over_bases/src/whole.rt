@@ -1,4 +1,7 @@
 //! An entity has what it may not be without, and the limits hold.
+ghost use Rattle.uno_model.specs.Circles.{HasNoCircle};
+ghost use Rattle.uno_model.specs.Registry.{IsRising, leads_to};
+ghost use Rattle.uno_entities.specs.Entities.{entities_of};
 
 use crate::walk::Walk;
 use entity_rules::{is_complete, is_within_limits};
@@ -13,7 +16,10 @@ const MOST_FUNCTIONS: u64 = 65_536;
 pub fn first_not_whole(
     alloc: Global,
     entities: &[Entity],
-) -> Result<Option<usize>, NoMemory> {
+) -> Result<Option<usize>, NoMemory>
+    requires rising { IsRising (entities_of entities.now) }
+    requires no_circle { HasNoCircle (leads_to (entities_of entities.now)) }
+{
     let few = all_have_few_functions(alloc, entities)?;
     let mut walk = Walk::new(alloc, entities)?;
     let mut known = vec![in alloc; false; entities.len()]?;
@@ -34,13 +40,15 @@ pub fn first_not_whole(
 
 /// Whether a struct or an exception has a member, those of its bases counted. Marked are some that are known to have one; what is
 /// passed on the way to one is marked too.
-fn has_member(entities: &[Entity], place: usize, known: &mut [bool]) -> bool {
+fn has_member(entities: &[Entity], place: usize, known: &mut [bool]) -> bool
+    requires { IsRising (entities_of entities.now) }
+{
     if !climbs_to_member(entities, place, known) {
         return false;
     }
     let mut at = place;
     for _ in 0..entities.len() {
-        if known[at] {
+        if at >= known.len() || known[at] {
             return true;
         }
         known[at] = true;
@@ -52,10 +60,15 @@ fn has_member(entities: &[Entity], place: usize, known: &mut [bool]) -> bool {
     true
 }
 
-fn climbs_to_member(entities: &[Entity], place: usize, known: &[bool]) -> bool {
+fn climbs_to_member(entities: &[Entity], place: usize, known: &[bool]) -> bool
+    requires { IsRising (entities_of entities.now) }
+{
     let mut at = place;
-    for _ in 0..entities.len() + 1 {
-        if known[at] || has_own_or_needs_none(&entities[at].body) {
+    for _ in 0..entities.len() {
+        if at < known.len() && known[at] {
+            return true;
+        }
+        if has_own_or_needs_none(entities, at) {
             return true;
         }
         let Some(base) = base_without_members(entities, at) else {
@@ -66,16 +79,21 @@ fn climbs_to_member(entities: &[Entity], place: usize, known: &[bool]) -> bool {
     false
 }
 
-fn has_own_or_needs_none(body: &Body) -> bool {
-    match body {
+fn has_own_or_needs_none(entities: &[Entity], place: usize) -> bool {
+    let Some(entity) = entities.get(place) else {
+        return true;
+    };
+    match &entity.body {
         Body::Struct { members, .. } | Body::Exception { members, .. } => !members.is_empty(),
         _ => true,
     }
 }
 
 /// The place of the base of a struct or an exception that has no member of its own.
-fn base_without_members(entities: &[Entity], place: usize) -> Option<usize> {
-    match &entities[place].body {
+fn base_without_members(entities: &[Entity], place: usize) -> Option<usize>
+    requires { IsRising (entities_of entities.now) }
+{
+    match &entities.get(place)?.body {
         Body::Struct { base, members } | Body::Exception { base, members } => {
             if !members.is_empty() {
                 return None;
@@ -86,7 +104,9 @@ fn base_without_members(entities: &[Entity], place: usize) -> Option<usize> {
     }
 }
 
-fn base_place(entities: &[Entity], base: &Option<Name>) -> Option<usize> {
+fn base_place(entities: &[Entity], base: &Option<Name>) -> Option<usize>
+    requires { IsRising (entities_of entities.now) }
+{
     let Some(name) = base else { return None };
     place_in(entities, name.as_str()).ok()
 }
