@@ -1,0 +1,9 @@
+use Rattle.std.proofs.Common.{◌≡◌, ◌++◌, map, take, codes, ◌∷◌}
+use Rattle.std.specs.List.{flat_map}
+use Rattle.uno_entities.specs.Entities.{param_of}
+use Rattle.registry_text_model.specs.Canonical.{param_tokens}
+use Rattle.idl_print.specs.Tokens.{followed}
+use Rattle.idl_print.proofs.interface.push_other_params.Given as goal
+
+abbrev pub invariant-loop-param : goal.invariant-loop-param
+invariant-loop-param l = l.text.items ≡ l.fn.text.items ++ followed (flat_map (λ p. codes "," ∷ param_tokens p) (map param_of (take l.param-index l.params)))

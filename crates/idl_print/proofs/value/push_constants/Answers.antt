@@ -1,0 +1,11 @@
+use Rattle.std.proofs.Common.{sym}
+use Rattle.uno_entities.specs.Entities.{constant_of}
+use Rattle.registry_text_model.specs.Canonical.{constant_tokens}
+use Rattle.idl_print.proofs.TokenLemmas.{each_more, no_tokens}
+use Rattle.idl_print.proofs.value.push_constants.Goals as goal
+
+pub loop-constant-init : goal.loop-constant-init
+loop-constant-init c = sym (no_tokens c.args.text.now.items)
+
+pub loop-constant-preserved : goal.loop-constant-preserved
+loop-constant-preserved c = each_more c.args.constants.now c.loop-constant.constant-index c.constant-item.result _ _ _ constant_of constant_tokens c.loop-constant-test.true c.constant-item.is c.loop-constant.invariant c.in_ok-push_constant.ensures

@@ -1,0 +1,6 @@
+use Rattle.std.proofs.Common.{◌++◌, ap, ◌∙◌}
+use Rattle.reg_text.proofs.TextLemmas.{word_written}
+use Rattle.reg_text.proofs.line.push_word.Goals as goal
+
+pub returns : goal.returns
+returns c = word_written _ _ _ _ (c.in_ok-extend_from_slice.ensures.items ∙ ap (λ t. c.args.text.now.items ++ t) c.as_bytes.ensures.value) c.in_ok-push.ensures.items

@@ -1,0 +1,28 @@
+//! Why a text is no registry.
+
+use std::alloc::AllocFailed;
+use uno_base::NoMemory;
+
+/// A line is counted from 1, and a rule by its number; its line is the first of the entity.
+#[derive(Clone, Copy, Debug, PartialEq, Eq)]
+pub enum RegError {
+    NoMemory,
+    /// No registry's text has such a line there.
+    BadLine(u32),
+    /// The name of the entity is not above the one before it.
+    Order(u32),
+    Rule(u8, u32),
+    TooLong,
+}
+
+impl From<NoMemory> for RegError {
+    fn from(_: NoMemory) -> RegError {
+        RegError::NoMemory
+    }
+}
+
+impl<T: Drop> From<AllocFailed<T>> for RegError {
+    fn from(_: AllocFailed<T>) -> RegError {
+        RegError::NoMemory
+    }
+}

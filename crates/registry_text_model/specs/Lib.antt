@@ -1,0 +1,15 @@
+pub mod BasesAreOfTheirKind
+pub mod Canonical
+pub mod ConstantValues
+pub mod EnumValues
+pub mod Grammar
+pub mod Lines
+pub mod NamesDiffer
+pub mod NoCircles
+pub mod OneWayMethods
+pub mod RaisedExceptions
+pub mod Rules
+pub mod ServiceParts
+pub mod SingletonTargets
+pub mod TypesAtTheirPlaces
+pub mod WholeWithinLimits
