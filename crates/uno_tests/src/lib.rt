@@ -10,6 +10,8 @@ mod defaults;
 #[cfg(test)]
 mod entities;
 #[cfg(test)]
+mod files;
+#[cfg(test)]
 mod fitting;
 #[cfg(test)]
 mod front_page;

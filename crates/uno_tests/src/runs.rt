@@ -8,8 +8,8 @@ use uno_base::NoMemory;
 use uno_io::{MemSink, MemSource, Source};
 use uno_run::Status::{Broken, Done, ReadFault, Words, WriteFault};
 use uno_run::{Status, run};
-use urp_message::first::Refusal::NotBuilt;
 use urp_message::Tag;
+use urp_message::first::Refusal::NotBuilt;
 
 /// The call in a block that says two messages.
 const TWO: &[u8] =

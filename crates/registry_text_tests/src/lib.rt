@@ -1,0 +1,7 @@
+//! The tests of the texts of registries, over public calls alone.
+#![tactic(auto)]
+
+#[cfg(test)]
+mod entities;
+#[cfg(test)]
+mod rows;
