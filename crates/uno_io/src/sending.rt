@@ -1,15 +1,16 @@
-//! Which sources and sinks may be sent to a thread.
+//! Which sources, sinks and files may be sent to a thread.
 
-use crate::{MemSink, MemSource, StdSink, StdSource};
+use crate::{MemFiles, MemSink, MemSource, StdSink, StdSource};
 use std::io::{Read, Write};
 
 /// Takes only what may be sent to a thread.
 fn sent<T: Send>(_: &T) {}
 
-/// A source and a sink in memory may be sent.
-fn memory_may_be_sent(source: &MemSource, sink: &MemSink) {
+/// A source, a sink and files in memory may be sent.
+fn memory_may_be_sent(source: &MemSource, sink: &MemSink, files: &MemFiles) {
     sent(source);
     sent(sink);
+    sent(files);
 }
 
 /// A reader or a writer that may be sent may be so as a source or a sink.
