@@ -1,4 +1,6 @@
 //! Why a text is no registry.
+ghost use Rattle.std.specs.Prelude.{◌≡◌};
+ghost use Rattle.registry_reading.specs.declared.error.RegError.TheVariants as error;
 
 use std::alloc::AllocFailed;
 use uno_base::NoMemory;
@@ -16,12 +18,16 @@ pub enum RegError {
 }
 
 impl From<NoMemory> for RegError {
+    ghost from_gives = { λ _ e. e ≡ error.NoMemory };
+
     fn from(_: NoMemory) -> RegError {
         RegError::NoMemory
     }
 }
 
 impl<T: Drop> From<AllocFailed<T>> for RegError {
+    ghost from_gives = { λ _ e. e ≡ error.NoMemory };
+
     fn from(_: AllocFailed<T>) -> RegError {
         RegError::NoMemory
     }

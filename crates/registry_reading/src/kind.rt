@@ -13,18 +13,29 @@ pub(crate) fn kind_of(
     heads: &[Head<'_>],
     text: &str,
 ) -> Result<Option<TypeName>, NoMemory> {
-    let mut rest = text;
-    let mut levels = 0usize;
-    while let Some(behind) = rest.strip_prefix("[]") {
-        rest = behind;
-        if levels <= MOST_LEVELS {
-            levels += 1;
-        }
-    }
+    let (rest, levels) = behind_brackets(text);
     let Some(word) = word_of(alloc, heads, rest)? else {
         return Ok(None);
     };
     Ok(Some(sequences(alloc, word, levels)?))
+}
+
+/// What stands behind the `[]` in front, and how many of them are kept.
+fn behind_brackets(text: &str) -> (&str, usize) {
+    let mut rest = text;
+    let mut levels = 0usize;
+    while let Some(behind) = rest.strip_prefix("[]") {
+        rest = behind;
+        levels = one_more(levels);
+    }
+    (rest, levels)
+}
+
+fn one_more(levels: usize) -> usize {
+    if levels > MOST_LEVELS {
+        return levels;
+    }
+    levels + 1
 }
 
 fn sequences(alloc: Global, word: TypeName, levels: usize) -> Result<TypeName, NoMemory> {

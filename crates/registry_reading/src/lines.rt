@@ -1,4 +1,5 @@
 //! The lines that are left of a text.
+ghost use Rattle.std.specs.Prelude.{◌≢◌};
 
 use crate::RegError;
 
@@ -39,6 +40,8 @@ impl<'a> Lines<'a> {
 }
 
 /// The refusal of the line before the one that is next.
-pub(crate) fn bad_line(lines: &Lines<'_>) -> RegError {
+pub(crate) fn bad_line(lines: &Lines<'_>) -> RegError
+    ensures { result ≢ RegError.TooLong }
+{
     RegError::BadLine(lines.number().saturating_sub(1))
 }

@@ -1,4 +1,10 @@
 //! The registry of a text: its lines in order, and then the rules.
+ghost use Rattle.std.specs.Prelude.{◌≡◌, ◌≢◌, ◌↔◌, ◌<◌, ◌≤◌, Err, IfOk, IfErr, IsTrue, OnOk, length};
+ghost use Rattle.uno_model.specs.Circles.{HasNoCircle};
+ghost use Rattle.uno_model.specs.Registry.{IsRising, leads_to};
+ghost use Rattle.uno_model.specs.Sound.{IsSound};
+ghost use Rattle.uno_entities.specs.Entities.{entities_of};
+ghost use Rattle.registry_text_model.specs.Lines.{registry_text};
 
 use crate::RegError;
 use crate::body::Open;
@@ -7,7 +13,7 @@ use crate::interface::Interface;
 use crate::kind::kind_of;
 use crate::lines::{Lines, bad_line};
 use crate::words::entity_name_and;
-use reg_text::is_built_in_name;
+use reg_text::{is_built_in_name, write_registry};
 use registry_rules::{
     first_on_a_circle, first_out_of_range, first_two_way, first_with_wrong_base, first_with_wrong_parts,
     first_with_wrong_raises, first_with_wrong_types, first_without_target,
@@ -40,11 +46,38 @@ struct Reader<'a> {
 }
 
 /// The registry whose text this is, with the built-in entities, if it keeps the rules.
-pub fn read_registry(alloc: Global, bytes: &[u8]) -> Result<Registry, RegError> {
+pub fn read_registry(alloc: Global, bytes: &[u8]) -> Result<Registry, RegError>
+    ensures text { IfOk result (λ registry. registry_text registry ≡ bytes.now) }
+    ensures sound { IfOk result (λ registry. IsSound registry) }
+    ensures short { IfOk result (λ _. length bytes.now ≤ 4194304) }
+    ensures long { (result ≡ Err RegError.TooLong) ↔ (4194304 < length bytes.now) }
+{
     if bytes.len() > MOST_BYTES {
         return Err(RegError::TooLong);
     }
+    read_short(alloc, bytes)
+}
+
+/// The same of a text that is not too long.
+fn read_short(alloc: Global, bytes: &[u8]) -> Result<Registry, RegError>
+    ensures text { IfOk result (λ registry. registry_text registry ≡ bytes.now) }
+    ensures sound { IfOk result (λ registry. IsSound registry) }
+    ensures error { IfErr result (λ e. e ≢ RegError.TooLong) }
+{
     let heads = heads_of(alloc, bytes)?;
+    let (registry, beyond_long) = read_lines(alloc, &heads, bytes)?;
+    judge(alloc, &heads, &registry, beyond_long, bytes)?;
+    Ok(registry)
+}
+
+/// The entities of a text, and the name of the first with an item whose value is beyond those of `long`.
+fn read_lines<'a>(
+    alloc: Global,
+    heads: &[Head<'_>],
+    bytes: &'a [u8],
+) -> Result<(Registry, Option<&'a str>), RegError>
+    ensures { IfErr result (λ e. e ≢ RegError.TooLong) }
+{
     let mut reader = Reader {
         lines: Lines::new(bytes),
         registry: Registry::new(alloc)?,
@@ -52,37 +85,73 @@ pub fn read_registry(alloc: Global, bytes: &[u8]) -> Result<Registry, RegError> 
         beyond_long: None,
     };
     reader.first_line()?;
-    reader.entities(alloc, &heads, bytes.len())?;
-    let Reader { registry, beyond_long, .. } = reader;
-    judge(alloc, &heads, registry, beyond_long)
+    reader.entities(alloc, heads, bytes.len())?;
+    let Reader {
+        registry,
+        beyond_long,
+        ..
+    } = reader;
+    Ok((registry, beyond_long))
 }
 
-/// The registry, if it keeps the rules.
+/// Refuses what breaks a rule, and what is not the registry of the text.
 fn judge(
     alloc: Global,
     heads: &[Head<'_>],
-    registry: Registry,
+    registry: &Registry,
     beyond_long: Option<&str>,
-) -> Result<Registry, RegError> {
-    match first_broken(alloc, registry.entities(), place_of(&registry, beyond_long))? {
-        None => Ok(registry),
-        Some((rule, place)) => Err(RegError::Rule(rule, line_of(heads, &registry, place))),
+    bytes: &[u8],
+) -> Result<(), RegError>
+    ensures text { OnOk result (registry_text registry.now ≡ bytes.now) }
+    ensures sound { OnOk result (IsSound registry.now) }
+    ensures error { IfErr result (λ e. e ≢ RegError.TooLong) }
+{
+    if let Some((rule, place)) = first_broken(alloc, registry, beyond_long)? {
+        return Err(RegError::Rule(rule, line_of(heads, registry, place)));
     }
+    if !registry.is_sound()? {
+        return Err(RegError::BadLine(0));
+    }
+    if !is_text_of(alloc, registry, bytes)? {
+        return Err(RegError::BadLine(0));
+    }
+    Ok(())
+}
+
+/// Whether the bytes are the text of the registry.
+fn is_text_of(alloc: Global, registry: &Registry, bytes: &[u8]) -> Result<bool, NoMemory>
+    ensures { IfOk result (λ is. IsTrue is → registry_text registry.now ≡ bytes.now) }
+{
+    let text = write_registry(alloc, registry)?;
+    Ok(text.as_slice() == bytes)
 }
 
 /// The least rule that is broken, and the place of the first entity that breaks it. The items of an entity hold only values of `long`:
 /// where the text has another one, the first entity with one is given.
 fn first_broken(
     alloc: Global,
-    entities: &[Entity],
-    beyond_long: Option<usize>,
+    registry: &Registry,
+    beyond_long: Option<&str>,
 ) -> Result<Option<(u8, usize)>, NoMemory> {
+    let entities = registry.entities();
     if let Some(place) = first_with_wrong_base(entities) {
         return Ok(Some((1, place)));
     }
-    if let Some(place) = first_on_a_circle(alloc, entities)? {
-        return Ok(Some((2, place)));
+    match first_on_a_circle(alloc, entities)? {
+        Some(place) => Ok(Some((2, place))),
+        None => third_or_later(alloc, registry, beyond_long),
     }
+}
+
+/// The rules behind the second.
+fn third_or_later(
+    alloc: Global,
+    registry: &Registry,
+    beyond_long: Option<&str>,
+) -> Result<Option<(u8, usize)>, NoMemory>
+    requires { HasNoCircle (leads_to registry.now) }
+{
+    let entities = registry.entities();
     if let Some(place) = first_with_twins(alloc, entities)? {
         return Ok(Some((3, place)));
     }
@@ -92,9 +161,17 @@ fn first_broken(
     if let Some(place) = first_with_wrong_raises(entities) {
         return Ok(Some((5, place)));
     }
-    if let Some(place) = beyond_long {
+    if let Some(place) = place_of(registry, beyond_long) {
         return Ok(Some((6, place)));
     }
+    later_broken(alloc, entities)
+}
+
+/// The rules behind the sixth.
+fn later_broken(alloc: Global, entities: &[Entity]) -> Result<Option<(u8, usize)>, NoMemory>
+    requires rising { IsRising (entities_of entities.now) }
+    requires no_circle { HasNoCircle (leads_to (entities_of entities.now)) }
+{
     if let Some(place) = first_out_of_range(entities) {
         return Ok(Some((7, place)));
     }
@@ -134,7 +211,9 @@ fn line_of(heads: &[Head<'_>], registry: &Registry, place: usize) -> u32 {
 }
 
 impl<'a> Reader<'a> {
-    fn first_line(&mut self) -> Result<(), RegError> {
+    fn first_line(&mut self) -> Result<(), RegError>
+        ensures { IfErr result (λ e. e ≢ RegError.TooLong) }
+    {
         match self.lines.next() {
             Some("unoreg 1") => Ok(()),
             Some(_) => Err(bad_line(&self.lines)),
@@ -147,7 +226,9 @@ impl<'a> Reader<'a> {
         alloc: Global,
         heads: &[Head<'_>],
         most: usize,
-    ) -> Result<(), RegError> {
+    ) -> Result<(), RegError>
+        ensures { IfErr result (λ e. e ≢ RegError.TooLong) }
+    {
         for _ in 0..most {
             if self.lines.are_at_end() {
                 return Ok(());
@@ -158,7 +239,9 @@ impl<'a> Reader<'a> {
     }
 
     /// An entity, from its header to its `end`.
-    fn entity(&mut self, alloc: Global, heads: &[Head<'_>], most: usize) -> Result<(), RegError> {
+    fn entity(&mut self, alloc: Global, heads: &[Head<'_>], most: usize) -> Result<(), RegError>
+        ensures { IfErr result (λ e. e ≢ RegError.TooLong) }
+    {
         let Header {
             name,
             published,
@@ -185,7 +268,9 @@ impl<'a> Reader<'a> {
         heads: &[Head<'_>],
         open: &mut Open,
         most: usize,
-    ) -> Result<(), RegError> {
+    ) -> Result<(), RegError>
+        ensures { IfErr result (λ e. e ≢ RegError.TooLong) }
+    {
         for _ in 0..most {
             let Some(line) = self.lines.next() else {
                 return Err(RegError::BadLine(self.lines.number()));
@@ -201,7 +286,9 @@ impl<'a> Reader<'a> {
     }
 
     /// The first line of an entity, whose name is above the one before it.
-    fn header(&mut self, alloc: Global, heads: &[Head<'_>]) -> Result<Header<'a>, RegError> {
+    fn header(&mut self, alloc: Global, heads: &[Head<'_>]) -> Result<Header<'a>, RegError>
+        ensures { IfErr result (λ e. e ≢ RegError.TooLong) }
+    {
         let Some(line) = self.lines.next() else {
             return Err(RegError::BadLine(self.lines.number()));
         };
