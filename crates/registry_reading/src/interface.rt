@@ -5,7 +5,9 @@ use crate::kind::kind_of;
 use crate::words::{identifier_and, is_read_only, push_entity_name, way, word};
 use std::alloc::Global;
 use uno_base::NoMemory;
-use uno_types::{Attribute, Base, Body, Member, Method, Name, Param, TypeName, is_entity_name, is_identifier};
+use uno_types::{
+    Attribute, Base, Body, Member, Method, Name, Param, TypeName, is_entity_name, is_identifier,
+};
 
 /// What was read of an interface.
 #[derive(Drop)]
@@ -114,12 +116,7 @@ impl Interface {
         }
     }
 
-    fn method(
-        &mut self,
-        alloc: Global,
-        heads: &[Head<'_>],
-        text: &str,
-    ) -> Result<bool, NoMemory> {
+    fn method(&mut self, alloc: Global, heads: &[Head<'_>], text: &str) -> Result<bool, NoMemory> {
         let Some((name, behind)) = identifier_and(text) else {
             return Ok(false);
         };
@@ -157,12 +154,7 @@ impl Interface {
     }
 
     /// Directly under a method, and before what it raises.
-    fn param(
-        &mut self,
-        alloc: Global,
-        heads: &[Head<'_>],
-        text: &str,
-    ) -> Result<bool, NoMemory> {
+    fn param(&mut self, alloc: Global, heads: &[Head<'_>], text: &str) -> Result<bool, NoMemory> {
         match self.members.last_mut() {
             Some(Member::Method(method)) => {
                 if !method.raises.is_empty() {

@@ -46,11 +46,7 @@ fn sequences(alloc: Global, word: TypeName, levels: usize) -> Result<TypeName, N
     Ok(kind)
 }
 
-fn word_of(
-    alloc: Global,
-    heads: &[Head<'_>],
-    text: &str,
-) -> Result<Option<TypeName>, NoMemory> {
+fn word_of(alloc: Global, heads: &[Head<'_>], text: &str) -> Result<Option<TypeName>, NoMemory> {
     if let Some(kind) = simple_of(text) {
         return Ok(Some(kind));
     }
@@ -92,7 +88,12 @@ fn class_named(heads: &[Head<'_>], name: &str) -> TypeClass {
         _ => {}
     }
     match head_named(heads, name) {
-        Some(Head { class: Some(class), .. }) => class,
+        Some(
+            Head {
+                class: Some(class),
+                ..
+            },
+        ) => class,
         _ => TypeClass::Struct,
     }
 }

@@ -15,8 +15,8 @@ use crate::lines::{Lines, bad_line};
 use crate::words::entity_name_and;
 use reg_text::{is_built_in_name, write_registry};
 use registry_rules::{
-    first_on_a_circle, first_out_of_range, first_two_way, first_with_wrong_base, first_with_wrong_parts,
-    first_with_wrong_raises, first_with_wrong_types, first_without_target,
+    first_on_a_circle, first_out_of_range, first_two_way, first_with_wrong_base,
+    first_with_wrong_parts, first_with_wrong_raises, first_with_wrong_types, first_without_target,
 };
 use rules_over_bases::{first_not_whole, first_with_twins};
 use std::alloc::Global;
@@ -221,12 +221,7 @@ impl<'a> Reader<'a> {
         }
     }
 
-    fn entities(
-        &mut self,
-        alloc: Global,
-        heads: &[Head<'_>],
-        most: usize,
-    ) -> Result<(), RegError>
+    fn entities(&mut self, alloc: Global, heads: &[Head<'_>], most: usize) -> Result<(), RegError>
         ensures { IfErr result (λ e. e ≢ RegError.TooLong) }
     {
         for _ in 0..most {
@@ -254,7 +249,11 @@ impl<'a> Reader<'a> {
         let body = open.body();
         self.last = Some(name);
         let name = Name::of(alloc, name)?;
-        match self.registry.add(Entity { name, published, body }) {
+        match self.registry.add(Entity {
+            name,
+            published,
+            body,
+        }) {
             Ok(()) => Ok(()),
             Err(AddError::NoMemory) => Err(RegError::NoMemory),
             Err(AddError::Twice) => Err(bad_line(&self.lines)),
@@ -381,11 +380,7 @@ fn fields_over(alloc: Global, is_exception: bool, base: &str) -> Result<Option<O
     Ok(Some(fields(alloc, is_exception, Some(base))))
 }
 
-fn typedef_of(
-    alloc: Global,
-    heads: &[Head<'_>],
-    text: &str,
-) -> Result<Option<Open>, NoMemory> {
+fn typedef_of(alloc: Global, heads: &[Head<'_>], text: &str) -> Result<Option<Open>, NoMemory> {
     match kind_of(alloc, heads, text)? {
         Some(kind) => Ok(Some(Open::Whole(Body::Typedef { kind }))),
         None => Ok(None),

@@ -1,5 +1,5 @@
 -- The lines that are written of a registry stand in the order of the grammar.
-use Rattle.std.proofs.Common.{◌≡◌, ℕ, Bool, Option, None, Some, true, false, ◌&&◌, List, [], ◌∷◌, ◌++◌, map, length, refl, sym, ap, ◌∙◌, append_assoc}
+use Rattle.std.proofs.Common.{◌≡◌, ℕ, Option, None, Some, true, List, [], ◌∷◌, ◌++◌, map, refl, append_assoc}
 use Rattle.std.specs.List.{flat_map}
 use Rattle.std.proofs.lemmas.Bool.{and_from}
 use Rattle.uno_model.specs.Entities.{Entity, Body, Member, attribute, method, Constructor, interface, struct, exception, enum, constants, typedef, new_service, old_service}
@@ -30,14 +30,14 @@ OpensConstructors f = (may_follow f g.constructor_line ≡ true) × (may_follow 
 member_in_order : (f : Form) (m : Member) (hs : List Form) → ((h : Form) → OpensMembers h → is_in_order h hs ≡ true) → OpensMembers f → is_in_order f (member_forms m ++ hs) ≡ true
 member_in_order f (attribute a) hs rest opens =
     let sets : (h : Form) → may_follow h g.setraises_line ≡ true → OpensMembers h → is_in_order h (map (λ _. g.setraises_line) a.set_raises ++ hs) ≡ true =
-      λ h follows o. run h g.setraises_line a.set_raises hs follows refl (rest h o) (rest g.setraises_line (refl, refl, refl)) in
+    λ h follows o. run h g.setraises_line a.set_raises hs follows refl (rest h o) (rest g.setraises_line (refl, refl, refl)) in
     one_more f g.attribute_line _ opens.0
     (rw (append_assoc (map (λ _. g.getraises_line) a.get_raises) (map (λ _. g.setraises_line) a.set_raises) hs)
     (run g.attribute_line g.getraises_line a.get_raises (map (λ _. g.setraises_line) a.set_raises ++ hs) refl refl (sets g.attribute_line refl (refl, refl, refl))
     (sets g.getraises_line refl (refl, refl, refl))))
 member_in_order f (method m) hs rest opens =
     let raised : (h : Form) → may_follow h g.raises_line ≡ true → OpensMembers h → is_in_order h (map (λ _. g.raises_line) m.raises ++ hs) ≡ true =
-      λ h follows o. run h g.raises_line m.raises hs follows refl (rest h o) (rest g.raises_line (refl, refl, refl)) in
+    λ h follows o. run h g.raises_line m.raises hs follows refl (rest h o) (rest g.raises_line (refl, refl, refl)) in
     one_more f g.method_line _ opens.1
     (rw (append_assoc (map (λ _. g.param_line) m.params) (map (λ _. g.raises_line) m.raises) hs)
     (run g.method_line g.param_line m.params (map (λ _. g.raises_line) m.raises ++ hs) refl refl (raised g.method_line refl (refl, refl, refl))
@@ -58,13 +58,15 @@ constructor_in_order : (f : Form) (c : Constructor) (hs : List Form) → ((h : F
     → is_in_order f (constructor_forms c ++ hs) ≡ true
 constructor_in_order f c hs rest opens =
     let raised : (h : Form) → may_follow h g.raised_line ≡ true → OpensConstructors h → is_in_order h (map (λ _. g.raised_line) c.raises ++ hs) ≡ true =
-      λ h follows o. run h g.raised_line c.raises hs follows refl (rest h o) (rest g.raised_line (refl, refl)) in
+    λ h follows o. run h g.raised_line c.raises hs follows refl (rest h o) (rest g.raised_line (refl, refl)) in
     let others : (h : Form) → may_follow h g.rest_line ≡ true → may_follow h g.raised_line ≡ true → OpensConstructors h
-          → is_in_order h (map (λ _. g.rest_line) (at_most_one c.rest) ++ (map (λ _. g.raised_line) c.raises ++ hs)) ≡ true =
-      λ h to_rest to_raised o. rest_in_order h c.rest (map (λ _. g.raised_line) c.raises ++ hs) to_rest (raised h to_raised o) (raised g.rest_line refl (refl, refl)) in
+    → is_in_order h (map (λ _. g.rest_line) (at_most_one c.rest) ++ (map (λ _. g.raised_line) c.raises ++ hs)) ≡ true =
+    λ h to_rest to_raised o. rest_in_order h c.rest (map (λ _. g.raised_line) c.raises ++ hs) to_rest (raised h to_raised o) (raised g.rest_line refl (refl, refl)) in
     one_more f g.constructor_line _ opens.0
-    (rw (append_assoc (map (λ _. g.given_line) c.params) (map (λ _. g.rest_line) (at_most_one c.rest) ++ map (λ _. g.raised_line) c.raises) hs,
-    append_assoc (map (λ _. g.rest_line) (at_most_one c.rest)) (map (λ _. g.raised_line) c.raises) hs)
+    (rw (
+      append_assoc (map (λ _. g.given_line) c.params) (map (λ _. g.rest_line) (at_most_one c.rest) ++ map (λ _. g.raised_line) c.raises) hs,
+      append_assoc (map (λ _. g.rest_line) (at_most_one c.rest)) (map (λ _. g.raised_line) c.raises) hs,
+    )
     (run g.constructor_line g.given_line c.params _ refl refl (others g.constructor_line refl refl (refl, refl)) (others g.given_line refl refl (refl, refl))))
 
 constructors_in_order : (f : Form) (cs : List Constructor) (hs : List Form) → ((h : Form) → OpensConstructors h → is_in_order h hs ≡ true) → OpensConstructors f

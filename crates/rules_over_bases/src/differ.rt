@@ -12,10 +12,7 @@ use uno_entities::{
 };
 
 /// The place of the first entity with two of one name.
-pub fn first_with_twins(
-    alloc: Global,
-    entities: &[Entity],
-) -> Result<Option<usize>, NoMemory>
+pub fn first_with_twins(alloc: Global, entities: &[Entity]) -> Result<Option<usize>, NoMemory>
     requires { IsRising (entities_of entities.now) }
 {
     let mut walk = Walk::new(alloc, entities)?;

@@ -26,7 +26,11 @@ impl Walk {
             bases.add_node(row)?;
         }
         let stamps = vec![in alloc; 0u32; entities.len()]?;
-        Ok(Walk { bases, stamps, stamp: 0 })
+        Ok(Walk {
+            bases,
+            stamps,
+            stamp: 0,
+        })
     }
 
     /// Whether another entity stands on the one at each place.

@@ -13,10 +13,7 @@ use uno_entities::{Body, Entity, Member, Name, all_have_few_functions, place_in}
 const MOST_FUNCTIONS: u64 = 65_536;
 
 /// The place of the first entity that is not whole or not within the limits. No circle may be among the entities.
-pub fn first_not_whole(
-    alloc: Global,
-    entities: &[Entity],
-) -> Result<Option<usize>, NoMemory>
+pub fn first_not_whole(alloc: Global, entities: &[Entity]) -> Result<Option<usize>, NoMemory>
     requires rising { IsRising (entities_of entities.now) }
     requires no_circle { HasNoCircle (leads_to (entities_of entities.now)) }
 {
@@ -140,9 +137,7 @@ fn own_functions(body: &Body) -> u64 {
 
 fn functions_of(member: &Member) -> u64 {
     match member {
-        Member::Attribute(attribute) => {
-            if attribute.read_only { 1 } else { 2 }
-        }
+        Member::Attribute(attribute) => { if attribute.read_only { 1 } else { 2 } }
         Member::Method(_) => 1,
     }
 }
