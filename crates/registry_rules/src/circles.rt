@@ -94,9 +94,17 @@ fn push_bases(entities: &[Entity], bases: &[Base], row: &mut Vec<u32>) -> Result
     ensures { OnOk result (row.new.items ≡ row.old.items ++ places_of (entities_of entities.now) (map (λ b. b.name) (map base_of bases.now))) }
 {
     for base in bases {
-        push_name(entities, base.name.as_str(), row)?;
+        push_base_of(entities, base, row)?;
     }
     Ok(())
+}
+
+/// Adds the place of a base of an interface.
+fn push_base_of(entities: &[Entity], base: &Base, row: &mut Vec<u32>) -> Result<(), NoMemory>
+    requires { IsRising (entities_of entities.now) }
+    ensures { OnOk result (row.new.items ≡ row.old.items ++ places_of (entities_of entities.now) (base.now.name ∷ [])) }
+{
+    push_name(entities, base.name.as_str(), row)
 }
 
 /// Adds the place of the base of a struct or an exception.

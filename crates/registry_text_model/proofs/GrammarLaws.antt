@@ -1,5 +1,5 @@
 -- The lines that are written of a registry stand in the order of the grammar.
-use Rattle.std.proofs.Common.{◌≡◌, ℕ, Bool, Option, None, Some, true, false, ◌&&◌, List, [], ◌∷◌, ◌++◌, map, length, refl, sym, ap, ◌∙◌, append_assoc}
+use Rattle.std.proofs.Common.{◌≡◌, ℕ, Option, None, Some, true, List, [], ◌∷◌, ◌++◌, map, refl, append_assoc}
 use Rattle.std.specs.List.{flat_map}
 use Rattle.std.proofs.lemmas.Bool.{and_from}
 use Rattle.uno_model.specs.Entities.{Entity, Body, Member, attribute, method, Constructor, interface, struct, exception, enum, constants, typedef, new_service, old_service}

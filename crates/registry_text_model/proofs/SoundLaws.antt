@@ -124,7 +124,7 @@ found_there name (x ∷ xs) e found = by_test (bytes_eq name x.name) refl (found
         let later = behind (rw other at found) in
         (contains_behind x xs e later.0, later.1)
 
-no_circle : (reg : List Entity) → ((e : Entity) → Contains reg e → ¬ Leads (leads_on_to reg) e.name e.name) → HasNoCircle (leads_to reg)
+pub no_circle : (reg : List Entity) → ((e : Entity) → Contains reg e → ¬ Leads (leads_on_to reg) e.name e.name) → HasNoCircle (leads_to reg)
 no_circle reg none a way =
     let first = first_of reg a a way in
     let from = leads_from reg a first.0 first.1 in
