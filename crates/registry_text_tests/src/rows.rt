@@ -41,7 +41,7 @@ fn made(
 }
 
 #[test]
-fn each_kind_of_entity_is_written_and_printed(rt: HostRuntime) {
+fn structs_exceptions_enums_groups_and_typedefs_are_told(rt: HostRuntime) {
     let alloc = rt.alloc();
     judge(
         &rt,
@@ -93,6 +93,11 @@ fn each_kind_of_entity_is_written_and_printed(rt: HostRuntime) {
             "typedef sequence < ::demo::Point > Points ;\n",
         ),
     );
+}
+
+#[test]
+fn interfaces_are_told(rt: HostRuntime) {
+    let alloc = rt.alloc();
     judge(
         &rt,
         "an interface",
@@ -113,6 +118,11 @@ fn each_kind_of_entity_is_written_and_printed(rt: HostRuntime) {
             "module demo { interface XPair { interface ::demo::XNode ; [ optional ] interface ::demo::XOther ; [ attribute , readonly ] unsigned short Count ; } ; } ;\n",
         ),
     );
+}
+
+#[test]
+fn services_and_singletons_are_told(rt: HostRuntime) {
+    let alloc = rt.alloc();
     judge(
         &rt,
         "a service",
