@@ -1,5 +1,5 @@
 -- Files in memory as names with their bytes.
-use Rattle.std.specs.Prelude.{ℕ, List, map, string_bytes}
+use Rattle.std.specs.Prelude.{List, map, string_bytes}
 use Rattle.uno_io.specs.Files.{Stored}
 use Rattle.uno_io.specs.declared.mem_files.MemFile.{MemFile}
 

@@ -1,10 +1,8 @@
 -- What a message may say, test by test.
 use Rattle.std.specs.Prelude.{◌==◌}
 use Rattle.std.proofs.lemmas.Bool.{eqb-true}
-use Rattle.std.proofs.Common.{◌≡◌, ◌≢◌, ℕ, suc, ◌+◌, ◌^◌, ◌<◌, ◌≤◌, Bool, true, false, List, [], ◌∷◌, length, map, drop, get_or, slice_get, Option}
+use Rattle.std.proofs.Common.{◌≡◌, ◌≢◌, ℕ, ◌^◌, ◌<◌, ◌≤◌, Bool, true, false, List, [], ◌∷◌, length, slice_get, Option}
 use Rattle.std.proofs.Common.{None, Some, option_map, IsTrue, ◌↔◌, refl, sym, ap, subst, ◌∙◌, arith}
-use Rattle.std.proofs.lemmas.List.{at_drop_more, drop_all, length-map}
-use Rattle.std.specs.Borrow.{Bor}
 use Rattle.message_model.specs.Calls.{acquire_number, release_number, numbered, may_raise}
 use Rattle.message_model.specs.Messages.{raised}
 use Rattle.message_model.specs.Sayable.{Fill, AnswerFits}
@@ -16,11 +14,7 @@ use Rattle.uno_model.specs.Functions.{Function as Called, functions_of}
 use Rattle.uno_model.specs.Kinds.{Kind}
 use Rattle.uno_model.specs.Kinds as kd
 use Rattle.uno_model.specs.Types.{is_type}
-use Rattle.uno_model.specs.Values.{Plain, plains, depth, depth_in}
-use Rattle.uno_entities.specs.TypeNames.{kind_of}
-use Rattle.uno_entities.specs.declared.type_name.TypeName.{TypeName}
-use Rattle.uno_values.specs.Values.{plain_of}
-use Rattle.uno_values.specs.declared.value.Value.{Value}
+use Rattle.uno_model.specs.Values.{Plain, depth, depth_in}
 use Rattle.urp_message.specs.Saying.{FindsCalled, ExceptionFits}
 
 -- ---- functions

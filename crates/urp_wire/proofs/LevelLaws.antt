@@ -1,5 +1,5 @@
 -- Elements by the levels that are left for them.
-use Rattle.std.proofs.Common.{◌≡◌, ℕ, zero, suc, ◌-◌, ◌<◌, List, Err, refl, ap, arith}
+use Rattle.std.proofs.Common.{◌≡◌, ℕ, zero, suc, ◌-◌, ◌<◌, List, refl, ap}
 use Rattle.uno_model.specs.Entities.{Entity}
 use Rattle.uno_model.specs.Fits.{member_kinds}
 use Rattle.uno_model.specs.Kinds.{Kind}

@@ -1,5 +1,5 @@
 -- What a slot means where a text is asked.
-use Rattle.std.specs.Prelude.{ℕ, List, Option, Result, Ok, Err, if◌then◌else◌}
+use Rattle.std.specs.Prelude.{ℕ, List, Result, Ok, Err, if◌then◌else◌}
 use Rattle.std.specs.Str.{is_utf8}
 use Rattle.urp_model.specs.Parts.{◌>>=◌, judged}
 use Rattle.urp_model.specs.Tables.{Table, meaning}

@@ -1,4 +1,4 @@
-use Rattle.std.proofs.Common.{sym, ◌∙◌}
+use Rattle.std.proofs.Common.{◌∙◌}
 use Rattle.uno_io.proofs.Finding.{front_is}
 use Rattle.uno_io.proofs.mem_files.read_of.Goals as goal
 

@@ -1,5 +1,5 @@
 use Rattle.std.specs.Prelude.{◌==◌}
-use Rattle.std.proofs.Common.{sym, [], ◌∷◌, ◌∙◌, ap, map, true, false, refl, arith}
+use Rattle.std.proofs.Common.{sym, [], ◌∷◌, ◌∙◌, ap, map, arith}
 use Rattle.std.proofs.lemmas.List.{nil_from_length, length-map}
 use Rattle.type_registry.specs.Functions.{lent_function}
 use Rattle.uno_entities.specs.TypeNames.{kind_of}

@@ -1,4 +1,4 @@
-use Rattle.std.proofs.Common.{sym, ap, ◌∙◌}
+use Rattle.std.proofs.Common.{sym, ◌∙◌}
 use Rattle.std.proofs.lemmas.Result.{on_ok_weaker}
 use Rattle.urp_wire_write.proofs.Names.{simple_is_written, kind_is_written, front_is_name}
 use Rattle.urp_wire_write.proofs.kind.write_kind.Goals as goal
