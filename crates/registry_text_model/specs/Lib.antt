@@ -8,6 +8,7 @@ pub mod NamesDiffer
 pub mod NoCircles
 pub mod OneWayMethods
 pub mod RaisedExceptions
+pub mod Reading
 pub mod Rules
 pub mod ServiceParts
 pub mod SingletonTargets

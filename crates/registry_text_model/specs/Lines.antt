@@ -1,7 +1,7 @@
 -- The text of a registry: a line for each thing that an entity says, its words parted by one blank, a type always last.
-use Rattle.std.specs.Prelude.{ℕ, Bool, true, false, not, ◌∷◌, [], List, ◌++◌, map, filter, Option, None, Some, codes, if◌then◌else◌}
+use Rattle.std.specs.Prelude.{ℕ, zero, suc, ◌+◌, ℤ, pos, negsuc, Bool, true, false, not, ◌∷◌, [], List, ◌++◌, map, filter, Option, None, Some, codes, if◌then◌else◌}
 use Rattle.std.specs.List.{flat_map, list_any}
-use Rattle.std.specs.Fmt.{signed_decimal}
+use Rattle.std.specs.Int.Digits.{digits_of}
 use Rattle.std.specs.Str.{bytes_eq}
 use Rattle.uno_model.specs.BuiltIn.{x_interface_name, exception_name, runtime_exception_name, disposed_exception_name, factory_name}
 use Rattle.uno_model.specs.Entities.{Field, Param, Base, Attribute, Method, Member, attribute, method, Item, Constant, Constructor, Part, face, subservice, property}
@@ -10,6 +10,15 @@ use Rattle.uno_model.specs.Kinds.{name_of}
 use Rattle.uno_model.specs.declared.flags.Flags.{Flags}
 use Rattle.uno_model.specs.declared.way.Way.{Way}
 use Rattle.uno_model.specs.declared.way.Way.TheVariants as way
+
+-- a whole number of any size in decimal digits, without a leading zero
+unfoldable pub digits_text : ℕ → List ℕ
+digits_text zero = codes "0"
+digits_text (suc n) = map (λ d. 48 + d) (digits_of 10 (suc n))
+
+unfoldable pub numeral : ℤ → List ℕ
+numeral (pos n) = digits_text n
+numeral (negsuc n) = 45 ∷ digits_text (suc n)
 
 -- a word, a blank, and what stands behind it
 unfoldable pub spaced : List ℕ → List ℕ → List ℕ
@@ -63,11 +72,11 @@ field_line f = spaced (codes "member") (spaced f.name (name_of f.kind))
 
 -- `value NAME NUMBER`
 abbrev pub item_line : Item → List ℕ
-item_line i = spaced (codes "value") (spaced i.name (signed_decimal i.number))
+item_line i = spaced (codes "value") (spaced i.name (numeral i.number))
 
 -- `const NAME NUMBER TYPE`
 abbrev pub constant_line : Constant → List ℕ
-constant_line c = spaced (codes "const") (spaced c.name (spaced (signed_decimal c.number) (name_of c.kind)))
+constant_line c = spaced (codes "const") (spaced c.name (spaced (numeral c.number) (name_of c.kind)))
 
 -- `constructor NAME`, its parameters, all of which go in, its rest parameter and what it may raise
 abbrev pub given_line : Field → List ℕ
