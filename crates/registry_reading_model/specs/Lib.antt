@@ -1,6 +1,7 @@
 pub mod Bodies
 pub mod Changes
 pub mod Headers
+pub mod Heads
 pub mod Kept
 pub mod Kinds
 pub mod Numbers
