@@ -1,2 +1,4 @@
 pub mod CutLaws
 pub mod Mapped
+pub mod RangeLaws
+pub mod SameWithin
