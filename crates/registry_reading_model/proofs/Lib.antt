@@ -1,3 +1,5 @@
+pub mod ChangedBodies
+pub mod ChangedKinds
 pub mod CutLaws
 pub mod Mapped
 pub mod RangeLaws
