@@ -1,5 +1,6 @@
 pub mod ChangedBodies
 pub mod ChangedKinds
+pub mod ChangedRegistries
 pub mod CutLaws
 pub mod Mapped
 pub mod RangeLaws

@@ -38,3 +38,15 @@ pub map_stays : {X : Type 0} (f : X → X) (p : X → Bool) → ((x : X) → p x
 map_stays f p stays [] all = refl
 map_stays f p stays (x ∷ xs) all =
     let parts = and_parts (p x) (list_all p xs) all in ap₂ (λ a b. a ∷ b) (stays x parts.0) (map_stays f p stays xs parts.1)
+
+-- what is read of the elements of two lists of lists, where it is the same of each part
+module _ {X Y V W Z : Type 0} (n : W → Z) (m : V → Z) (g : Y → List W) (h : X → List V) where
+  pub flat_read : (f : X → Y) → ((x : X) → map n (g (f x)) ≡ map m (h x)) → (xs : List X) → map n (flat_map g (map f xs)) ≡ map m (flat_map h xs)
+  flat_read f same [] = refl
+  flat_read f same (x ∷ xs) =
+      map-append n (g (f x)) (flat_map g (map f xs)) ∙ ap₂ (λ a b. a ++ b) (same x) (flat_read f same xs) ∙ sym (map-append m (h x) (flat_map h xs))
+
+pub flat_alike : {X W Z : Type 0} (n : W → Z) (g h : X → List W) → ((x : X) → map n (g x) ≡ map n (h x)) → (xs : List X) → map n (flat_map g xs) ≡ map n (flat_map h xs)
+flat_alike n g h same [] = refl
+flat_alike n g h same (x ∷ xs) =
+    map-append n (g x) (flat_map g xs) ∙ ap₂ (λ a b. a ++ b) (same x) (flat_alike n g h same xs) ∙ sym (map-append n (h x) (flat_map h xs))
