@@ -3,6 +3,7 @@ pub mod ChangedBodies
 pub mod ChangedKinds
 pub mod ChangedRegistries
 pub mod CutLaws
+pub mod Lifted
 pub mod LimitedKeeps
 pub mod Mapped
 pub mod RangeLaws
