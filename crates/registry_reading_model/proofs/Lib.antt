@@ -1,3 +1,4 @@
+pub mod BrokenFirst
 pub mod BuiltInKeep
 pub mod ChangedBodies
 pub mod ChangedKinds
