@@ -72,7 +72,7 @@ kept_is_long e = of_body e.body
 
 -- ---- all that a registry has
 
-contains_mapped : {X Y : Type 0} (f : X → Y) (xs : List X) (x : X) → Contains xs x → Contains (map f xs) (f x)
+pub contains_mapped : {X Y : Type 0} (f : X → Y) (xs : List X) (x : X) → Contains xs x → Contains (map f xs) (f x)
 contains_mapped f xs x (i, low, is) = (i, omega (arith, low, length-map xs f), get_or-map f xs i x (f x) low ∙ ap f is)
 
 -- a rule that all keep in what is kept, all keep

@@ -4,8 +4,10 @@ pub mod ChangedBodies
 pub mod ChangedKinds
 pub mod ChangedRegistries
 pub mod CutLaws
+pub mod KeptBreaks
 pub mod Lifted
 pub mod LimitedKeeps
 pub mod Mapped
 pub mod RangeLaws
 pub mod SameWithin
+pub mod WrittenPlaces
