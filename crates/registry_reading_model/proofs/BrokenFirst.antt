@@ -1,22 +1,15 @@
 -- The first rule that is broken, and the first entity that breaks it, are the same in a registry and in what a reader keeps of it.
-use Rattle.std.proofs.Common.{◌≡◌, ◌≢◌, pos, if◌then◌else◌, ℕ, zero, suc, ◌<◌, ◌≤◌, Bool, true, false, List, [], ◌∷◌, ◌++◌, map, take, drop, length, get_or, Contains, refl, sym, ap, ap₂, ◌∙◌, subst, arith, ◌⊎◌, inl, inr}
+use Rattle.std.proofs.Common.{◌≡◌, ◌≢◌, pos, if◌then◌else◌, ℕ, ◌<◌, Bool, true, false, List, [], ◌∷◌, map, take, length, get_or, Contains, refl, sym, ap, ◌∙◌, subst, arith, ◌⊎◌, inl, inr}
 use Rattle.std.specs.List.{list_all}
-use Rattle.std.proofs.lemmas.Bool.{both_ways, and_from, and_parts, cases_Bool, false_from_ne_true}
+use Rattle.std.proofs.lemmas.Bool.{both_ways}
 use Rattle.std.proofs.lemmas.List.{length-map, get_or-map, take-map, get_or_default}
-use Rattle.uno_model.specs.BuiltIn.{built_in, HasBuiltIn}
 use Rattle.uno_model.specs.Entities.{Entity}
 use Rattle.uno_model.specs.Entities.{Body, interface, struct, exception, enum, constants, typedef, new_service, old_service, new_singleton, old_singleton, Item}
-use Rattle.uno_model.specs.Registry.{IsRising}
-use Rattle.uno_model.proofs.CircleLaws.{all_at}
-use Rattle.uno_model.proofs.PlaceLaws.{contains_cases, contains_head, contains_behind}
 use Rattle.registry_text_model.specs.EnumValues.{is_long, items_are_long, values_are_long}
-use Rattle.registry_text_model.specs.Lines.{is_built_in_name, written}
 use Rattle.registry_text_model.specs.Rules as r
 use Rattle.registry_text_model.specs.Rules.{Rule, number_of, Keeps, AllKeep, BreaksFirst}
 use Rattle.registry_reading_model.specs.Changes.{entity_changed, body_changed, item_changed}
 use Rattle.registry_reading_model.specs.Kept.{limited, long_or_zero}
-use Rattle.registry_reading_model.proofs.BuiltInKeep.{built_in_keeps}
-use Rattle.registry_reading_model.proofs.Lifted.{lifted, of_built_in_name}
 use Rattle.registry_reading_model.proofs.LimitedKeeps.{limited_keeps}
 use Rattle.registry_reading_model.proofs.Mapped.{all_mapped}
 
@@ -95,8 +88,7 @@ broken_first reg rule k long kept =
     let within : place < length reg = omega (arith, kept.within, length-map reg changed) in
     let e = get_or reg place k in
     let is_kept : changed e ≡ k = sym (get_or-map changed reg place k k within) ∙ kept.there in
-    let other : rule ≢ r.values = λ is. kept.broken (subst (λ x. Keeps (map changed reg) rule x) is_kept (subst (λ x. Keeps (map changed reg) x (changed e)) (sym is) (kept_is_long e))) in
-    (
+    let other : rule ≢ r.values = λ is. kept.broken (subst (λ x. Keeps (map changed reg) rule x) is_kept (subst (λ x. Keeps (map changed reg) x (changed e)) (sym is) (kept_is_long e))) in (
       e,
       is_kept,
       record {

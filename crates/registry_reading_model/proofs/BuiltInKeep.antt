@@ -1,5 +1,5 @@
 -- The built-in entities keep each rule in every registry that has them.
-use Rattle.std.proofs.Common.{◌≡◌, ℕ, zero, suc, ◌+◌, ◌≤◌, ◌<◌, Bool, true, false, ◌&&◌, nat_le, List, [], ◌∷◌, ◌++◌, map, length, Option, None, Some, Contains, refl, sym, ap, ap₂, ◌∙◌, subst, arith, ◌-◌}
+use Rattle.std.proofs.Common.{◌≡◌, ℕ, zero, suc, ◌≤◌, true, false, ◌&&◌, nat_le, List, [], ◌∷◌, ◌++◌, map, length, Some, Contains, refl, sym, ap, ap₂, ◌∙◌, subst, arith, ◌-◌}
 use Rattle.std.specs.Prelude.{slice_get}
 use Rattle.std.specs.List.{list_all, flat_map}
 use Rattle.std.specs.Str.{bytes_eq}
@@ -8,7 +8,7 @@ use Rattle.std.proofs.lemmas.Option.{slice_get_within}
 use Rattle.uno_model.specs.BuiltIn.{built_in, HasBuiltIn, disposed_exception, factory, base_exception, runtime_exception, x_interface}
 use Rattle.uno_model.specs.BuiltIn.{disposed_exception_name, factory_name, exception_name, runtime_exception_name, x_interface_name, message_field, context_field}
 use Rattle.uno_model.specs.Circles.{Leads, ends_within}
-use Rattle.uno_model.specs.Entities.{Entity, Body, Field}
+use Rattle.uno_model.specs.Entities.{Entity, Field}
 use Rattle.uno_model.specs.Functions.{Function, declared_by, is_met, visit_all, met_within, interfaces_of, functions_of}
 use Rattle.uno_model.specs.Names.{parts_of}
 use Rattle.uno_model.specs.Registry.{IsRising, find_entity, stands_on_body, member_bases, own_members, members_within, all_members}
@@ -18,7 +18,7 @@ use Rattle.uno_model.proofs.ReachLaws.{found_place}
 use Rattle.registry_text_model.specs.BasesAreOfTheirKind.{bases_are_of_their_kind}
 use Rattle.registry_text_model.specs.ConstantValues.{constants_are_in_range}
 use Rattle.registry_text_model.specs.EnumValues.{values_are_long}
-use Rattle.registry_text_model.specs.NamesDiffer.{own_names_differ, all_names_differ, names_differ}
+use Rattle.registry_text_model.specs.NamesDiffer.{own_names_differ, names_differ}
 use Rattle.registry_text_model.specs.NoCircles.{leads_on, leads_on_to}
 use Rattle.registry_text_model.specs.OneWayMethods.{one_way_gives_nothing}
 use Rattle.registry_text_model.specs.RaisedExceptions.{raises_exceptions}

@@ -1,6 +1,6 @@
 -- The types and the numbers of an entity that is changed.
-use Rattle.std.proofs.Common.{◌≡◌, Bool, true, List, [], ◌∷◌, ◌++◌, map, refl, sym, ap, ap₂, ◌∙◌}
-use Rattle.std.specs.List.{list_all, flat_map}
+use Rattle.std.proofs.Common.{◌≡◌, Bool, true, List, ◌++◌, map, refl, sym, ap, ap₂, ◌∙◌}
+use Rattle.std.specs.List.{list_all}
 use Rattle.std.proofs.lemmas.List.{map-append}
 use Rattle.uno_model.specs.Entities.{Field, Param, Member, attribute, method, Constant, Constructor, Part, face, subservice, property}
 use Rattle.uno_model.specs.Entities.{Body, interface, struct, exception, enum, constants, typedef, new_service, old_service, new_singleton, old_singleton, Entity}
@@ -12,7 +12,7 @@ use Rattle.registry_text_model.specs.EnumValues.{values_are_long}
 use Rattle.registry_reading_model.specs.Changes.{Change, field_changed, param_changed, member_changed, constant_changed, constructor_changed, part_changed, body_changed, entity_changed}
 use Rattle.registry_reading_model.specs.Kept.{cut, clamped, limited}
 use Rattle.registry_reading_model.proofs.CutLaws.{cut_alike, cut_namable}
-use Rattle.registry_reading_model.proofs.Mapped.{all_mapped, map_mapped, flat_mapped, flat_changed}
+use Rattle.registry_reading_model.proofs.Mapped.{all_mapped, map_mapped, flat_changed}
 use Rattle.registry_reading_model.proofs.RangeLaws.{range_clamped}
 use Rattle.registry_reading_model.proofs.SameWithin.{same_within}
 

@@ -1,6 +1,6 @@
 -- What a change of types and numbers leaves of a registry: what is found by a name, what stands on what, the functions and members by their names, and the ways.
 use Rattle.std.proofs.Common.{◌≡◌, ℕ, zero, suc, Bool, true, false, List, [], ◌∷◌, ◌++◌, map, length, filter, Option, None, Some, option_map, refl, sym, ap, ap₂, ◌∙◌, subst, if◌then◌else◌, Contains, codes}
-use Rattle.std.specs.List.{list_all, flat_map}
+use Rattle.std.specs.List.{flat_map}
 use Rattle.std.specs.Str.{bytes_eq}
 use Rattle.std.proofs.lemmas.List.{length-map, map-append}
 use Rattle.std.proofs.lemmas.List.Elements.{filter_agree}
@@ -16,7 +16,7 @@ use Rattle.registry_reading_model.specs.Changes.{Change, field_changed, member_c
 use Rattle.registry_reading_model.specs.Kept.{cut, limited}
 use Rattle.registry_reading_model.proofs.ChangedBodies.{SeesClass, typedef_seen, led_to_changed}
 use Rattle.registry_reading_model.proofs.CutLaws.{cut_alike}
-use Rattle.registry_reading_model.proofs.Mapped.{map_mapped, flat_mapped, flat_read, flat_alike}
+use Rattle.registry_reading_model.proofs.Mapped.{map_mapped, flat_read, flat_alike}
 
 module _ (c : Change) where
   abbrev pub all_changed : List Entity → List Entity

@@ -1,5 +1,5 @@
 -- What a type of which too many sequences are cut shares with the whole one.
-use Rattle.std.proofs.Common.{◌≡◌, ℕ, zero, suc, ◌+◌, ◌≤◌, ◌<◌, min, Bool, true, false, ◌&&◌, nat_le, List, length, refl, sym, ap, subst, ◌∙◌, arith, ◌⊎◌, inl, inr}
+use Rattle.std.proofs.Common.{◌≡◌, ℕ, zero, suc, ◌+◌, ◌≤◌, ◌<◌, min, true, false, nat_le, length, refl, sym, ap, ◌∙◌, arith, inl, inr}
 use Rattle.std.proofs.lemmas.Bool.{cases_lt, and_parts, and_right, leb-true, lt-leb}
 use Rattle.uno_model.specs.Kinds.{Kind, nesting, name_of}
 use Rattle.uno_model.specs.Kinds as kd

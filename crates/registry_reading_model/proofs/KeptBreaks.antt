@@ -1,9 +1,9 @@
 -- What the rules say of a registry that a reader keeps, they say of the one that the text says.
-use Rattle.std.proofs.Common.{◌≡◌, ℕ, zero, suc, ◌<◌, Bool, true, false, not, ◌&&◌, ◌||◌, List, [], ◌∷◌, ◌++◌, map, take, drop, length, get_or, Contains, refl, sym, ap, ap₂, ◌∙◌, subst, arith, ◌⊎◌, inl, inr}
+use Rattle.std.proofs.Common.{◌≡◌, ℕ, suc, ◌<◌, true, false, not, ◌&&◌, ◌||◌, List, [], ◌∷◌, ◌++◌, map, take, drop, Contains, refl, sym, ap, ap₂, ◌∙◌, subst, inl, inr}
 use Rattle.std.specs.List.{list_all}
-use Rattle.std.proofs.lemmas.Bool.{both_ways, and_parts, cases_Bool, false_from_ne_true}
+use Rattle.std.proofs.lemmas.Bool.{and_parts, cases_Bool, false_from_ne_true}
 use Rattle.std.proofs.lemmas.List.{take-map}
-use Rattle.uno_model.specs.BuiltIn.{built_in, HasBuiltIn}
+use Rattle.uno_model.specs.BuiltIn.{HasBuiltIn}
 use Rattle.uno_model.specs.Entities.{Entity}
 use Rattle.uno_model.specs.Registry.{IsRising}
 use Rattle.uno_model.specs.Sound.{is_namable, is_complete, has_member, is_within_limits, is_type_body, few_modules, short_name, few_params}
@@ -21,7 +21,6 @@ use Rattle.registry_reading_model.proofs.BrokenFirst.{broken_first, items_first,
 use Rattle.registry_reading_model.proofs.BuiltInKeep.{built_in_keeps}
 use Rattle.registry_reading_model.proofs.ChangedKinds.{same_as_kept}
 use Rattle.registry_reading_model.proofs.Lifted.{lifted, of_built_in_name}
-use Rattle.registry_reading_model.proofs.Mapped.{map_stays}
 use Rattle.registry_reading_model.proofs.WrittenPlaces.{written_at, place_of_written, contains_written, contains_taken, written_changed}
 
 -- ---- what is not built in
@@ -67,8 +66,7 @@ broken_in reg es rule k rising has are long kept =
     let e = found.0 in
     let other = broken_is_written reg rule e rising has (place, first.within, first.there) first.broken in
     let split = written_at reg place e first.within first.there other in
-    let before = written (take place reg) in
-    (
+    let before = written (take place reg) in (
       before,
       e,
       written (drop (suc place) reg),

@@ -1,14 +1,12 @@
 -- Of a registry whose written entities are what a reader keeps of others, these others with the built-in ones are a registry too.
-use Rattle.std.proofs.Common.{◌≡◌, ℕ, zero, suc, Bool, true, false, not, ◌||◌, List, [], ◌∷◌, ◌++◌, map, filter, Option, None, Some, option_map, Contains, refl, sym, ap, ap₂, ◌∙◌, subst, arith, ◌⊎◌, inl, inr, if◌then◌else◌}
-use Rattle.std.specs.List.{list_any}
+use Rattle.std.proofs.Common.{◌≡◌, ℕ, zero, suc, true, false, List, [], ◌∷◌, map, Option, None, Some, option_map, Contains, refl, sym, ap, ap₂, ◌∙◌, subst, arith, inl, inr}
 use Rattle.std.specs.List.Sorted.{IsStrictlySortedBy}
 use Rattle.std.specs.Cmp.Lexicographic.{slice_cmp}
 use Rattle.std.specs.Ordering.{nat_cmp}
 use Rattle.std.specs.Str.{bytes_eq}
-use Rattle.std.proofs.lemmas.Bool.{both_ways, or_cases, cases_Bool}
+use Rattle.std.proofs.lemmas.Bool.{both_ways, cases_Bool}
 use Rattle.std.proofs.lemmas.Slice.Eq.{bytes_eq-Decides}
 use Rattle.uno_model.specs.BuiltIn.{built_in, HasBuiltIn, disposed_exception, factory, base_exception, runtime_exception, x_interface}
-use Rattle.uno_model.specs.BuiltIn.{disposed_exception_name, factory_name, exception_name, runtime_exception_name, x_interface_name}
 use Rattle.uno_model.specs.Entities.{Entity}
 use Rattle.uno_model.specs.Registry.{IsRising, find_entity}
 use Rattle.uno_model.proofs.BuiltInLaws.{contained_found}
@@ -69,19 +67,27 @@ Lifts ks es =
     × ((d : Entity) → Contains reg d → is_built_in_name d.name ≡ true → entity_changed limited d ≡ d)
 
 with_built_in : (k : Entity) (ks es : List Entity) → is_built_in_name k.name ≡ true → entity_changed limited k ≡ k → Lifts ks es → Lifts (k ∷ ks) es
-with_built_in k ks es named stays (reg, kept, are, fixed) =
-    (k ∷ reg, ap₂ (λ x xs. x ∷ xs) stays kept, rw named are, λ d there is. elim (contains_cases k reg d there) [
-      | inl here ↦ subst (λ x. entity_changed limited x ≡ x) here stays
-      | inr behind ↦ fixed d behind is
-    ])
+with_built_in k ks es named stays (reg, kept, are, fixed) = (
+  k ∷ reg,
+  ap₂ (λ x xs. x ∷ xs) stays kept,
+  rw named are,
+  λ d there is. elim (contains_cases k reg d there) [
+    | inl here ↦ subst (λ x. entity_changed limited x ≡ x) here stays
+    | inr behind ↦ fixed d behind is
+  ],
+)
 
 with_written : (k e : Entity) (ks es : List Entity) → is_built_in_name k.name ≡ false → k ≡ entity_changed limited e → Lifts ks es → Lifts (k ∷ ks) (e ∷ es)
 with_written k e ks es other is_kept (reg, kept, are, fixed) =
-    let own : is_built_in_name e.name ≡ false = sym (ap (λ (x : Entity). is_built_in_name x.name) is_kept) ∙ other in
-    (e ∷ reg, ap₂ (λ x xs. x ∷ xs) (sym is_kept) kept, rw own (ap (λ xs. e ∷ xs) are), λ d there is. elim (contains_cases e reg d there) [
-      | inl here ↦ absurd (both_ways (is_built_in_name e.name) own (subst (λ x. is_built_in_name x.name ≡ true) (sym here) is))
-      | inr behind ↦ fixed d behind is
-    ])
+    let own : is_built_in_name e.name ≡ false = sym (ap (λ (x : Entity). is_built_in_name x.name) is_kept) ∙ other in (
+      e ∷ reg,
+      ap₂ (λ x xs. x ∷ xs) (sym is_kept) kept,
+      rw own (ap (λ xs. e ∷ xs) are),
+      λ d there is. elim (contains_cases e reg d there) [
+        | inl here ↦ absurd (both_ways (is_built_in_name e.name) own (subst (λ x. is_built_in_name x.name ≡ true) (sym here) is))
+        | inr behind ↦ fixed d behind is
+      ],
+    )
 
 lift_written : (k : Entity) (ks es : List Entity) → is_built_in_name k.name ≡ false → k ∷ written ks ≡ map (entity_changed limited) es
     → ((fs : List Entity) → written ks ≡ map (entity_changed limited) fs → Lifts ks fs) → Lifts (k ∷ ks) es
@@ -128,8 +134,7 @@ built_in_found reg fixed e in' found = by_find (find_entity e.name reg) refl (sy
 pub lifted : (ks es : List Entity) → IsRising ks → HasBuiltIn ks → written ks ≡ map (entity_changed limited) es
     → (reg : List Entity) × (map (entity_changed limited) reg ≡ ks) × (written reg ≡ es) × IsRising reg × HasBuiltIn reg
 lifted ks es rising has same =
-    let made = lift ks es same (λ k there named. built_in_stays k (of_built_in_name ks rising has k there named)) in
-    (
+    let made = lift ks es same (λ k there named. built_in_stays k (of_built_in_name ks rising has k there named)) in (
       made.0,
       made.1,
       made.2,

@@ -1,30 +1,27 @@
 -- A rule of which no item is asked is kept in a registry exactly where it is kept in what a reader keeps of it.
-use Rattle.std.proofs.Common.{◌≡◌, ℕ, Bool, true, false, not, ◌&&◌, ◌||◌, nat_le, List, [], ◌∷◌, ◌++◌, map, length, Option, None, Some, ◌≢◌, refl, sym, ap, ap₂, ◌∙◌, subst}
+use Rattle.std.proofs.Common.{◌≡◌, ℕ, Bool, true, not, ◌&&◌, ◌||◌, nat_le, List, ◌≢◌, refl, sym, ap, ap₂, ◌∙◌}
 use Rattle.std.specs.List.{list_all, flat_map}
-use Rattle.uno_model.specs.Circles.{Leads}
-use Rattle.uno_model.specs.Entities.{Field, Part, Base}
+use Rattle.uno_model.specs.Entities.{Field, Base}
 use Rattle.uno_model.specs.Entities.{Body, interface, struct, exception, enum, constants, typedef, new_service, old_service, new_singleton, old_singleton, Entity}
-use Rattle.uno_model.specs.Functions.{Function, functions_of}
 use Rattle.uno_model.specs.Kinds.{Kind}
 use Rattle.uno_model.specs.Kinds as kd
 use Rattle.uno_model.specs.Registry.{all_members, at_most_one}
-use Rattle.uno_model.specs.Sound.{is_there, is_interface, is_struct, is_exception, is_service, is_type_body, is_some_list, is_namable, is_complete, has_member, is_within_limits, all_differ}
-use Rattle.uno_model.specs.Sound.{kind_known, bases_known, raises_known, types_known, types_allowed, is_value, is_storable, elements_storable, is_target, few_modules, short_name, few_params}
-use Rattle.uno_model.specs.Uses.{value_kinds, result_kinds, target_kinds, kinds_in, interfaces_of_part, services_of_part, param_counts}
+use Rattle.uno_model.specs.Sound.{is_there, is_interface, is_struct, is_exception, is_service, is_some_list, has_member, is_within_limits, all_differ}
+use Rattle.uno_model.specs.Sound.{kind_known, bases_known, raises_known, types_known, types_allowed, is_value, elements_storable, is_target, few_modules, short_name, few_params}
+use Rattle.uno_model.specs.Uses.{interfaces_of_part, services_of_part}
 use Rattle.registry_text_model.specs.BasesAreOfTheirKind.{bases_are_of_their_kind}
-use Rattle.registry_text_model.specs.ConstantValues.{constants_are_in_range}
-use Rattle.registry_text_model.specs.NamesDiffer.{own_names_differ, all_names_differ, names_differ}
+use Rattle.registry_text_model.specs.NamesDiffer.{all_names_differ, names_differ}
 use Rattle.registry_text_model.specs.NoCircles.{leads_on_to}
 use Rattle.registry_text_model.specs.OneWayMethods.{one_way_gives_nothing}
-use Rattle.registry_text_model.specs.RaisedExceptions.{setters_raise_rightly, raises_exceptions}
+use Rattle.registry_text_model.specs.RaisedExceptions.{raises_exceptions}
 use Rattle.registry_text_model.specs.Rules as r
 use Rattle.registry_text_model.specs.Rules.{Rule, Keeps}
 use Rattle.registry_text_model.specs.ServiceParts.{parts_of_service_known, services_have_parts}
 use Rattle.registry_text_model.specs.SingletonTargets.{target_known, singletons_have_targets}
 use Rattle.registry_text_model.specs.TypesAtTheirPlaces.{types_stand_at_their_places}
 use Rattle.registry_text_model.specs.WholeWithinLimits.{has_few_functions, is_whole_within_limits}
-use Rattle.registry_reading_model.specs.Changes.{Change, body_changed, entity_changed}
-use Rattle.registry_reading_model.specs.Kept.{cut, limited}
+use Rattle.registry_reading_model.specs.Changes.{body_changed, entity_changed}
+use Rattle.registry_reading_model.specs.Kept.{limited}
 use Rattle.registry_reading_model.proofs.ChangedBodies.{interface_seen, struct_seen, exception_seen, enum_seen, service_seen, type_seen, SeesClass, raises_changed, setters_alike, parts_interfaces, parts_services}
 use Rattle.registry_reading_model.proofs.ChangedBodies.{own_names_alike, complete_alike, counts_changed, one_way_alike}
 use Rattle.registry_reading_model.proofs.ChangedKinds.{kinds_pass, values_pass, results_pass, targets_pass, namable_alike, constants_alike}
@@ -177,8 +174,7 @@ pub limited_keeps : (reg : List Entity) (rule : Rule) (e : Entity) → rule ≢ 
     → (Keeps (all_changed limited reg) rule (entity_changed limited e) → Keeps reg rule e) × (Keeps reg rule e → Keeps (all_changed limited reg) rule (entity_changed limited e))
 limited_keeps reg r.bases e other = of_alike _ _ (bases_alike reg e)
 limited_keeps reg r.circles e other =
-    let there = leads_changed reg in
-    (
+    let there = leads_changed reg in (
       λ none way. none (same_ways (leads_on_to reg) (leads_on_to (all_changed limited reg)) (λ n. sym (there n)) e.name e.name way),
       λ none way. none (same_ways (leads_on_to (all_changed limited reg)) (leads_on_to reg) there e.name e.name way),
     )

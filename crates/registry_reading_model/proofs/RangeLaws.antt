@@ -1,5 +1,5 @@
 -- Numbers that are clamped are in the same ranges, and those that are in one stay.
-use Rattle.std.proofs.Common.{◌≡◌, ℕ, zero, suc, ◌+◌, ◌-◌, ◌≤◌, ◌<◌, min, Bool, true, false, ◌&&◌, nat_le, ℤ, pos, negsuc, refl, sym, ap, ◌∙◌, arith, ◌⊎◌, inl, inr, ap₂}
+use Rattle.std.proofs.Common.{◌≡◌, ℕ, ◌-◌, ◌<◌, min, true, false, ◌&&◌, nat_le, ℤ, pos, negsuc, refl, sym, ap, ◌∙◌, arith, inl, inr, ap₂}
 use lib.Dec.{leb-zero}
 use Rattle.std.proofs.lemmas.Bool.{cases_lt, and_parts, leb-true, lt-leb, both_ways}
 use Rattle.uno_model.specs.Kinds.{Kind}

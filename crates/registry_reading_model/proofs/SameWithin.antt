@@ -1,22 +1,20 @@
 -- An entity within the limits is what a reader keeps of it.
-use Rattle.std.proofs.Common.{◌≡◌, ℕ, Bool, true, ◌&&◌, ℤ, List, [], ◌∷◌, ◌++◌, map, refl, sym, ap, ap₂, ◌∙◌}
+use Rattle.std.proofs.Common.{◌≡◌, Bool, true, ◌&&◌, List, ◌++◌, map, refl, sym, ap, ap₂, ◌∙◌}
 use Rattle.std.specs.List.{list_all, flat_map}
-use Rattle.std.proofs.lemmas.Bool.{and_parts, and_from}
+use Rattle.std.proofs.lemmas.Bool.{and_parts}
 use Rattle.std.proofs.lemmas.List.Folds.{list_all-map}
-use Rattle.uno_model.specs.Entities.{Field, Param, Attribute, Method, Member, attribute, method, Item, Constant, Constructor, Part, face, subservice, property}
+use Rattle.uno_model.specs.Entities.{Field, Param, Member, attribute, method, Item, Constant, Constructor, Part, face, subservice, property}
 use Rattle.uno_model.specs.Entities.{Body, interface, struct, exception, enum, constants, typedef, new_service, old_service, new_singleton, old_singleton, Entity}
-use Rattle.uno_model.specs.Kinds.{Kind}
 use Rattle.uno_model.specs.Sound.{is_namable}
 use Rattle.uno_model.specs.Uses.{value_kinds_of, result_kinds_of, property_kinds, value_kinds, result_kinds, target_kinds, kinds_in}
 use Rattle.uno_model.proofs.AllLaws.{all_both, of_append, of_flat}
 use Rattle.registry_text_model.specs.ConstantValues.{is_in_range, body_is_in_range, constants_are_in_range}
 use Rattle.registry_text_model.specs.EnumValues.{is_long, items_are_long, values_are_long}
-use Rattle.registry_reading_model.specs.Changes.{field_changed, param_changed, attribute_changed, method_changed, member_changed, item_changed, constant_changed, constructor_changed, part_changed, body_changed, entity_changed}
-use Rattle.registry_reading_model.specs.Kept.{cut, clamped, long_or_zero, limited}
+use Rattle.registry_reading_model.specs.Changes.{field_changed, param_changed, member_changed, item_changed, constant_changed, constructor_changed, part_changed, body_changed, entity_changed}
+use Rattle.registry_reading_model.specs.Kept.{limited}
 use Rattle.registry_reading_model.proofs.CutLaws.{namable_stays}
 use Rattle.registry_reading_model.proofs.Mapped.{map_stays}
 use Rattle.registry_reading_model.proofs.RangeLaws.{in_range_stays, long_stays}
-
 
 field_stays : (f : Field) → is_namable f.kind ≡ true → field_changed limited f ≡ f
 field_stays f namable = ap (λ k. record { name = f.name; kind = k }) (namable_stays f.kind namable)

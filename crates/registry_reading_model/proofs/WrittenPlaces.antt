@@ -1,5 +1,5 @@
 -- Where the written entities of a registry stand in it.
-use Rattle.std.proofs.Common.{◌≡◌, ℕ, zero, suc, ◌<◌, Bool, true, false, not, List, [], ◌∷◌, ◌++◌, map, take, drop, length, get_or, filter, Contains, refl, sym, ap, ap₂, ◌∙◌, subst, arith, ◌⊎◌, inl, inr}
+use Rattle.std.proofs.Common.{◌≡◌, ℕ, zero, suc, ◌<◌, true, false, List, [], ◌∷◌, ◌++◌, map, take, drop, length, get_or, Contains, refl, sym, ap, ap₂, ◌∙◌, subst, arith, inl, inr}
 use Rattle.std.proofs.lemmas.Bool.{both_ways, cases_Bool}
 use Rattle.uno_model.specs.Entities.{Entity}
 use Rattle.uno_model.proofs.PlaceLaws.{contains_cases, contains_head, contains_behind}
@@ -58,13 +58,13 @@ contains_written [] d there other = absurd (omega (arith, there.1))
 contains_written (x ∷ xs) d there other =
     elim (cases_Bool (is_built_in_name x.name)) [
       | inl named ↦ subst (λ ds. Contains ds d) (sym (written_without x xs named)) (elim (contains_cases x xs d there) [
-          | inl here ↦ absurd (both_ways (is_built_in_name d.name) other (subst (λ (y : Entity). is_built_in_name y.name ≡ true) here named))
-          | inr behind ↦ contains_written xs d behind other
-        ])
+        | inl here ↦ absurd (both_ways (is_built_in_name d.name) other (subst (λ (y : Entity). is_built_in_name y.name ≡ true) here named))
+        | inr behind ↦ contains_written xs d behind other
+      ])
       | inr new ↦ subst (λ ds. Contains ds d) (sym (written_more x xs new)) (elim (contains_cases x xs d there) [
-          | inl here ↦ subst (Contains (x ∷ written xs)) here (contains_head x (written xs))
-          | inr behind ↦ contains_behind x (written xs) d (contains_written xs d behind other)
-        ])
+        | inl here ↦ subst (Contains (x ∷ written xs)) here (contains_head x (written xs))
+        | inr behind ↦ contains_behind x (written xs) d (contains_written xs d behind other)
+      ])
     ]
 
 pub contains_taken : {X : Type 0} (n : ℕ) (xs : List X) (x : X) → Contains (take n xs) x → Contains xs x
