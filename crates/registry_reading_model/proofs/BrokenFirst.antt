@@ -1,10 +1,12 @@
 -- The first rule that is broken, and the first entity that breaks it, are the same in a registry and in what a reader keeps of it.
-use Rattle.std.proofs.Common.{◌≡◌, ◌≢◌, pos, if◌then◌else◌, ℕ, ◌<◌, Bool, true, false, List, [], ◌∷◌, map, take, length, get_or, Contains, refl, sym, ap, ◌∙◌, subst, arith, ◌⊎◌, inl, inr}
+use Rattle.std.proofs.Common.{◌≡◌, ◌≢◌, pos, if◌then◌else◌, ℕ, ◌<◌, Bool, true, false, List, [], ◌∷◌, map, take, length, get_or, Contains, refl, sym}
+use Rattle.std.proofs.Common.{ap, ◌∙◌, subst, arith, ◌⊎◌, inl, inr}
 use Rattle.std.specs.List.{list_all}
 use Rattle.std.proofs.lemmas.Bool.{both_ways}
 use Rattle.std.proofs.lemmas.List.{length-map, get_or-map, take-map, get_or_default}
 use Rattle.uno_model.specs.Entities.{Entity}
-use Rattle.uno_model.specs.Entities.{Body, interface, struct, exception, enum, constants, typedef, new_service, old_service, new_singleton, old_singleton, Item}
+use Rattle.uno_model.specs.Entities.{Body, interface, struct, exception, enum, constants, typedef, new_service, old_service, new_singleton}
+use Rattle.uno_model.specs.Entities.{old_singleton, Item}
 use Rattle.registry_text_model.specs.EnumValues.{is_long, items_are_long, values_are_long}
 use Rattle.registry_text_model.specs.Rules as r
 use Rattle.registry_text_model.specs.Rules.{Rule, number_of, Keeps, AllKeep, BreaksFirst}
@@ -69,7 +71,8 @@ pub contains_mapped : {X Y : Type 0} (f : X → Y) (xs : List X) (x : X) → Con
 contains_mapped f xs x (i, low, is) = (i, omega (arith, low, length-map xs f), get_or-map f xs i x (f x) low ∙ ap f is)
 
 -- a rule that all keep in what is kept, all keep
-pub all_keep_back : (reg : List Entity) (rule : Rule) → (rule ≡ r.values → AllKeep reg r.values) → AllKeep (map (entity_changed limited) reg) rule → AllKeep reg rule
+pub all_keep_back : (reg : List Entity) (rule : Rule) → (rule ≡ r.values → AllKeep reg r.values) → AllKeep (map (entity_changed limited) reg) rule
+    → AllKeep reg rule
 all_keep_back reg rule long all = elim (items_or_other rule) [
   | inl is ↦ subst (AllKeep reg) (sym is) (long is)
   | inr other ↦ λ d there. (limited_keeps reg rule d other).0 (all (entity_changed limited d) (contains_mapped (entity_changed limited) reg d there))
@@ -81,14 +84,16 @@ lesser_is_other rule least low same = let equal : number_of rule ≡ number_of l
 -- ---- the first that is broken
 
 pub broken_first : (reg : List Entity) (rule : Rule) (k : Entity) → (number_of r.values < number_of rule → AllKeep reg r.values)
-    → (kept : BreaksFirst (map (entity_changed limited) reg) rule k) → (e : Entity) × (entity_changed limited e ≡ k) × (broken : BreaksFirst reg rule e) × (broken.place ≡ kept.place)
+    → (kept : BreaksFirst (map (entity_changed limited) reg) rule k)
+    → (e : Entity) × (entity_changed limited e ≡ k) × (broken : BreaksFirst reg rule e) × (broken.place ≡ kept.place)
 broken_first reg rule k long kept =
     let changed = entity_changed limited in
     let place = kept.place in
     let within : place < length reg = omega (arith, kept.within, length-map reg changed) in
     let e = get_or reg place k in
     let is_kept : changed e ≡ k = sym (get_or-map changed reg place k k within) ∙ kept.there in
-    let other : rule ≢ r.values = λ is. kept.broken (subst (λ x. Keeps (map changed reg) rule x) is_kept (subst (λ x. Keeps (map changed reg) x (changed e)) (sym is) (kept_is_long e))) in (
+    let other : rule ≢ r.values = λ is. kept.broken
+    (subst (λ x. Keeps (map changed reg) rule x) is_kept (subst (λ x. Keeps (map changed reg) x (changed e)) (sym is) (kept_is_long e))) in (
       e,
       is_kept,
       record {
@@ -97,7 +102,10 @@ broken_first reg rule k long kept =
         there = get_or_default reg place e k within;
         broken = λ keeps. kept.broken (subst (λ x. Keeps (map changed reg) rule x) is_kept ((limited_keeps reg rule e other).1 keeps));
         least = λ lesser low. all_keep_back reg lesser (λ is. long (subst (λ x. number_of x < number_of rule) is low)) (kept.least lesser low);
-        first = λ d there. (limited_keeps reg rule d other).0 (kept.first (changed d) (subst (λ xs. Contains xs (changed d)) (sym (take-map changed place reg)) (contains_mapped changed (take place reg) d there)));
+        first =
+            λ d there. (limited_keeps reg rule d other).0
+            (kept.first (changed d)
+            (subst (λ xs. Contains xs (changed d)) (sym (take-map changed place reg)) (contains_mapped changed (take place reg) d there)));
       },
       refl,
     )

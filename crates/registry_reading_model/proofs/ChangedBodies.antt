@@ -3,7 +3,8 @@ use Rattle.std.proofs.Common.{◌≡◌, ℕ, ◌+◌, Bool, not, ◌&&◌, ◌|
 use Rattle.std.specs.List.{flat_map}
 use Rattle.std.proofs.lemmas.List.{length-map}
 use Rattle.uno_model.specs.Entities.{Field, Param, Member, attribute, method, Item, Constant, Constructor, Part, face, subservice, property}
-use Rattle.uno_model.specs.Entities.{Body, interface, struct, exception, enum, constants, typedef, new_service, old_service, new_singleton, old_singleton, Entity}
+use Rattle.uno_model.specs.Entities.{Body, interface, struct, exception, enum, constants, typedef, new_service, old_service, new_singleton}
+use Rattle.uno_model.specs.Entities.{old_singleton, Entity}
 use Rattle.uno_model.specs.Registry.{at_most_one, contained, led_to, struct_in}
 use Rattle.uno_model.specs.Sound.{is_interface, is_struct, is_exception, is_enum, is_service, is_type_body, is_complete, is_some_list, all_differ}
 use Rattle.uno_model.specs.Uses.{raised_by, raised_names, interfaces_of_part, services_of_part, part_names, param_counts_of, param_counts}
@@ -11,7 +12,8 @@ use Rattle.registry_text_model.specs.NamesDiffer.{declared_name, params_differ, 
 use Rattle.registry_text_model.specs.NoCircles.{is_typedef}
 use Rattle.registry_text_model.specs.OneWayMethods.{is_void, goes_in_alone, member_goes_one_way, body_goes_one_way}
 use Rattle.registry_text_model.specs.RaisedExceptions.{setter_raises_rightly, setters_raise_rightly}
-use Rattle.registry_reading_model.specs.Changes.{Change, field_changed, param_changed, member_changed, item_changed, constant_changed, constructor_changed, part_changed, body_changed, entity_changed}
+use Rattle.registry_reading_model.specs.Changes.{Change, field_changed, param_changed, member_changed, item_changed, constant_changed}
+use Rattle.registry_reading_model.specs.Changes.{constructor_changed, part_changed, body_changed, entity_changed}
 use Rattle.registry_reading_model.specs.Kept.{limited}
 use Rattle.registry_reading_model.proofs.CutLaws.{cut_alike}
 use Rattle.registry_reading_model.proofs.Mapped.{all_mapped, map_mapped, flat_mapped, some_mapped}
@@ -120,7 +122,8 @@ module _ (c : Change) where
   raises_changed (enum items) = refl
   raises_changed (constants cs) = refl
   raises_changed (typedef k) = refl
-  raises_changed (new_service base constructors) = flat_mapped (constructor_changed c) (λ (k : Constructor). k.raises) (λ k. k.raises) (λ k. refl) constructors
+  raises_changed (new_service base constructors) =
+      flat_mapped (constructor_changed c) (λ (k : Constructor). k.raises) (λ k. k.raises) (λ k. refl) constructors
   raises_changed (old_service parts) = refl
   raises_changed (new_singleton base) = refl
   raises_changed (old_singleton service) = refl
@@ -191,7 +194,8 @@ module _ (c : Change) where
   own_names_alike (constants cs) = ap all_differ (map_mapped (constant_changed c) (λ (k : Constant). k.name) (λ k. k.name) (λ k. refl) cs)
   own_names_alike (typedef k) = refl
   own_names_alike (new_service base constructors) =
-      ap₂ (λ names params. all_differ names && params) (map_mapped (constructor_changed c) (λ (k : Constructor). k.name) (λ k. k.name) (λ k. refl) constructors)
+      ap₂ (λ names params. all_differ names && params)
+      (map_mapped (constructor_changed c) (λ (k : Constructor). k.name) (λ k. k.name) (λ k. refl) constructors)
       (all_mapped (constructor_changed c) given_differ given_differ constructor_params constructors)
   own_names_alike (old_service parts) = ap all_differ (flat_mapped (part_changed c) part_names part_names part_named parts)
   own_names_alike (new_singleton base) = refl
@@ -200,7 +204,8 @@ module _ (c : Change) where
   -- ---- how many there are
 
   complete_body : (name : List ℕ) (published : Bool) (b : Body)
-      → is_complete (record { name = name; published = published; body = body_changed c b }) ≡ is_complete (record { name = name; published = published; body = b })
+      → is_complete (record { name = name; published = published; body = body_changed c b })
+      ≡ is_complete (record { name = name; published = published; body = b })
   complete_body name published (interface bases members) = refl
   complete_body name published (struct base members) = refl
   complete_body name published (exception base members) = refl
@@ -227,7 +232,8 @@ module _ (c : Change) where
   counts_changed (constants cs) = refl
   counts_changed (typedef k) = refl
   counts_changed (new_service base constructors) =
-      map_mapped (constructor_changed c) (λ (k : Constructor). length k.params + length (at_most_one k.rest)) (λ k. length k.params + length (at_most_one k.rest))
+      map_mapped (constructor_changed c) (λ (k : Constructor). length k.params + length (at_most_one k.rest))
+      (λ k. length k.params + length (at_most_one k.rest))
       (λ k. ap (λ n. n + length (at_most_one k.rest)) (length-map k.params (field_changed c))) constructors
   counts_changed (old_service parts) = refl
   counts_changed (new_singleton base) = refl

@@ -1,13 +1,16 @@
--- What a change of types and numbers leaves of a registry: what is found by a name, what stands on what, the functions and members by their names, and the ways.
-use Rattle.std.proofs.Common.{◌≡◌, ℕ, zero, suc, Bool, true, false, List, [], ◌∷◌, ◌++◌, map, length, filter, Option, None, Some, option_map, refl, sym, ap, ap₂, ◌∙◌, subst, if◌then◌else◌, Contains, codes}
+-- What a change of types and numbers leaves of a registry: what is found by a name, what stands on what, the names of functions and members, and the ways.
+use Rattle.std.proofs.Common.{◌≡◌, ℕ, zero, suc, Bool, true, false, List, [], ◌∷◌, ◌++◌, map, length, filter, Option, None, Some, option_map, refl}
+use Rattle.std.proofs.Common.{sym, ap, ap₂, ◌∙◌, subst, if◌then◌else◌, Contains, codes}
 use Rattle.std.specs.List.{flat_map}
 use Rattle.std.specs.Str.{bytes_eq}
 use Rattle.std.proofs.lemmas.List.{length-map, map-append}
 use Rattle.std.proofs.lemmas.List.Elements.{filter_agree}
 use Rattle.uno_model.specs.Circles.{Leads, step, on}
 use Rattle.uno_model.specs.Entities.{Field, Member, attribute, method, Attribute}
-use Rattle.uno_model.specs.Entities.{Body, interface, struct, exception, enum, constants, typedef, new_service, old_service, new_singleton, old_singleton, Entity}
-use Rattle.uno_model.specs.Functions.{Function, getter, setter, accessors_of, calls_of, declared_in, declared_by, is_met, visit_all, met_within, interfaces_of, functions_of}
+use Rattle.uno_model.specs.Entities.{Body, interface, struct, exception, enum, constants, typedef, new_service, old_service, new_singleton}
+use Rattle.uno_model.specs.Entities.{old_singleton, Entity}
+use Rattle.uno_model.specs.Functions.{Function, getter, setter, accessors_of, calls_of, declared_in, declared_by, is_met, visit_all, met_within}
+use Rattle.uno_model.specs.Functions.{interfaces_of, functions_of}
 use Rattle.uno_model.specs.Kinds.{Kind}
 use Rattle.uno_model.specs.Registry.{find_entity, stands_on, stands_on_body, member_bases, own_members, members_within, all_members}
 use Rattle.uno_model.specs.Sound.{is_there}
@@ -28,7 +31,8 @@ module _ (c : Change) where
   find_changed name (e ∷ es) = by_test (bytes_eq name e.name) (find_changed name es)
     where
       by_test : (b : Bool) → find_entity name (all_changed es) ≡ option_map (entity_changed c) (find_entity name es)
-          → (if b then Some (entity_changed c e) else find_entity name (all_changed es)) ≡ option_map (entity_changed c) (if b then Some e else find_entity name es)
+          → (if b then Some (entity_changed c e) else find_entity name (all_changed es))
+          ≡ option_map (entity_changed c) (if b then Some e else find_entity name es)
       by_test true behind = refl
       by_test false behind = behind
 
@@ -44,7 +48,8 @@ module _ (c : Change) where
   -- ---- bases
 
   bases_of_body : (name : List ℕ) (published : Bool) (b : Body)
-      → stands_on_body (Some (record { name = name; published = published; body = body_changed c b })) ≡ stands_on_body (Some (record { name = name; published = published; body = b }))
+      → stands_on_body (Some (record { name = name; published = published; body = body_changed c b }))
+      ≡ stands_on_body (Some (record { name = name; published = published; body = b }))
   bases_of_body name published (interface bases members) = refl
   bases_of_body name published (struct base members) = refl
   bases_of_body name published (exception base members) = refl
@@ -71,7 +76,8 @@ module _ (c : Change) where
   same_visits f g same met [] = refl
   same_visits f g same met (n ∷ ns) = ap (λ m. visit_all f m ns) (same met n) ∙ same_visits f g same (g met n) ns
 
-  met_changed : (levels : ℕ) (reg : List Entity) (met : List (List ℕ)) (name : List ℕ) → met_within levels (all_changed reg) met name ≡ met_within levels reg met name
+  met_changed : (levels : ℕ) (reg : List Entity) (met : List (List ℕ)) (name : List ℕ)
+      → met_within levels (all_changed reg) met name ≡ met_within levels reg met name
   unfolding met_within
   met_changed zero reg met name = refl
   met_changed (suc levels) reg met name =
@@ -80,17 +86,21 @@ module _ (c : Change) where
       ∙ same_visits (met_within levels (all_changed reg)) (met_within levels reg) (met_changed levels reg) met (stands_on reg name))
 
   pub interfaces_of_changed : (reg : List Entity) (name : List ℕ) → interfaces_of (all_changed reg) name ≡ interfaces_of reg name
-  interfaces_of_changed reg name = ap (λ n. met_within (suc n) (all_changed reg) [] name) (length-map reg (entity_changed c)) ∙ met_changed (suc (length reg)) reg [] name
+  interfaces_of_changed reg name =
+      ap (λ n. met_within (suc n) (all_changed reg) [] name) (length-map reg (entity_changed c)) ∙ met_changed (suc (length reg)) reg [] name
 
   abbrev pub names_of : List Function → List (List ℕ)
   names_of fs = map (λ f. f.name) fs
 
   accessors_named : (owner : List ℕ) (m : Member) → names_of (accessors_of owner (member_changed c m)) ≡ names_of (accessors_of owner m)
   accessors_named owner (method m) = refl
-  accessors_named owner (attribute a) = by_access a.read_only (record { name = a.name; read_only = a.read_only; kind = c.kind a.kind; get_raises = a.get_raises; set_raises = a.set_raises }) refl
+  accessors_named owner (attribute a) =
+      by_access a.read_only
+      (record { name = a.name; read_only = a.read_only; kind = c.kind a.kind; get_raises = a.get_raises; set_raises = a.set_raises }) refl
     where
       by_access : (read_only : Bool) (d : Attribute) → d.name ≡ a.name
-          → names_of (if read_only then getter owner d ∷ [] else getter owner d ∷ (setter owner d ∷ [])) ≡ names_of (if read_only then getter owner a ∷ [] else getter owner a ∷ (setter owner a ∷ []))
+          → names_of (if read_only then getter owner d ∷ [] else getter owner d ∷ (setter owner d ∷ []))
+          ≡ names_of (if read_only then getter owner a ∷ [] else getter owner a ∷ (setter owner a ∷ []))
       by_access true d same = ap (λ n. (codes "get:" ++ n) ∷ []) same
       by_access false d same = ap (λ n. (codes "get:" ++ n) ∷ ((codes "set:" ++ n) ∷ [])) same
 
@@ -125,12 +135,14 @@ module _ (c : Change) where
   pub functions_named : (reg : List Entity) (name : List ℕ) → names_of (functions_of (all_changed reg) name) ≡ names_of (functions_of reg name)
   functions_named reg name =
       ap (λ owners. names_of (flat_map (λ owner. declared_by owner (find_entity owner (all_changed reg))) owners)) (interfaces_of_changed reg name)
-      ∙ flat_alike (λ (f : Function). f.name) (λ owner. declared_by owner (find_entity owner (all_changed reg))) (λ owner. declared_by owner (find_entity owner reg))
+      ∙ flat_alike (λ (f : Function). f.name) (λ owner. declared_by owner (find_entity owner (all_changed reg)))
+      (λ owner. declared_by owner (find_entity owner reg))
       (λ owner. ap (λ o. names_of (declared_by owner o)) (find_changed owner reg) ∙ found_named owner (find_entity owner reg)) (interfaces_of reg name)
 
   pub functions_counted : (reg : List Entity) (name : List ℕ) → length (functions_of (all_changed reg) name) ≡ length (functions_of reg name)
   functions_counted reg name =
-      sym (length-map (functions_of (all_changed reg) name) (λ f. f.name)) ∙ ap length (functions_named reg name) ∙ length-map (functions_of reg name) (λ f. f.name)
+      sym (length-map (functions_of (all_changed reg) name) (λ f. f.name)) ∙ ap length (functions_named reg name)
+      ∙ length-map (functions_of reg name) (λ f. f.name)
 
   -- ---- members
 
@@ -138,7 +150,8 @@ module _ (c : Change) where
   field_names fs = map (λ f. f.name) fs
 
   own_named : (name : List ℕ) (published : Bool) (b : Body)
-      → field_names (own_members (Some (record { name = name; published = published; body = body_changed c b }))) ≡ field_names (own_members (Some (record { name = name; published = published; body = b })))
+      → field_names (own_members (Some (record { name = name; published = published; body = body_changed c b })))
+      ≡ field_names (own_members (Some (record { name = name; published = published; body = b })))
   own_named name published (struct base members) = map_mapped (field_changed c) (λ (f : Field). f.name) (λ f. f.name) (λ f. refl) members
   own_named name published (exception base members) = map_mapped (field_changed c) (λ (f : Field). f.name) (λ f. f.name) (λ f. refl) members
   own_named name published (interface bases members) = refl
@@ -155,7 +168,8 @@ module _ (c : Change) where
   own_found (Some e) = own_named e.name e.published e.body
 
   member_bases_body : (name : List ℕ) (published : Bool) (b : Body)
-      → member_bases (Some (record { name = name; published = published; body = body_changed c b })) ≡ member_bases (Some (record { name = name; published = published; body = b }))
+      → member_bases (Some (record { name = name; published = published; body = body_changed c b }))
+      ≡ member_bases (Some (record { name = name; published = published; body = b }))
   member_bases_body name published (interface bases members) = refl
   member_bases_body name published (struct base members) = refl
   member_bases_body name published (exception base members) = refl
@@ -177,9 +191,11 @@ module _ (c : Change) where
   members_within_named zero reg name = refl
   members_within_named (suc levels) reg name =
       let bases = member_bases (find_entity name reg) in
-      map-append named (flat_map (members_within levels (all_changed reg)) (member_bases (find_entity name (all_changed reg)))) (own_members (find_entity name (all_changed reg)))
+      map-append named (flat_map (members_within levels (all_changed reg)) (member_bases (find_entity name (all_changed reg))))
+      (own_members (find_entity name (all_changed reg)))
       ∙ ap₂ (λ xs ys. xs ++ ys)
-      (ap (λ bs. field_names (flat_map (members_within levels (all_changed reg)) bs)) (ap member_bases (find_changed name reg) ∙ member_bases_found (find_entity name reg))
+      (ap (λ bs. field_names (flat_map (members_within levels (all_changed reg)) bs))
+      (ap member_bases (find_changed name reg) ∙ member_bases_found (find_entity name reg))
       ∙ flat_alike named (members_within levels (all_changed reg)) (members_within levels reg) (members_within_named levels reg) bases)
       (ap (λ o. field_names (own_members o)) (find_changed name reg) ∙ own_found (find_entity name reg))
       ∙ sym (map-append named (flat_map (members_within levels reg) bases) (own_members (find_entity name reg)))
@@ -189,14 +205,16 @@ module _ (c : Change) where
 
   pub all_members_named : (reg : List Entity) (name : List ℕ) → field_names (all_members (all_changed reg) name) ≡ field_names (all_members reg name)
   all_members_named reg name =
-      ap (λ n. field_names (members_within (suc n) (all_changed reg) name)) (length-map reg (entity_changed c)) ∙ members_within_named (suc (length reg)) reg name
+      ap (λ n. field_names (members_within (suc n) (all_changed reg) name)) (length-map reg (entity_changed c))
+      ∙ members_within_named (suc (length reg)) reg name
 
 -- ---- ways, in what a reader keeps
 
 typedefs_changed : (reg : List Entity) (k : Kind) → typedefs_in (all_changed limited reg) (cut k) ≡ typedefs_in reg k
 typedefs_changed reg k =
     ap (filter (is_there (all_changed limited reg) is_typedef)) (cut_alike names_in (λ j. refl) k)
-    ∙ filter_agree (is_there (all_changed limited reg) is_typedef) (is_there reg is_typedef) (λ name. there_changed limited is_typedef (typedef_seen limited) reg name) (names_in k)
+    ∙ filter_agree (is_there (all_changed limited reg) is_typedef) (is_there reg is_typedef)
+    (λ name. there_changed limited is_typedef (typedef_seen limited) reg name) (names_in k)
 
 led_on_changed : (reg : List Entity) (b : Body) → led_on (all_changed limited reg) (body_changed limited b) ≡ led_on reg b
 led_on_changed reg (typedef k) = typedefs_changed reg k

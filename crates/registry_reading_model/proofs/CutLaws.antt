@@ -28,7 +28,8 @@ module _ {X : Type 0} (f : Kind → X) (unseen : (k : Kind) → f (kd.sequence (
   unfolding cut sequences innermost
   cut_alike (kd.sequence k) =
       let more : min 65 (suc (nesting k)) ≡ suc (min 64 (nesting k)) = omega arith in
-      ap (λ n. f (sequences n (innermost k))) more ∙ around (min 64 (nesting k)) (innermost k) ∙ sym (around (nesting k) (innermost k)) ∙ ap (λ j. f (kd.sequence j)) (whole k)
+      ap (λ n. f (sequences n (innermost k))) more ∙ around (min 64 (nesting k)) (innermost k) ∙ sym (around (nesting k) (innermost k))
+      ∙ ap (λ j. f (kd.sequence j)) (whole k)
   cut_alike k = refl
 
 nesting_of : (n : ℕ) (k : Kind) → nesting (sequences n k) ≡ n + nesting k
@@ -52,4 +53,5 @@ cut_namable k = elim (cases_lt 64 (nesting k)) [
 
 pub namable_stays : (k : Kind) → is_namable k ≡ true → cut k ≡ k
 namable_stays k namable =
-    let few : nesting k ≤ 64 = leb-true (nesting k) 64 (and_parts (nat_le (length (name_of k)) 4096) (nat_le (nesting k) 64) namable).1 in cut_short k (omega (arith, few))
+    let few : nesting k ≤ 64 = leb-true (nesting k) 64 (and_parts (nat_le (length (name_of k)) 4096) (nat_le (nesting k) 64) namable).1 in
+    cut_short k (omega (arith, few))

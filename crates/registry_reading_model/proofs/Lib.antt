@@ -1,4 +1,5 @@
 pub mod BrokenFirst
+pub mod BuiltInFacts
 pub mod BuiltInKeep
 pub mod ChangedBodies
 pub mod ChangedKinds

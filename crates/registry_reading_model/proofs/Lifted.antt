@@ -1,5 +1,6 @@
 -- Of a registry whose written entities are what a reader keeps of others, these others with the built-in ones are a registry too.
-use Rattle.std.proofs.Common.{◌≡◌, ℕ, zero, suc, true, false, List, [], ◌∷◌, map, Option, None, Some, option_map, Contains, refl, sym, ap, ap₂, ◌∙◌, subst, arith, inl, inr}
+use Rattle.std.proofs.Common.{◌≡◌, ℕ, zero, suc, true, false, List, [], ◌∷◌, map, Option, None, Some, option_map, Contains, refl, sym, ap, ap₂, ◌∙◌}
+use Rattle.std.proofs.Common.{subst, arith, inl, inr}
 use Rattle.std.specs.List.Sorted.{IsStrictlySortedBy}
 use Rattle.std.specs.Cmp.Lexicographic.{slice_cmp}
 use Rattle.std.specs.Ordering.{nat_cmp}
@@ -18,7 +19,7 @@ use Rattle.registry_text_model.specs.Lines.{built_in_names, is_built_in_name, wr
 use Rattle.registry_reading_model.specs.Changes.{entity_changed}
 use Rattle.registry_reading_model.specs.Kept.{limited, cut, innermost}
 use Rattle.registry_reading_model.specs.Kinds.{sequences}
-use Rattle.registry_reading_model.proofs.BuiltInKeep.{each_built_in}
+use Rattle.registry_reading_model.proofs.BuiltInFacts.{each_built_in}
 use Rattle.registry_reading_model.proofs.ChangedRegistries.{find_changed}
 use Rattle.registry_reading_model.proofs.Mapped.{map_mapped}
 
@@ -51,7 +52,8 @@ unfolding is_built_in_name
 built_in_named = each_built_in (λ e. is_built_in_name e.name ≡ true) refl refl refl refl refl
 
 -- what has a built-in name in a registry is built in
-pub of_built_in_name : (reg : List Entity) → IsRising reg → HasBuiltIn reg → (e : Entity) → Contains reg e → is_built_in_name e.name ≡ true → Contains built_in e
+pub of_built_in_name : (reg : List Entity) → IsRising reg → HasBuiltIn reg → (e : Entity) → Contains reg e → is_built_in_name e.name ≡ true
+    → Contains built_in e
 of_built_in_name reg rising has e there named =
     let one = named_built_in e.name named in
     let found = contained_found reg e rising there in
@@ -77,7 +79,8 @@ with_built_in k ks es named stays (reg, kept, are, fixed) = (
   ],
 )
 
-with_written : (k e : Entity) (ks es : List Entity) → is_built_in_name k.name ≡ false → k ≡ entity_changed limited e → Lifts ks es → Lifts (k ∷ ks) (e ∷ es)
+with_written : (k e : Entity) (ks es : List Entity) → is_built_in_name k.name ≡ false → k ≡ entity_changed limited e → Lifts ks es
+    → Lifts (k ∷ ks) (e ∷ es)
 with_written k e ks es other is_kept (reg, kept, are, fixed) =
     let own : is_built_in_name e.name ≡ false = sym (ap (λ (x : Entity). is_built_in_name x.name) is_kept) ∙ other in (
       e ∷ reg,
@@ -97,11 +100,13 @@ lift_written k ks (e ∷ es) other same behind =
     let tail : written ks ≡ map (entity_changed limited) es = cc in
     with_written k e ks es other head (behind es tail)
 
-lift : (ks es : List Entity) → written ks ≡ map (entity_changed limited) es → ((k : Entity) → Contains ks k → is_built_in_name k.name ≡ true → entity_changed limited k ≡ k) → Lifts ks es
+lift : (ks es : List Entity) → written ks ≡ map (entity_changed limited) es
+    → ((k : Entity) → Contains ks k → is_built_in_name k.name ≡ true → entity_changed limited k ≡ k) → Lifts ks es
 lift [] [] same stays = ([], refl, refl, λ d there is. absurd (omega (arith, there.1)))
 lift [] (e ∷ es) same stays = let bad : ⊥ = cc in absurd bad
 lift (k ∷ ks) es same stays =
-    let behind : (fs : List Entity) → written ks ≡ map (entity_changed limited) fs → Lifts ks fs = λ fs is. lift ks fs is (λ x there. stays x (contains_behind k ks x there)) in
+    let behind : (fs : List Entity) → written ks ≡ map (entity_changed limited) fs → Lifts ks fs =
+    λ fs is. lift ks fs is (λ x there. stays x (contains_behind k ks x there)) in
     elim (cases_Bool (is_built_in_name k.name)) [
       | inl named ↦ with_built_in k ks es named (stays k (contains_head k ks) named) (behind es (rw named at same))
       | inr other ↦ lift_written k ks es other (rw other at same) behind
@@ -111,7 +116,8 @@ lift (k ∷ ks) es same stays =
 
 rising_as : (reg ks : List Entity) → map (entity_changed limited) reg ≡ ks → IsRising ks → IsRising reg
 rising_as reg ks kept rising =
-    subst (IsStrictlySortedBy (slice_cmp nat_cmp)) (ap (map (λ e. e.name)) (sym kept) ∙ map_mapped (entity_changed limited) (λ (e : Entity). e.name) (λ e. e.name) (λ e. refl) reg) rising
+    subst (IsStrictlySortedBy (slice_cmp nat_cmp))
+    (ap (map (λ e. e.name)) (sym kept) ∙ map_mapped (entity_changed limited) (λ (e : Entity). e.name) (λ e. e.name) (λ e. refl) reg) rising
 
 contained_of : (name : List ℕ) (reg : List Entity) (d : Entity) → find_entity name reg ≡ Some d → Contains reg d × (d.name ≡ name)
 contained_of name reg d found =
@@ -119,11 +125,13 @@ contained_of name reg d found =
     let at = at_slice reg place.0 d d place.1 in
     ((place.0, at.0, at.1), place.2)
 
-built_in_found : (reg : List Entity) → ((d : Entity) → Contains reg d → is_built_in_name d.name ≡ true → entity_changed limited d ≡ d) → (e : Entity) → Contains built_in e
+built_in_found : (reg : List Entity) → ((d : Entity) → Contains reg d → is_built_in_name d.name ≡ true → entity_changed limited d ≡ d) → (e : Entity)
+    → Contains built_in e
     → find_entity e.name (map (entity_changed limited) reg) ≡ Some e → find_entity e.name reg ≡ Some e
 built_in_found reg fixed e in' found = by_find (find_entity e.name reg) refl (sym (find_changed limited e.name reg) ∙ found)
   where
-    by_find : (o : Option Entity) → find_entity e.name reg ≡ o → option_map (entity_changed limited) (find_entity e.name reg) ≡ Some e → find_entity e.name reg ≡ Some e
+    by_find : (o : Option Entity) → find_entity e.name reg ≡ o → option_map (entity_changed limited) (find_entity e.name reg) ≡ Some e
+        → find_entity e.name reg ≡ Some e
     by_find None absent is = let none : None ≡ Some e = rw absent at is in absurd (none_some none)
     by_find (Some d) there is =
         let kept : Some (entity_changed limited d) ≡ Some e = rw there at is in

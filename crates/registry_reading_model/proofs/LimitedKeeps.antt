@@ -2,12 +2,14 @@
 use Rattle.std.proofs.Common.{◌≡◌, ℕ, Bool, true, not, ◌&&◌, ◌||◌, nat_le, List, ◌≢◌, refl, sym, ap, ap₂, ◌∙◌}
 use Rattle.std.specs.List.{list_all, flat_map}
 use Rattle.uno_model.specs.Entities.{Field, Base}
-use Rattle.uno_model.specs.Entities.{Body, interface, struct, exception, enum, constants, typedef, new_service, old_service, new_singleton, old_singleton, Entity}
+use Rattle.uno_model.specs.Entities.{Body, interface, struct, exception, enum, constants, typedef, new_service, old_service, new_singleton}
+use Rattle.uno_model.specs.Entities.{old_singleton, Entity}
 use Rattle.uno_model.specs.Kinds.{Kind}
 use Rattle.uno_model.specs.Kinds as kd
 use Rattle.uno_model.specs.Registry.{all_members, at_most_one}
 use Rattle.uno_model.specs.Sound.{is_there, is_interface, is_struct, is_exception, is_service, is_some_list, has_member, is_within_limits, all_differ}
-use Rattle.uno_model.specs.Sound.{kind_known, bases_known, raises_known, types_known, types_allowed, is_value, elements_storable, is_target, few_modules, short_name, few_params}
+use Rattle.uno_model.specs.Sound.{kind_known, bases_known, raises_known, types_known, types_allowed, is_value, elements_storable, is_target}
+use Rattle.uno_model.specs.Sound.{few_modules, short_name, few_params}
 use Rattle.uno_model.specs.Uses.{interfaces_of_part, services_of_part}
 use Rattle.registry_text_model.specs.BasesAreOfTheirKind.{bases_are_of_their_kind}
 use Rattle.registry_text_model.specs.NamesDiffer.{all_names_differ, names_differ}
@@ -22,15 +24,18 @@ use Rattle.registry_text_model.specs.TypesAtTheirPlaces.{types_stand_at_their_pl
 use Rattle.registry_text_model.specs.WholeWithinLimits.{has_few_functions, is_whole_within_limits}
 use Rattle.registry_reading_model.specs.Changes.{body_changed, entity_changed}
 use Rattle.registry_reading_model.specs.Kept.{limited}
-use Rattle.registry_reading_model.proofs.ChangedBodies.{interface_seen, struct_seen, exception_seen, enum_seen, service_seen, type_seen, SeesClass, raises_changed, setters_alike, parts_interfaces, parts_services}
+use Rattle.registry_reading_model.proofs.ChangedBodies.{interface_seen, struct_seen, exception_seen, enum_seen, service_seen, type_seen, SeesClass}
+use Rattle.registry_reading_model.proofs.ChangedBodies.{raises_changed, setters_alike, parts_interfaces, parts_services}
 use Rattle.registry_reading_model.proofs.ChangedBodies.{own_names_alike, complete_alike, counts_changed, one_way_alike}
 use Rattle.registry_reading_model.proofs.ChangedKinds.{kinds_pass, values_pass, results_pass, targets_pass, namable_alike, constants_alike}
-use Rattle.registry_reading_model.proofs.ChangedRegistries.{all_changed, there_changed, functions_named, functions_counted, all_members_named, leads_changed, same_ways}
+use Rattle.registry_reading_model.proofs.ChangedRegistries.{all_changed, there_changed, functions_named, functions_counted, all_members_named}
+use Rattle.registry_reading_model.proofs.ChangedRegistries.{leads_changed, same_ways}
 use Rattle.registry_reading_model.proofs.CutLaws.{cut_alike}
 use Rattle.registry_reading_model.proofs.Mapped.{all_alike, some_mapped}
 
 -- whether an entity of a class is there, in a registry and in what is kept of it
-there : (wanted : Body → Bool) → SeesClass limited wanted → (reg : List Entity) (name : List ℕ) → is_there (all_changed limited reg) wanted name ≡ is_there reg wanted name
+there : (wanted : Body → Bool) → SeesClass limited wanted → (reg : List Entity) (name : List ℕ)
+    → is_there (all_changed limited reg) wanted name ≡ is_there reg wanted name
 there wanted sees reg name = there_changed limited wanted sees reg name
 
 all_there : (wanted : Body → Bool) → SeesClass limited wanted → (reg : List Entity) (names : List (List ℕ))
@@ -41,7 +46,8 @@ all_there wanted sees reg names = all_alike (is_there (all_changed limited reg) 
 
 bases_body : (reg : List Entity) (b : Body) → bases_known (all_changed limited reg) (body_changed limited b) ≡ bases_known reg b
 bases_body reg (interface bases members) =
-    all_alike (λ (b : Base). is_there (all_changed limited reg) is_interface b.name) (λ b. is_there reg is_interface b.name) (λ b. there is_interface (interface_seen limited) reg b.name) bases
+    all_alike (λ (b : Base). is_there (all_changed limited reg) is_interface b.name) (λ b. is_there reg is_interface b.name)
+    (λ b. there is_interface (interface_seen limited) reg b.name) bases
 bases_body reg (struct base members) = all_there is_struct (struct_seen limited) reg (at_most_one base)
 bases_body reg (exception base members) = all_there is_exception (exception_seen limited) reg (at_most_one base)
 bases_body reg (enum items) = refl
@@ -52,11 +58,13 @@ bases_body reg (old_service parts) = refl
 bases_body reg (new_singleton base) = refl
 bases_body reg (old_singleton service) = refl
 
-bases_alike : (reg : List Entity) (e : Entity) → bases_are_of_their_kind (all_changed limited reg) (entity_changed limited e) ≡ bases_are_of_their_kind reg e
+bases_alike : (reg : List Entity) (e : Entity)
+    → bases_are_of_their_kind (all_changed limited reg) (entity_changed limited e) ≡ bases_are_of_their_kind reg e
 unfolding bases_are_of_their_kind
 bases_alike reg e = bases_body reg e.body
 
-names_body : (reg : List Entity) (name : List ℕ) (b : Body) → all_names_differ (all_changed limited reg) name (body_changed limited b) ≡ all_names_differ reg name b
+names_body : (reg : List Entity) (name : List ℕ) (b : Body)
+    → all_names_differ (all_changed limited reg) name (body_changed limited b) ≡ all_names_differ reg name b
 names_body reg name (interface bases members) = ap all_differ (functions_named limited reg name)
 names_body reg name (struct base members) = ap all_differ (all_members_named limited reg name)
 names_body reg name (exception base members) = ap all_differ (all_members_named limited reg name)
@@ -80,15 +88,18 @@ raises_alike : (reg : List Entity) (e : Entity) → raises_exceptions (all_chang
 unfolding raises_exceptions
 raises_alike reg e =
     let known : raises_known (all_changed limited reg) (body_changed limited e.body) ≡ raises_known reg e.body =
-    ap (list_all (is_there (all_changed limited reg) is_exception)) (raises_changed limited e.body) ∙ all_there is_exception (exception_seen limited) reg _ in
+    ap (list_all (is_there (all_changed limited reg) is_exception)) (raises_changed limited e.body)
+    ∙ all_there is_exception (exception_seen limited) reg _ in
     ap₂ (λ a b. a && b) known (setters_alike limited e.body)
 
 services_body : (reg : List Entity) (b : Body) → parts_of_service_known (all_changed limited reg) (body_changed limited b) ≡ parts_of_service_known reg b
 services_body reg (new_service base constructors) = there is_interface (interface_seen limited) reg base
 services_body reg (old_service parts) =
     ap₂ (λ a b. a && b)
-    (ap (list_all (is_there (all_changed limited reg) is_interface)) (parts_interfaces limited parts) ∙ all_there is_interface (interface_seen limited) reg (flat_map interfaces_of_part parts))
-    (ap (list_all (is_there (all_changed limited reg) is_service)) (parts_services limited parts) ∙ all_there is_service (service_seen limited) reg (flat_map services_of_part parts))
+    (ap (list_all (is_there (all_changed limited reg) is_interface)) (parts_interfaces limited parts)
+    ∙ all_there is_interface (interface_seen limited) reg (flat_map interfaces_of_part parts))
+    (ap (list_all (is_there (all_changed limited reg) is_service)) (parts_services limited parts)
+    ∙ all_there is_service (service_seen limited) reg (flat_map services_of_part parts))
 services_body reg (interface bases members) = refl
 services_body reg (struct base members) = refl
 services_body reg (exception base members) = refl
@@ -114,7 +125,8 @@ singletons_body reg (typedef k) = refl
 singletons_body reg (new_service base constructors) = refl
 singletons_body reg (old_service parts) = refl
 
-singletons_alike : (reg : List Entity) (e : Entity) → singletons_have_targets (all_changed limited reg) (entity_changed limited e) ≡ singletons_have_targets reg e
+singletons_alike : (reg : List Entity) (e : Entity)
+    → singletons_have_targets (all_changed limited reg) (entity_changed limited e) ≡ singletons_have_targets reg e
 unfolding singletons_have_targets
 singletons_alike reg e = singletons_body reg e.body
 
@@ -128,11 +140,13 @@ kind_there reg (kd.interface name) = there is_interface (interface_seen limited)
 kind_there reg (kd.sequence k) = kind_there reg k
 kind_there reg _ = refl
 
-types_alike : (reg : List Entity) (e : Entity) → types_stand_at_their_places (all_changed limited reg) (entity_changed limited e) ≡ types_stand_at_their_places reg e
+types_alike : (reg : List Entity) (e : Entity)
+    → types_stand_at_their_places (all_changed limited reg) (entity_changed limited e) ≡ types_stand_at_their_places reg e
 unfolding types_stand_at_their_places
 types_alike reg e =
     let known : types_known (all_changed limited reg) (body_changed limited e.body) ≡ types_known reg e.body =
-    kinds_pass (kind_known (all_changed limited reg)) (kind_known reg) (λ k. cut_alike (kind_known (all_changed limited reg)) (λ j. refl) k ∙ kind_there reg k) e.body in
+    kinds_pass (kind_known (all_changed limited reg)) (kind_known reg)
+    (λ k. cut_alike (kind_known (all_changed limited reg)) (λ j. refl) k ∙ kind_there reg k) e.body in
     let allowed : types_allowed (body_changed limited e.body) ≡ types_allowed e.body =
     ap₂ (λ a b. a && b) (values_pass is_value is_value (cut_alike is_value (λ k. refl)) e.body)
     (ap₂ (λ a b. a && b) (results_pass elements_storable elements_storable (cut_alike elements_storable (λ k. refl)) e.body)
@@ -159,7 +173,8 @@ functions_alike reg e = ap (λ n. nat_le n 65536) (functions_counted limited reg
 whole_alike : (reg : List Entity) (e : Entity) → is_whole_within_limits (all_changed limited reg) (entity_changed limited e) ≡ is_whole_within_limits reg e
 unfolding is_whole_within_limits
 whole_alike reg e =
-    ap₂ (λ a b. a && b) (ap₂ (λ a b. a && b) (complete_alike limited e) (has_member_alike reg e)) (ap₂ (λ a b. a && b) (limits_alike e) (functions_alike reg e))
+    ap₂ (λ a b. a && b) (ap₂ (λ a b. a && b) (complete_alike limited e) (has_member_alike reg e))
+    (ap₂ (λ a b. a && b) (limits_alike e) (functions_alike reg e))
 
 -- ---- the law
 
@@ -171,7 +186,8 @@ of_alike : (a b : Bool) → a ≡ b → BothWays a b
 of_alike a b same = (λ is. sym same ∙ is, λ is. same ∙ is)
 
 pub limited_keeps : (reg : List Entity) (rule : Rule) (e : Entity) → rule ≢ r.values
-    → (Keeps (all_changed limited reg) rule (entity_changed limited e) → Keeps reg rule e) × (Keeps reg rule e → Keeps (all_changed limited reg) rule (entity_changed limited e))
+    → (Keeps (all_changed limited reg) rule (entity_changed limited e) → Keeps reg rule e)
+    × (Keeps reg rule e → Keeps (all_changed limited reg) rule (entity_changed limited e))
 limited_keeps reg r.bases e other = of_alike _ _ (bases_alike reg e)
 limited_keeps reg r.circles e other =
     let there = leads_changed reg in (

@@ -46,7 +46,8 @@ module _ {X Y V W Z : Type 0} (n : W → Z) (m : V → Z) (g : Y → List W) (h 
   flat_read f same (x ∷ xs) =
       map-append n (g (f x)) (flat_map g (map f xs)) ∙ ap₂ (λ a b. a ++ b) (same x) (flat_read f same xs) ∙ sym (map-append m (h x) (flat_map h xs))
 
-pub flat_alike : {X W Z : Type 0} (n : W → Z) (g h : X → List W) → ((x : X) → map n (g x) ≡ map n (h x)) → (xs : List X) → map n (flat_map g xs) ≡ map n (flat_map h xs)
+pub flat_alike : {X W Z : Type 0} (n : W → Z) (g h : X → List W) → ((x : X) → map n (g x) ≡ map n (h x)) → (xs : List X)
+    → map n (flat_map g xs) ≡ map n (flat_map h xs)
 flat_alike n g h same [] = refl
 flat_alike n g h same (x ∷ xs) =
     map-append n (g x) (flat_map g xs) ∙ ap₂ (λ a b. a ++ b) (same x) (flat_alike n g h same xs) ∙ sym (map-append n (h x) (flat_map h xs))

@@ -11,7 +11,8 @@ use Rattle.registry_reading_model.specs.Kept.{clamped, greatest, long_or_zero}
 -- a bound below the other does not see whether there is the other
 below_bound : (bound most n : ℕ) → most < bound → nat_le (min bound n) most ≡ nat_le n most
 below_bound bound most n low = elim (cases_lt bound n) [
-  | inl above ↦ let least : min bound n ≡ bound = omega (arith, above) in ap (λ x. nat_le x most) least ∙ lt-leb bound most low ∙ sym (lt-leb n most (omega (arith, above, low)))
+  | inl above ↦ let least : min bound n ≡ bound = omega (arith, above) in ap (λ x. nat_le x most) least ∙ lt-leb bound most low
+      ∙ sym (lt-leb n most (omega (arith, above, low)))
   | inr within ↦ let least : min bound n ≡ n = omega (arith, within) in ap (λ x. nat_le x most) least
 ]
 
@@ -49,7 +50,8 @@ signed_stays least most (negsuc n) width within =
 
 unsigned_stays : (most : ℕ) (z : ℤ) → most < greatest → is_between (pos 0) (pos most) z ≡ true → clamped z ≡ z
 unfolding clamped
-unsigned_stays most (pos n) width within = let low = leb-true n most (and_parts (nat_le 0 n) (nat_le n most) within).1 in ap pos (omega (arith, low, width))
+unsigned_stays most (pos n) width within =
+    let low = leb-true n most (and_parts (nat_le 0 n) (nat_le n most) within).1 in ap pos (omega (arith, low, width))
 unsigned_stays most (negsuc n) width within = let bad : false ≡ true = within in absurd (both_ways false refl bad)
 
 pub in_range_stays : (k : Kind) (z : ℤ) → is_in_range k z ≡ true → clamped z ≡ z

@@ -1,5 +1,6 @@
 -- Where the written entities of a registry stand in it.
-use Rattle.std.proofs.Common.{◌≡◌, ℕ, zero, suc, ◌<◌, true, false, List, [], ◌∷◌, ◌++◌, map, take, drop, length, get_or, Contains, refl, sym, ap, ap₂, ◌∙◌, subst, arith, inl, inr}
+use Rattle.std.proofs.Common.{◌≡◌, ℕ, zero, suc, ◌<◌, true, false, List, [], ◌∷◌, ◌++◌, map, take, drop, length, get_or, Contains, refl, sym, ap, ap₂}
+use Rattle.std.proofs.Common.{◌∙◌, subst, arith, inl, inr}
 use Rattle.std.proofs.lemmas.Bool.{both_ways, cases_Bool}
 use Rattle.uno_model.specs.Entities.{Entity}
 use Rattle.uno_model.proofs.PlaceLaws.{contains_cases, contains_head, contains_behind}
@@ -22,15 +23,18 @@ written_at (x ∷ xs) zero e within there other =
 written_at (x ∷ xs) (suc place) e within there other =
     let behind = written_at xs place e (omega (arith, within)) there other in
     elim (cases_Bool (is_built_in_name x.name)) [
-      | inl named ↦ written_without x xs named ∙ behind ∙ ap (λ ds. ds ++ e ∷ written (drop (suc place) xs)) (sym (written_without x (take place xs) named))
-      | inr new ↦ written_more x xs new ∙ ap (λ ds. x ∷ ds) behind ∙ ap (λ ds. ds ++ e ∷ written (drop (suc place) xs)) (sym (written_more x (take place xs) new))
+      | inl named ↦ written_without x xs named ∙ behind
+          ∙ ap (λ ds. ds ++ e ∷ written (drop (suc place) xs)) (sym (written_without x (take place xs) named))
+      | inr new ↦ written_more x xs new ∙ ap (λ ds. x ∷ ds) behind
+          ∙ ap (λ ds. ds ++ e ∷ written (drop (suc place) xs)) (sym (written_more x (take place xs) new))
     ]
 
 -- it has a place in the registry
 abbrev pub StandsBehind : List Entity → List Entity → Entity → Type 0
 StandsBehind reg before e = (place : ℕ) × (place < length reg) × (get_or reg place e ≡ e) × (written (take place reg) ≡ before)
 
-one_further : (x : Entity) (xs before front : List Entity) (e : Entity) → ((place : ℕ) → written (take place xs) ≡ before → written (x ∷ take place xs) ≡ front)
+one_further : (x : Entity) (xs before front : List Entity) (e : Entity)
+    → ((place : ℕ) → written (take place xs) ≡ before → written (x ∷ take place xs) ≡ front)
     → StandsBehind xs before e → StandsBehind (x ∷ xs) front e
 one_further x xs before front e more (place, within, there, are) = (suc place, omega (arith, within), there, more place are)
 
@@ -79,7 +83,8 @@ contains_taken (suc n) (y ∷ ys) x there = elim (contains_cases y (take n ys) x
 pub written_changed : (c : Change) (reg : List Entity) → written (map (entity_changed c) reg) ≡ map (entity_changed c) (written reg)
 written_changed c [] = refl
 written_changed c (e ∷ es) = elim (cases_Bool (is_built_in_name e.name)) [
-  | inl named ↦ written_without (entity_changed c e) (map (entity_changed c) es) named ∙ written_changed c es ∙ ap (map (entity_changed c)) (sym (written_without e es named))
+  | inl named ↦ written_without (entity_changed c e) (map (entity_changed c) es) named ∙ written_changed c es
+      ∙ ap (map (entity_changed c)) (sym (written_without e es named))
   | inr new ↦
       written_more (entity_changed c e) (map (entity_changed c) es) new ∙ ap (λ ds. entity_changed c e ∷ ds) (written_changed c es)
       ∙ ap (map (entity_changed c)) (sym (written_more e es new))
