@@ -55,15 +55,7 @@ kept_is_long e = of_body e.body
         all_true : (is : List Item) → list_all (λ i. true) is ≡ true
         all_true [] = refl
         all_true (i ∷ is) = all_true is
-    of_body (interface bases members) = refl
-    of_body (struct base members) = refl
-    of_body (exception base members) = refl
-    of_body (constants cs) = refl
-    of_body (typedef k) = refl
-    of_body (new_service base constructors) = refl
-    of_body (old_service parts) = refl
-    of_body (new_singleton base) = refl
-    of_body (old_singleton service) = refl
+    of_body _ = refl
 
 -- ---- all that a registry has
 

@@ -27,87 +27,31 @@ module _ (c : Change) where
 
   pub interface_seen : SeesClass is_interface
   interface_seen (interface bases members) = refl
-  interface_seen (struct base members) = refl
-  interface_seen (exception base members) = refl
-  interface_seen (enum items) = refl
-  interface_seen (constants cs) = refl
-  interface_seen (typedef k) = refl
-  interface_seen (new_service base constructors) = refl
-  interface_seen (old_service parts) = refl
-  interface_seen (new_singleton base) = refl
-  interface_seen (old_singleton service) = refl
+  interface_seen _ = refl
 
   pub struct_seen : SeesClass is_struct
   struct_seen (interface bases members) = refl
-  struct_seen (struct base members) = refl
-  struct_seen (exception base members) = refl
-  struct_seen (enum items) = refl
-  struct_seen (constants cs) = refl
-  struct_seen (typedef k) = refl
-  struct_seen (new_service base constructors) = refl
-  struct_seen (old_service parts) = refl
-  struct_seen (new_singleton base) = refl
-  struct_seen (old_singleton service) = refl
+  struct_seen _ = refl
 
   pub exception_seen : SeesClass is_exception
   exception_seen (interface bases members) = refl
-  exception_seen (struct base members) = refl
-  exception_seen (exception base members) = refl
-  exception_seen (enum items) = refl
-  exception_seen (constants cs) = refl
-  exception_seen (typedef k) = refl
-  exception_seen (new_service base constructors) = refl
-  exception_seen (old_service parts) = refl
-  exception_seen (new_singleton base) = refl
-  exception_seen (old_singleton service) = refl
+  exception_seen _ = refl
 
   pub enum_seen : SeesClass is_enum
   enum_seen (interface bases members) = refl
-  enum_seen (struct base members) = refl
-  enum_seen (exception base members) = refl
-  enum_seen (enum items) = refl
-  enum_seen (constants cs) = refl
-  enum_seen (typedef k) = refl
-  enum_seen (new_service base constructors) = refl
-  enum_seen (old_service parts) = refl
-  enum_seen (new_singleton base) = refl
-  enum_seen (old_singleton service) = refl
+  enum_seen _ = refl
 
   pub service_seen : SeesClass is_service
   service_seen (interface bases members) = refl
-  service_seen (struct base members) = refl
-  service_seen (exception base members) = refl
-  service_seen (enum items) = refl
-  service_seen (constants cs) = refl
-  service_seen (typedef k) = refl
-  service_seen (new_service base constructors) = refl
-  service_seen (old_service parts) = refl
-  service_seen (new_singleton base) = refl
-  service_seen (old_singleton service) = refl
+  service_seen _ = refl
 
   pub typedef_seen : SeesClass is_typedef
   typedef_seen (interface bases members) = refl
-  typedef_seen (struct base members) = refl
-  typedef_seen (exception base members) = refl
-  typedef_seen (enum items) = refl
-  typedef_seen (constants cs) = refl
-  typedef_seen (typedef k) = refl
-  typedef_seen (new_service base constructors) = refl
-  typedef_seen (old_service parts) = refl
-  typedef_seen (new_singleton base) = refl
-  typedef_seen (old_singleton service) = refl
+  typedef_seen _ = refl
 
   pub type_seen : SeesClass is_type_body
   type_seen (interface bases members) = refl
-  type_seen (struct base members) = refl
-  type_seen (exception base members) = refl
-  type_seen (enum items) = refl
-  type_seen (constants cs) = refl
-  type_seen (typedef k) = refl
-  type_seen (new_service base constructors) = refl
-  type_seen (old_service parts) = refl
-  type_seen (new_singleton base) = refl
-  type_seen (old_singleton service) = refl
+  type_seen _ = refl
 
   -- ---- names of others
 
@@ -117,16 +61,9 @@ module _ (c : Change) where
 
   pub raises_changed : (b : Body) → raised_names (body_changed c b) ≡ raised_names b
   raises_changed (interface bases members) = flat_mapped (member_changed c) raised_by raised_by member_raises members
-  raises_changed (struct base members) = refl
-  raises_changed (exception base members) = refl
-  raises_changed (enum items) = refl
-  raises_changed (constants cs) = refl
-  raises_changed (typedef k) = refl
   raises_changed (new_service base constructors) =
       flat_mapped (constructor_changed c) (λ (k : Constructor). k.raises) (λ k. k.raises) (λ k. refl) constructors
-  raises_changed (old_service parts) = refl
-  raises_changed (new_singleton base) = refl
-  raises_changed (old_singleton service) = refl
+  raises_changed _ = refl
 
   setter_alike : (m : Member) → setter_raises_rightly (member_changed c m) ≡ setter_raises_rightly m
   setter_alike (attribute a) = refl
@@ -134,15 +71,7 @@ module _ (c : Change) where
 
   pub setters_alike : (b : Body) → setters_raise_rightly (body_changed c b) ≡ setters_raise_rightly b
   setters_alike (interface bases members) = all_mapped (member_changed c) setter_raises_rightly setter_raises_rightly setter_alike members
-  setters_alike (struct base members) = refl
-  setters_alike (exception base members) = refl
-  setters_alike (enum items) = refl
-  setters_alike (constants cs) = refl
-  setters_alike (typedef k) = refl
-  setters_alike (new_service base constructors) = refl
-  setters_alike (old_service parts) = refl
-  setters_alike (new_singleton base) = refl
-  setters_alike (old_singleton service) = refl
+  setters_alike _ = refl
 
   part_interfaces : (p : Part) → interfaces_of_part (part_changed c p) ≡ interfaces_of_part p
   part_interfaces (face optional name) = refl
@@ -188,34 +117,23 @@ module _ (c : Change) where
   own_names_alike (interface bases members) =
       ap₂ (λ names params. all_differ names && params) (map_mapped (member_changed c) declared_name declared_name member_declared members)
       (all_mapped (member_changed c) params_differ params_differ member_params members)
-  own_names_alike (struct base members) = refl
-  own_names_alike (exception base members) = refl
   own_names_alike (enum items) = ap all_differ (map_mapped (item_changed c) (λ (i : Item). i.name) (λ i. i.name) (λ i. refl) items)
   own_names_alike (constants cs) = ap all_differ (map_mapped (constant_changed c) (λ (k : Constant). k.name) (λ k. k.name) (λ k. refl) cs)
-  own_names_alike (typedef k) = refl
   own_names_alike (new_service base constructors) =
       ap₂ (λ names params. all_differ names && params)
       (map_mapped (constructor_changed c) (λ (k : Constructor). k.name) (λ k. k.name) (λ k. refl) constructors)
       (all_mapped (constructor_changed c) given_differ given_differ constructor_params constructors)
   own_names_alike (old_service parts) = ap all_differ (flat_mapped (part_changed c) part_names part_names part_named parts)
-  own_names_alike (new_singleton base) = refl
-  own_names_alike (old_singleton service) = refl
+  own_names_alike _ = refl
 
   -- ---- how many there are
 
   complete_body : (name : List ℕ) (published : Bool) (b : Body)
       → is_complete (record { name = name; published = published; body = body_changed c b })
       ≡ is_complete (record { name = name; published = published; body = b })
-  complete_body name published (interface bases members) = refl
-  complete_body name published (struct base members) = refl
-  complete_body name published (exception base members) = refl
   complete_body name published (enum items) = some_mapped (item_changed c) items
-  complete_body name published (constants cs) = refl
-  complete_body name published (typedef k) = refl
   complete_body name published (new_service base constructors) = some_mapped (constructor_changed c) constructors
-  complete_body name published (old_service parts) = refl
-  complete_body name published (new_singleton base) = refl
-  complete_body name published (old_singleton service) = refl
+  complete_body name published _ = refl
 
   pub complete_alike : (e : Entity) → is_complete (entity_changed c e) ≡ is_complete e
   complete_alike e = complete_body e.name e.published e.body
@@ -226,18 +144,11 @@ module _ (c : Change) where
 
   pub counts_changed : (b : Body) → param_counts (body_changed c b) ≡ param_counts b
   counts_changed (interface bases members) = flat_mapped (member_changed c) param_counts_of param_counts_of member_counts members
-  counts_changed (struct base members) = refl
-  counts_changed (exception base members) = refl
-  counts_changed (enum items) = refl
-  counts_changed (constants cs) = refl
-  counts_changed (typedef k) = refl
   counts_changed (new_service base constructors) =
       map_mapped (constructor_changed c) (λ (k : Constructor). length k.params + length (at_most_one k.rest))
       (λ k. length k.params + length (at_most_one k.rest))
       (λ k. ap (λ n. n + length (at_most_one k.rest)) (length-map k.params (field_changed c))) constructors
-  counts_changed (old_service parts) = refl
-  counts_changed (new_singleton base) = refl
-  counts_changed (old_singleton service) = refl
+  counts_changed _ = refl
 
 -- ---- what a reader keeps
 
@@ -249,27 +160,11 @@ method_alike (method m) =
 
 pub one_way_alike : (b : Body) → body_goes_one_way (body_changed limited b) ≡ body_goes_one_way b
 one_way_alike (interface bases members) = all_mapped (member_changed limited) member_goes_one_way member_goes_one_way method_alike members
-one_way_alike (struct base members) = refl
-one_way_alike (exception base members) = refl
-one_way_alike (enum items) = refl
-one_way_alike (constants cs) = refl
-one_way_alike (typedef k) = refl
-one_way_alike (new_service base constructors) = refl
-one_way_alike (old_service parts) = refl
-one_way_alike (new_singleton base) = refl
-one_way_alike (old_singleton service) = refl
+one_way_alike _ = refl
 
 contained_changed : (fs : List Field) → contained (map (field_changed limited) fs) ≡ contained fs
 contained_changed fs = flat_mapped (field_changed limited) (λ f. struct_in f.kind) (λ f. struct_in f.kind) (λ f. cut_alike struct_in (λ k. refl) f.kind) fs
 
 pub led_to_changed : (b : Body) → led_to (body_changed limited b) ≡ led_to b
-led_to_changed (interface bases members) = refl
 led_to_changed (struct base members) = ap (λ names. at_most_one base ++ names) (contained_changed members)
-led_to_changed (exception base members) = refl
-led_to_changed (enum items) = refl
-led_to_changed (constants cs) = refl
-led_to_changed (typedef k) = refl
-led_to_changed (new_service base constructors) = refl
-led_to_changed (old_service parts) = refl
-led_to_changed (new_singleton base) = refl
-led_to_changed (old_singleton service) = refl
+led_to_changed _ = refl

@@ -51,40 +51,21 @@ module _ (c : Change) where
   value_kinds_changed (interface bases members) = flat_changed (member_changed c) value_kinds_of value_kinds_of c.kind member_values members
   value_kinds_changed (struct base members) = fields_kinds members
   value_kinds_changed (exception base members) = fields_kinds members
-  value_kinds_changed (enum items) = refl
   value_kinds_changed (constants cs) = constants_kinds cs
-  value_kinds_changed (typedef k) = refl
   value_kinds_changed (new_service base constructors) =
       flat_changed (constructor_changed c) (λ (k : Constructor). map (λ (p : Field). p.kind) k.params)
       (λ (k : Constructor). map (λ (p : Field). p.kind) k.params) c.kind
       (λ k. fields_kinds k.params) constructors
   value_kinds_changed (old_service parts) = flat_changed (part_changed c) property_kinds property_kinds c.kind part_kinds parts
-  value_kinds_changed (new_singleton base) = refl
-  value_kinds_changed (old_singleton service) = refl
+  value_kinds_changed _ = refl
 
   pub result_kinds_changed : (b : Body) → result_kinds (body_changed c b) ≡ map c.kind (result_kinds b)
   result_kinds_changed (interface bases members) = flat_changed (member_changed c) result_kinds_of result_kinds_of c.kind member_results members
-  result_kinds_changed (struct base members) = refl
-  result_kinds_changed (exception base members) = refl
-  result_kinds_changed (enum items) = refl
-  result_kinds_changed (constants cs) = refl
-  result_kinds_changed (typedef k) = refl
-  result_kinds_changed (new_service base constructors) = refl
-  result_kinds_changed (old_service parts) = refl
-  result_kinds_changed (new_singleton base) = refl
-  result_kinds_changed (old_singleton service) = refl
+  result_kinds_changed _ = refl
 
   pub target_kinds_changed : (b : Body) → target_kinds (body_changed c b) ≡ map c.kind (target_kinds b)
   target_kinds_changed (interface bases members) = refl
-  target_kinds_changed (struct base members) = refl
-  target_kinds_changed (exception base members) = refl
-  target_kinds_changed (enum items) = refl
-  target_kinds_changed (constants cs) = refl
-  target_kinds_changed (typedef k) = refl
-  target_kinds_changed (new_service base constructors) = refl
-  target_kinds_changed (old_service parts) = refl
-  target_kinds_changed (new_singleton base) = refl
-  target_kinds_changed (old_singleton service) = refl
+  target_kinds_changed _ = refl
 
   pub all_kinds_changed : (b : Body) → kinds_in (body_changed c b) ≡ map c.kind (kinds_in b)
   all_kinds_changed b =
@@ -115,17 +96,9 @@ constant_alike : (c : Constant) → is_in_range (cut c.kind) (clamped c.number) 
 constant_alike c = cut_alike (λ k. is_in_range k (clamped c.number)) (λ k. refl) c.kind ∙ range_clamped c.kind c.number
 
 in_range_alike : (b : Body) → body_is_in_range (body_changed limited b) ≡ body_is_in_range b
-in_range_alike (interface bases members) = refl
-in_range_alike (struct base members) = refl
-in_range_alike (exception base members) = refl
-in_range_alike (enum items) = refl
 in_range_alike (constants cs) =
     all_mapped (constant_changed limited) (λ c. is_in_range c.kind c.number) (λ c. is_in_range c.kind c.number) constant_alike cs
-in_range_alike (typedef k) = refl
-in_range_alike (new_service base constructors) = refl
-in_range_alike (old_service parts) = refl
-in_range_alike (new_singleton base) = refl
-in_range_alike (old_singleton service) = refl
+in_range_alike _ = refl
 
 pub constants_alike : (e : Entity) → constants_are_in_range (entity_changed limited e) ≡ constants_are_in_range e
 unfolding constants_are_in_range

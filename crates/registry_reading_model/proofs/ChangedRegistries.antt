@@ -51,15 +51,7 @@ module _ (c : Change) where
       → stands_on_body (Some (record { name = name; published = published; body = body_changed c b }))
       ≡ stands_on_body (Some (record { name = name; published = published; body = b }))
   bases_of_body name published (interface bases members) = refl
-  bases_of_body name published (struct base members) = refl
-  bases_of_body name published (exception base members) = refl
-  bases_of_body name published (enum items) = refl
-  bases_of_body name published (constants cs) = refl
-  bases_of_body name published (typedef k) = refl
-  bases_of_body name published (new_service base constructors) = refl
-  bases_of_body name published (old_service parts) = refl
-  bases_of_body name published (new_singleton base) = refl
-  bases_of_body name published (old_singleton service) = refl
+  bases_of_body name published _ = refl
 
   bases_of_found : (o : Option Entity) → stands_on_body (option_map (entity_changed c) o) ≡ stands_on_body o
   bases_of_found None = refl
@@ -117,15 +109,7 @@ module _ (c : Change) where
     where
       name : Function → List ℕ
       name f = f.name
-  declared_named owner (struct base members) = refl
-  declared_named owner (exception base members) = refl
-  declared_named owner (enum items) = refl
-  declared_named owner (constants cs) = refl
-  declared_named owner (typedef k) = refl
-  declared_named owner (new_service base constructors) = refl
-  declared_named owner (old_service parts) = refl
-  declared_named owner (new_singleton base) = refl
-  declared_named owner (old_singleton service) = refl
+  declared_named owner _ = refl
 
   found_named : (owner : List ℕ) (o : Option Entity) → names_of (declared_by owner (option_map (entity_changed c) o)) ≡ names_of (declared_by owner o)
   found_named owner None = refl
@@ -154,14 +138,7 @@ module _ (c : Change) where
       ≡ field_names (own_members (Some (record { name = name; published = published; body = b })))
   own_named name published (struct base members) = map_mapped (field_changed c) (λ (f : Field). f.name) (λ f. f.name) (λ f. refl) members
   own_named name published (exception base members) = map_mapped (field_changed c) (λ (f : Field). f.name) (λ f. f.name) (λ f. refl) members
-  own_named name published (interface bases members) = refl
-  own_named name published (enum items) = refl
-  own_named name published (constants cs) = refl
-  own_named name published (typedef k) = refl
-  own_named name published (new_service base constructors) = refl
-  own_named name published (old_service parts) = refl
-  own_named name published (new_singleton base) = refl
-  own_named name published (old_singleton service) = refl
+  own_named name published _ = refl
 
   own_found : (o : Option Entity) → field_names (own_members (option_map (entity_changed c) o)) ≡ field_names (own_members o)
   own_found None = refl
@@ -171,15 +148,7 @@ module _ (c : Change) where
       → member_bases (Some (record { name = name; published = published; body = body_changed c b }))
       ≡ member_bases (Some (record { name = name; published = published; body = b }))
   member_bases_body name published (interface bases members) = refl
-  member_bases_body name published (struct base members) = refl
-  member_bases_body name published (exception base members) = refl
-  member_bases_body name published (enum items) = refl
-  member_bases_body name published (constants cs) = refl
-  member_bases_body name published (typedef k) = refl
-  member_bases_body name published (new_service base constructors) = refl
-  member_bases_body name published (old_service parts) = refl
-  member_bases_body name published (new_singleton base) = refl
-  member_bases_body name published (old_singleton service) = refl
+  member_bases_body name published _ = refl
 
   member_bases_found : (o : Option Entity) → member_bases (option_map (entity_changed c) o) ≡ member_bases o
   member_bases_found None = refl
@@ -218,15 +187,8 @@ typedefs_changed reg k =
 
 led_on_changed : (reg : List Entity) (b : Body) → led_on (all_changed limited reg) (body_changed limited b) ≡ led_on reg b
 led_on_changed reg (typedef k) = typedefs_changed reg k
-led_on_changed reg (interface bases members) = refl
 led_on_changed reg (struct base members) = led_to_changed (struct base members)
-led_on_changed reg (exception base members) = refl
-led_on_changed reg (enum items) = refl
-led_on_changed reg (constants cs) = refl
-led_on_changed reg (new_service base constructors) = refl
-led_on_changed reg (old_service parts) = refl
-led_on_changed reg (new_singleton base) = refl
-led_on_changed reg (old_singleton service) = refl
+led_on_changed reg _ = refl
 
 leads_on_changed : (reg : List Entity) (o : Option Entity) → leads_on (all_changed limited reg) (option_map (entity_changed limited) o) ≡ leads_on reg o
 leads_on_changed reg None = refl

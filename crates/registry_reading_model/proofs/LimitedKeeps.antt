@@ -50,13 +50,7 @@ bases_body reg (interface bases members) =
     (λ b. there is_interface (interface_seen limited) reg b.name) bases
 bases_body reg (struct base members) = all_there is_struct (struct_seen limited) reg (at_most_one base)
 bases_body reg (exception base members) = all_there is_exception (exception_seen limited) reg (at_most_one base)
-bases_body reg (enum items) = refl
-bases_body reg (constants cs) = refl
-bases_body reg (typedef k) = refl
-bases_body reg (new_service base constructors) = refl
-bases_body reg (old_service parts) = refl
-bases_body reg (new_singleton base) = refl
-bases_body reg (old_singleton service) = refl
+bases_body reg _ = refl
 
 bases_alike : (reg : List Entity) (e : Entity)
     → bases_are_of_their_kind (all_changed limited reg) (entity_changed limited e) ≡ bases_are_of_their_kind reg e
@@ -68,13 +62,7 @@ names_body : (reg : List Entity) (name : List ℕ) (b : Body)
 names_body reg name (interface bases members) = ap all_differ (functions_named limited reg name)
 names_body reg name (struct base members) = ap all_differ (all_members_named limited reg name)
 names_body reg name (exception base members) = ap all_differ (all_members_named limited reg name)
-names_body reg name (enum items) = refl
-names_body reg name (constants cs) = refl
-names_body reg name (typedef k) = refl
-names_body reg name (new_service base constructors) = refl
-names_body reg name (old_service parts) = refl
-names_body reg name (new_singleton base) = refl
-names_body reg name (old_singleton service) = refl
+names_body reg name _ = refl
 
 names_alike : (reg : List Entity) (e : Entity) → names_differ (all_changed limited reg) (entity_changed limited e) ≡ names_differ reg e
 unfolding names_differ
@@ -100,14 +88,7 @@ services_body reg (old_service parts) =
     ∙ all_there is_interface (interface_seen limited) reg (flat_map interfaces_of_part parts))
     (ap (list_all (is_there (all_changed limited reg) is_service)) (parts_services limited parts)
     ∙ all_there is_service (service_seen limited) reg (flat_map services_of_part parts))
-services_body reg (interface bases members) = refl
-services_body reg (struct base members) = refl
-services_body reg (exception base members) = refl
-services_body reg (enum items) = refl
-services_body reg (constants cs) = refl
-services_body reg (typedef k) = refl
-services_body reg (new_singleton base) = refl
-services_body reg (old_singleton service) = refl
+services_body reg _ = refl
 
 services_alike : (reg : List Entity) (e : Entity) → services_have_parts (all_changed limited reg) (entity_changed limited e) ≡ services_have_parts reg e
 unfolding services_have_parts
@@ -116,14 +97,7 @@ services_alike reg e = services_body reg e.body
 singletons_body : (reg : List Entity) (b : Body) → target_known (all_changed limited reg) (body_changed limited b) ≡ target_known reg b
 singletons_body reg (new_singleton base) = there is_interface (interface_seen limited) reg base
 singletons_body reg (old_singleton service) = there is_service (service_seen limited) reg service
-singletons_body reg (interface bases members) = refl
-singletons_body reg (struct base members) = refl
-singletons_body reg (exception base members) = refl
-singletons_body reg (enum items) = refl
-singletons_body reg (constants cs) = refl
-singletons_body reg (typedef k) = refl
-singletons_body reg (new_service base constructors) = refl
-singletons_body reg (old_service parts) = refl
+singletons_body reg _ = refl
 
 singletons_alike : (reg : List Entity) (e : Entity)
     → singletons_have_targets (all_changed limited reg) (entity_changed limited e) ≡ singletons_have_targets reg e
