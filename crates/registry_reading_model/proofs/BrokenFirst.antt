@@ -5,8 +5,8 @@ use Rattle.std.specs.List.{list_all}
 use Rattle.std.proofs.lemmas.Bool.{both_ways}
 use Rattle.std.proofs.lemmas.List.{length-map, get_or-map, take-map, get_or_default}
 use Rattle.uno_model.specs.Entities.{Entity}
-use Rattle.uno_model.specs.Entities.{Body, interface, struct, exception, enum, constants, typedef, new_service, old_service, new_singleton}
-use Rattle.uno_model.specs.Entities.{old_singleton, Item}
+use Rattle.uno_model.specs.Entities.{Body, enum}
+use Rattle.uno_model.specs.Entities.{Item}
 use Rattle.registry_text_model.specs.EnumValues.{is_long, items_are_long, values_are_long}
 use Rattle.registry_text_model.specs.Rules as r
 use Rattle.registry_text_model.specs.Rules.{Rule, number_of, Keeps, AllKeep, BreaksFirst}

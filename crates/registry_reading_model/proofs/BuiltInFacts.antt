@@ -1,10 +1,10 @@
 -- What a registry that has the built-in entities says of them: their functions, their members and their ways.
-use Rattle.std.proofs.Common.{◌≡◌, ℕ, zero, suc, ◌≤◌, true, false, ◌&&◌, nat_le, List, [], ◌∷◌, ◌++◌, map, length, Some, Contains, refl, sym, ap, ap₂}
+use Rattle.std.proofs.Common.{◌≡◌, ℕ, zero, suc, ◌≤◌, true, false, ◌&&◌, List, [], ◌∷◌, ◌++◌, length, Some, Contains, refl, sym, ap, ap₂}
 use Rattle.std.proofs.Common.{◌∙◌, subst, arith, ◌-◌}
 use Rattle.std.specs.Prelude.{slice_get}
 use Rattle.std.specs.List.{list_all, flat_map}
 use Rattle.std.specs.Str.{bytes_eq}
-use Rattle.std.proofs.lemmas.Bool.{both_ways, and_from}
+use Rattle.std.proofs.lemmas.Bool.{both_ways}
 use Rattle.std.proofs.lemmas.Option.{slice_get_within}
 use Rattle.uno_model.specs.BuiltIn.{built_in, HasBuiltIn, disposed_exception, factory, base_exception, runtime_exception, x_interface}
 use Rattle.uno_model.specs.BuiltIn.{disposed_exception_name, factory_name, exception_name, runtime_exception_name, x_interface_name, message_field}
@@ -12,24 +12,11 @@ use Rattle.uno_model.specs.BuiltIn.{context_field}
 use Rattle.uno_model.specs.Circles.{Leads, ends_within}
 use Rattle.uno_model.specs.Entities.{Entity, Field}
 use Rattle.uno_model.specs.Functions.{Function, declared_by, is_met, visit_all, met_within, interfaces_of, functions_of}
-use Rattle.uno_model.specs.Names.{parts_of}
-use Rattle.uno_model.specs.Registry.{IsRising, find_entity, stands_on_body, member_bases, own_members, members_within, all_members}
-use Rattle.uno_model.specs.Sound.{is_there, is_interface, is_exception, all_differ, is_complete, has_member, is_within_limits, is_some_list}
+use Rattle.uno_model.specs.Registry.{find_entity, stands_on_body, member_bases, own_members, members_within, all_members}
+use Rattle.uno_model.specs.Sound.{is_there, is_interface, is_exception}
 use Rattle.uno_model.proofs.CircleLaws.{ends_no_circle}
 use Rattle.uno_model.proofs.ReachLaws.{found_place}
-use Rattle.registry_text_model.specs.BasesAreOfTheirKind.{bases_are_of_their_kind}
-use Rattle.registry_text_model.specs.ConstantValues.{constants_are_in_range}
-use Rattle.registry_text_model.specs.EnumValues.{values_are_long}
-use Rattle.registry_text_model.specs.NamesDiffer.{own_names_differ, names_differ}
 use Rattle.registry_text_model.specs.NoCircles.{leads_on, leads_on_to}
-use Rattle.registry_text_model.specs.OneWayMethods.{one_way_gives_nothing}
-use Rattle.registry_text_model.specs.RaisedExceptions.{raises_exceptions}
-use Rattle.registry_text_model.specs.Rules as r
-use Rattle.registry_text_model.specs.Rules.{Rule, Keeps}
-use Rattle.registry_text_model.specs.ServiceParts.{services_have_parts}
-use Rattle.registry_text_model.specs.SingletonTargets.{singletons_have_targets}
-use Rattle.registry_text_model.specs.TypesAtTheirPlaces.{types_stand_at_their_places}
-use Rattle.registry_text_model.specs.WholeWithinLimits.{has_few_functions, is_whole_within_limits}
 
 -- what holds of each of the five
 pub each_built_in : (P : Entity → Type 0) → P disposed_exception → P factory → P base_exception → P runtime_exception → P x_interface → (e : Entity)
@@ -148,7 +135,8 @@ module _ (reg : List Entity) (has : HasBuiltIn reg) where
   pub root_functions : functions_of reg x_interface_name ≡ declared_by x_interface_name (Some x_interface) ++ []
   root_functions = ap (flat_map declared) root_interfaces ∙ ap (λ o. declared_by x_interface_name o ++ []) root
 
-  pub factory_functions : functions_of reg factory_name ≡ declared_by x_interface_name (Some x_interface) ++ (declared_by factory_name (Some factory) ++ [])
+  pub factory_functions : functions_of reg factory_name
+      ≡ declared_by x_interface_name (Some x_interface) ++ (declared_by factory_name (Some factory) ++ [])
   factory_functions =
       ap (flat_map declared) factory_interfaces ∙ ap₂ (λ o p. declared_by x_interface_name o ++ (declared_by factory_name p ++ [])) root factory_found
 

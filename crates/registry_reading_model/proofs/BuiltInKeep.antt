@@ -1,27 +1,15 @@
 -- The built-in entities keep each rule in every registry that has them.
-use Rattle.std.proofs.Common.{◌≡◌, ℕ, zero, suc, ◌≤◌, true, false, ◌&&◌, nat_le, List, [], ◌∷◌, ◌++◌, map, length, Some, Contains, refl, sym, ap, ap₂}
-use Rattle.std.proofs.Common.{◌∙◌, subst, arith, ◌-◌}
-use Rattle.std.specs.Prelude.{slice_get}
-use Rattle.std.specs.List.{list_all, flat_map}
-use Rattle.std.specs.Str.{bytes_eq}
-use Rattle.std.proofs.lemmas.Bool.{both_ways, and_from}
-use Rattle.std.proofs.lemmas.Option.{slice_get_within}
+use Rattle.std.proofs.Common.{◌≡◌, true, ◌&&◌, nat_le, List, map, length, Contains, refl, ap}
+use Rattle.std.proofs.lemmas.Bool.{and_from}
 use Rattle.uno_model.specs.BuiltIn.{built_in, HasBuiltIn, disposed_exception, factory, base_exception, runtime_exception, x_interface}
-use Rattle.uno_model.specs.BuiltIn.{disposed_exception_name, factory_name, exception_name, runtime_exception_name, x_interface_name, message_field}
-use Rattle.uno_model.specs.BuiltIn.{context_field}
-use Rattle.uno_model.specs.Circles.{Leads, ends_within}
-use Rattle.uno_model.specs.Entities.{Entity, Field}
-use Rattle.uno_model.specs.Functions.{Function, declared_by, is_met, visit_all, met_within, interfaces_of, functions_of}
+use Rattle.uno_model.specs.Entities.{Entity}
 use Rattle.uno_model.specs.Names.{parts_of}
-use Rattle.uno_model.specs.Registry.{IsRising, find_entity, stands_on_body, member_bases, own_members, members_within, all_members}
-use Rattle.uno_model.specs.Sound.{is_there, is_interface, is_exception, all_differ, is_complete, has_member, is_within_limits, is_some_list}
-use Rattle.uno_model.proofs.CircleLaws.{ends_no_circle}
-use Rattle.uno_model.proofs.ReachLaws.{found_place}
+use Rattle.uno_model.specs.Registry.{IsRising}
+use Rattle.uno_model.specs.Sound.{all_differ, is_complete, has_member, is_within_limits, is_some_list}
 use Rattle.registry_text_model.specs.BasesAreOfTheirKind.{bases_are_of_their_kind}
 use Rattle.registry_text_model.specs.ConstantValues.{constants_are_in_range}
 use Rattle.registry_text_model.specs.EnumValues.{values_are_long}
 use Rattle.registry_text_model.specs.NamesDiffer.{own_names_differ, names_differ}
-use Rattle.registry_text_model.specs.NoCircles.{leads_on, leads_on_to}
 use Rattle.registry_text_model.specs.OneWayMethods.{one_way_gives_nothing}
 use Rattle.registry_text_model.specs.RaisedExceptions.{raises_exceptions}
 use Rattle.registry_text_model.specs.Rules as r
@@ -30,7 +18,9 @@ use Rattle.registry_text_model.specs.ServiceParts.{services_have_parts}
 use Rattle.registry_text_model.specs.SingletonTargets.{singletons_have_targets}
 use Rattle.registry_text_model.specs.TypesAtTheirPlaces.{types_stand_at_their_places}
 use Rattle.registry_text_model.specs.WholeWithinLimits.{has_few_functions, is_whole_within_limits}
-use Rattle.registry_reading_model.proofs.BuiltInFacts.{each_built_in, runtime_there, base_there, root_there, root, root_functions, factory_functions, base_functions, runtime_functions, disposed_functions, base_members, runtime_members, disposed_members, no_circle}
+use Rattle.registry_reading_model.proofs.BuiltInFacts.{each_built_in, runtime_there, base_there, root_there, root, root_functions, factory_functions}
+use Rattle.registry_reading_model.proofs.BuiltInFacts.{base_functions, runtime_functions, disposed_functions, base_members, runtime_members}
+use Rattle.registry_reading_model.proofs.BuiltInFacts.{disposed_members, no_circle}
 
 module _ (reg : List Entity) (has : HasBuiltIn reg) where
   -- ---- rule by rule
@@ -38,7 +28,8 @@ module _ (reg : List Entity) (has : HasBuiltIn reg) where
   keep_bases : (e : Entity) → Contains built_in e → bases_are_of_their_kind reg e ≡ true
   unfolding bases_are_of_their_kind
   keep_bases =
-      each_built_in (λ e. bases_are_of_their_kind reg e ≡ true) (ap (λ b. b && true) (runtime_there reg has)) (ap (λ b. b && true) (root_there reg has)) refl
+      each_built_in (λ e. bases_are_of_their_kind reg e ≡ true) (ap (λ b. b && true) (runtime_there reg has))
+      (ap (λ b. b && true) (root_there reg has)) refl
       (ap (λ b. b && true) (base_there reg has)) refl
 
   keep_names : (e : Entity) → Contains built_in e → names_differ reg e ≡ true
@@ -89,7 +80,8 @@ module _ (reg : List Entity) (has : HasBuiltIn reg) where
   keep_whole : (e : Entity) → Contains built_in e → is_whole_within_limits reg e ≡ true
   unfolding parts_of
   keep_whole = each_built_in (λ e. is_whole_within_limits reg e ≡ true)
-      (whole_of disposed_exception refl (ap is_some_list (disposed_members reg has)) refl (ap (λ fs. nat_le (length fs) 65536) (disposed_functions reg has)))
+      (whole_of disposed_exception refl (ap is_some_list (disposed_members reg has)) refl
+      (ap (λ fs. nat_le (length fs) 65536) (disposed_functions reg has)))
       (whole_of factory refl refl refl (ap (λ fs. nat_le (length fs) 65536) (factory_functions reg has)))
       (whole_of base_exception refl (ap is_some_list (base_members reg has)) refl (ap (λ fs. nat_le (length fs) 65536) (base_functions reg has)))
       (whole_of runtime_exception refl (ap is_some_list (runtime_members reg has)) refl (ap (λ fs. nat_le (length fs) 65536) (runtime_functions reg has)))

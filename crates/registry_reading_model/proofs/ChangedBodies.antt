@@ -3,8 +3,8 @@ use Rattle.std.proofs.Common.{◌≡◌, ℕ, ◌+◌, Bool, not, ◌&&◌, ◌|
 use Rattle.std.specs.List.{flat_map}
 use Rattle.std.proofs.lemmas.List.{length-map}
 use Rattle.uno_model.specs.Entities.{Field, Param, Member, attribute, method, Item, Constant, Constructor, Part, face, subservice, property}
-use Rattle.uno_model.specs.Entities.{Body, interface, struct, exception, enum, constants, typedef, new_service, old_service, new_singleton}
-use Rattle.uno_model.specs.Entities.{old_singleton, Entity}
+use Rattle.uno_model.specs.Entities.{Body, interface, struct, enum, constants, new_service, old_service}
+use Rattle.uno_model.specs.Entities.{Entity}
 use Rattle.uno_model.specs.Registry.{at_most_one, contained, led_to, struct_in}
 use Rattle.uno_model.specs.Sound.{is_interface, is_struct, is_exception, is_enum, is_service, is_type_body, is_complete, is_some_list, all_differ}
 use Rattle.uno_model.specs.Uses.{raised_by, raised_names, interfaces_of_part, services_of_part, part_names, param_counts_of, param_counts}

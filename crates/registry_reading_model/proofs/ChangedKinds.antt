@@ -3,8 +3,8 @@ use Rattle.std.proofs.Common.{◌≡◌, Bool, true, List, ◌++◌, map, refl, 
 use Rattle.std.specs.List.{list_all}
 use Rattle.std.proofs.lemmas.List.{map-append}
 use Rattle.uno_model.specs.Entities.{Field, Param, Member, attribute, method, Constant, Constructor, Part, face, subservice, property}
-use Rattle.uno_model.specs.Entities.{Body, interface, struct, exception, enum, constants, typedef, new_service, old_service, new_singleton}
-use Rattle.uno_model.specs.Entities.{old_singleton, Entity}
+use Rattle.uno_model.specs.Entities.{Body, interface, struct, exception, constants, new_service, old_service}
+use Rattle.uno_model.specs.Entities.{Entity}
 use Rattle.uno_model.specs.Kinds.{Kind}
 use Rattle.uno_model.specs.Sound.{is_namable}
 use Rattle.uno_model.specs.Uses.{value_kinds_of, result_kinds_of, property_kinds, value_kinds, result_kinds, target_kinds, kinds_in}

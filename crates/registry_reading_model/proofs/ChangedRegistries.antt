@@ -7,8 +7,8 @@ use Rattle.std.proofs.lemmas.List.{length-map, map-append}
 use Rattle.std.proofs.lemmas.List.Elements.{filter_agree}
 use Rattle.uno_model.specs.Circles.{Leads, step, on}
 use Rattle.uno_model.specs.Entities.{Field, Member, attribute, method, Attribute}
-use Rattle.uno_model.specs.Entities.{Body, interface, struct, exception, enum, constants, typedef, new_service, old_service, new_singleton}
-use Rattle.uno_model.specs.Entities.{old_singleton, Entity}
+use Rattle.uno_model.specs.Entities.{Body, interface, struct, exception, typedef}
+use Rattle.uno_model.specs.Entities.{Entity}
 use Rattle.uno_model.specs.Functions.{Function, getter, setter, accessors_of, calls_of, declared_in, declared_by, is_met, visit_all, met_within}
 use Rattle.uno_model.specs.Functions.{interfaces_of, functions_of}
 use Rattle.uno_model.specs.Kinds.{Kind}

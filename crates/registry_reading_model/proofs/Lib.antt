@@ -4,6 +4,7 @@ pub mod BuiltInKeep
 pub mod ChangedBodies
 pub mod ChangedKinds
 pub mod ChangedRegistries
+pub mod ChangedTwice
 pub mod CutLaws
 pub mod KeptBreaks
 pub mod Lifted
