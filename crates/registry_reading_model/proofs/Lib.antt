@@ -1,0 +1,15 @@
+pub mod BrokenFirst
+pub mod BuiltInFacts
+pub mod BuiltInKeep
+pub mod ChangedBodies
+pub mod ChangedKinds
+pub mod ChangedRegistries
+pub mod ChangedTwice
+pub mod CutLaws
+pub mod KeptBreaks
+pub mod Lifted
+pub mod LimitedKeeps
+pub mod Mapped
+pub mod RangeLaws
+pub mod SameWithin
+pub mod WrittenPlaces
