@@ -79,32 +79,25 @@ names_sorted hs rising k d low within = ap is_lt (nat_list_cmp_total.antisymm (g
     step (x ∷ xs) (suc j) rise inside = let on : suc j + 1 ≡ suc (j + 1) = omega arith in rw on (step xs j rise.1 (omega arith))
 
 -- what a search answers where the name is there
-pub placed : (hs : List Head) (name : List ℕ) (i : ℕ) (r : Option (Bor Head)) → NamesRise (plain_heads hs) → IsSearchInRange (Ok i) (length hs)
-    → IsBinarySearchResult (order_of name) hs (Ok i) → option_map (λ (h : Bor Head). h.now) r ≡ slice_get hs i
-    → option_map (λ h. plain_head h.now) r ≡ head_named name (plain_heads hs)
+pub placed : (hs : List Head) (name : List ℕ) (i : ℕ) (r : Option plain.Head) → NamesRise (plain_heads hs) → IsSearchInRange (Ok i) (length hs)
+    → IsBinarySearchResult (order_of name) hs (Ok i) → r ≡ slice_get (plain_heads hs) i → r ≡ head_named name (plain_heads hs)
 placed [] name i r rising within holds got = absurd (omega arith)
-placed (h ∷ hs) name i r rising within holds got = by_got r got
+placed (h ∷ hs) name i r rising within holds got = got ∙ at (h ∷ hs) i within ∙ sym (found_at name (h ∷ hs) i h rising within is)
   where
     is : (get_or (h ∷ hs) i h).name.now ≡ name
     is = equal_names (get_or (h ∷ hs) i h).name.now name (holds h)
 
-    at : (xs : List Head) (k : ℕ) → k < length xs → slice_get xs k ≡ Some (get_or xs k h)
+    at : (xs : List Head) (k : ℕ) → k < length xs → slice_get (plain_heads xs) k ≡ Some (plain_head (get_or xs k h))
     at [] k inside = absurd (omega arith)
     at (x ∷ xs) zero inside = refl
     at (x ∷ xs) (suc k) inside = at xs k (omega arith)
-
-    by_got : (o : Option (Bor Head)) → option_map (λ g. g.now) o ≡ slice_get (h ∷ hs) i → option_map (λ g. plain_head g.now) o ≡ head_named name (plain_heads (h ∷ hs))
-    by_got None e = let bad : None ≡ Some (get_or (h ∷ hs) i h) = e ∙ at (h ∷ hs) i within in absurd cc
-    by_got (Some g) e =
-        let there : Some g.now ≡ Some (get_or (h ∷ hs) i h) = e ∙ at (h ∷ hs) i within in
-        ap (option_map plain_head) there ∙ sym (found_at name (h ∷ hs) i h rising within is)
 
 -- and where it is not
 pub parted : (hs : List Head) (name : List ℕ) (i : ℕ) → NamesRise (plain_heads hs) → IsBinarySearchResult (order_of name) hs (Err i) → head_named name (plain_heads hs) ≡ None
 parted hs name i rising holds =
     let parts = holds (searchable_from_sorted nat_list_cmp_total (λ (h : Head). h.name.now) hs name (names_sorted hs rising)) in
     absent name hs (λ k d within. elim (cases_lt k i)
-    [ inl low ↦ below_differs (get_or hs k d).name.now name (parts.0 k d within low) | inr high ↦ above_differs (get_or hs k d).name.now name (parts.1 k d high within) ])
+    [ inl low ↦ below_differs (get_or hs k d).name.now name (parts.0 k d (omega arith) low) | inr high ↦ above_differs (get_or hs k d).name.now name (parts.1 k d high within) ])
 
 pub none_rise : NamesRise []
 unfolding IsStrictlySortedBy

@@ -1,6 +1,6 @@
 -- Types with sequences round them.
-use Rattle.std.proofs.Common.{◌≡◌, ◌≢◌, ℕ, zero, suc, ◌+◌, ◌<◌, ◌≤◌, min, Bool, true, false, ◌==◌, ◌&&◌, List, [], ◌∷◌, ◌++◌, length, Option, None, Some, refl, sym, ap, ◌∙◌, arith, codes, eqb→eq, if◌then◌else◌, ◌||◌}
-use Rattle.std.proofs.lemmas.Bool.{and_parts}
+use Rattle.std.proofs.Common.{◌≡◌, ◌≢◌, ℕ, zero, suc, ◌+◌, ◌<◌, ◌≤◌, min, Bool, true, false, ◌==◌, ◌&&◌, List, [], ◌∷◌, ◌++◌, length, Option, None, Some, refl, sym, ap, ◌∙◌, arith, codes, if◌then◌else◌, ◌||◌}
+use Rattle.std.proofs.lemmas.Bool.{and_parts, eqb-true}
 use Rattle.std.specs.Str.{bytes_eq}
 use Rattle.uno_model.specs.BuiltIn.{x_interface_name, exception_name, runtime_exception_name, disposed_exception_name, factory_name}
 use Rattle.uno_model.specs.Kinds.{Kind, nesting}
@@ -124,11 +124,12 @@ unfolding cut
 cut_word n v word = λ i. sequences (min 65 (nested n v word.0 i)) (inner n v word.1 i)
 
 -- of the sequences in front at most 65 are kept, round what the word stands for
-pub changed_is : (heads : List Head) (text rest : List ℕ) (levels : ℕ) (o : Option Kind) → rest ≡ behind_brackets text → levels ≡ min 65 (brackets text)
-    → o ≡ on_some (word_kind_of rest) (λ w. Some (resolved (named_in heads) w))
-    → on_some o (λ k. Some (sequences levels k)) ≡ changed_kind (kept (named_in heads)) text
+pub changed_is : (heads : List Head) (text rest : List ℕ) (levels : ℕ) (o p : Option Kind) → rest ≡ behind_brackets text → levels ≡ min 65 (brackets text)
+    → o ≡ on_some (word_kind_of rest) (λ w. Some (resolved (named_in heads) w)) → p ≡ on_some o (λ k. Some (sequences levels k))
+    → p ≡ changed_kind (kept (named_in heads)) text
 unfolding kind_of_text
-changed_is heads text rest levels o at many is =
+changed_is heads text rest levels o p at many is made =
+    made ∙
     ap (λ x. on_some x (λ k. Some (sequences levels k))) (is ∙ ap (λ r. on_some (word_kind_of r) (λ w. Some (resolved (named_in heads) w))) at) ∙ by_word (word_kind_of (behind_brackets text)) refl
   where
     by_word : (w : Option Kind) → word_kind_of (behind_brackets text) ≡ w
@@ -155,7 +156,7 @@ no_bracket (c ∷ (d ∷ cs)) none = by_test ((c == 91) && (d == 93)) refl
     by_test : (b : Bool) → ((c == 91) && (d == 93)) ≡ b → (brackets (c ∷ (d ∷ cs)) ≡ 0) × (behind_brackets (c ∷ (d ∷ cs)) ≡ c ∷ (d ∷ cs))
     by_test true both =
         let parts = and_parts (c == 91) (d == 93) both in
-        absurd (none cs (λ i. eqb→eq c 91 parts.0 i ∷ (eqb→eq d 93 parts.1 i ∷ cs)))
+        absurd (none cs (λ i. eqb-true c 91 parts.0 i ∷ (eqb-true d 93 parts.1 i ∷ cs)))
     by_test false other = (ap (λ b. if b then suc (brackets cs) else 0) other, ap (λ b. if b then behind_brackets cs else c ∷ (d ∷ cs)) other)
 
 -- ---- the loop over them
@@ -192,3 +193,7 @@ at_most n next is = omega (arith, is)
 
 pub kept_levels : (text rest : List ℕ) (levels : ℕ) → min 65 (levels + brackets rest) ≡ min 65 (brackets text) → levels ≤ 65 → brackets rest ≡ 0 → levels ≡ min 65 (brackets text)
 kept_levels text rest levels at few none = omega (arith, at, few, none)
+
+pub void_stays : (named : List ℕ → Kind) → (kept named).kind kd.void ≡ kd.void
+unfolding resolved cut sequences innermost
+void_stays named = refl

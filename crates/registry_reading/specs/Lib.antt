@@ -1,2 +1,4 @@
 pub mod Heads
+pub mod Members
+pub mod Taken
 pub mod Views

@@ -1,5 +1,5 @@
 //! All headers of a text, whose names rise.
-ghost use Rattle.std.specs.Prelude.{◌≡◌, ◌+◌, ◌≤◌, ◌<◌, IfOk, OnOk, length, true, option_map, []};
+ghost use Rattle.std.specs.Prelude.{◌≡◌, ◌+◌, ◌≤◌, ◌<◌, IfOk, OnOk, length, true, option_map, slice_get, []};
 ghost use Rattle.registry_reading_model.specs.Heads as model;
 ghost use Rattle.registry_reading_model.specs.TextLines.{lines_in, all_plain};
 ghost use Rattle.registry_reading.specs.Heads.{plain_head, plain_heads, NamesRise};
@@ -51,7 +51,13 @@ fn find<'b, 'a>(heads: &'b [Head<'a>], name: &str) -> Option<&'b Head<'a>>
     ensures { option_map (λ h. plain_head h.now) result ≡ model.head_named name.now (plain_heads heads.now) }
 {
     match heads.binary_search_by(|head| head.name.cmp(name)) {
-        Ok(place) => heads.get(place),
+        Ok(place) => at(heads, place),
         Err(_) => None,
     }
+}
+
+fn at<'b, 'a>(heads: &'b [Head<'a>], place: usize) -> Option<&'b Head<'a>>
+    ensures { option_map (λ h. plain_head h.now) result ≡ slice_get (plain_heads heads.now) place }
+{
+    heads.get(place)
 }

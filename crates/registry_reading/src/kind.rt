@@ -27,7 +27,19 @@ pub(crate) fn kind(
     ensures { IfOk result (λ k. option_map kind_of k ≡ changed_kind (kept (named_in heads.now)) text.now) }
 {
     let (rest, levels) = behind_brackets(text);
-    match word_kind(alloc, heads, rest)? {
+    let word = word_kind(alloc, heads, rest)?;
+    sequences_of(alloc, word, levels)
+}
+
+/// So many sequences of it, where there is one.
+fn sequences_of(
+    alloc: Global,
+    word: Option<TypeName>,
+    levels: usize,
+) -> Result<Option<TypeName>, NoMemory>
+    ensures { IfOk result (λ k. option_map kind_of k ≡ on_some (option_map kind_of word) (λ w. Some (model.sequences levels w))) }
+{
+    match word {
         Some(word) => Ok(Some(sequences(alloc, word, levels)?)),
         None => Ok(None),
     }

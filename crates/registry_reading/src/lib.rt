@@ -1,8 +1,13 @@
 //! The registry of a text.
 #![tactic(auto)]
 
+mod fields;
 mod head;
 mod heads;
+mod interface;
 mod kind;
+mod last;
+mod names;
 mod number;
+mod service;
 mod words;

@@ -5,8 +5,8 @@ use Rattle.registry_reading.proofs.heads.find.Goals as goal
 
 pub returns-in-Ok : goal.returns-in-Ok
 returns-in-Ok c =
-    placed _ _ c.in-Ok.place c.get.result c.requires c.in-Ok.ensures.bound
-    (c.in-Ok.ensures.position (order_of c.args.name.now) (always_returns_same _ _ _ (λ a r f k. search (rules, of_calls)))) c.get.ensures.lookup.1
+    placed _ _ c.in-Ok.place _ c.requires c.in-Ok.ensures.bound
+    (c.in-Ok.ensures.position (order_of c.args.name.now) (always_returns_same _ _ _ (λ a r f k. search (rules, of_calls)))) c.at.ensures
 
 pub returns-in-Err : goal.returns-in-Err
 returns-in-Err c =

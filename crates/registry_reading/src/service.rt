@@ -1,0 +1,233 @@
+//! The lines of services.
+ghost use Rattle.std.specs.Prelude.{◌≡◌, ℕ, List, [], IfOk, OnOk, Ok, Some, None, true, false, map, option_map};
+ghost use Rattle.uno_model.specs.Entities as plain;
+ghost use Rattle.uno_entities.specs.Entities.{constructor_of, part_of, field_of};
+ghost use Rattle.registry_reading_model.specs.Bodies as model;
+ghost use Rattle.registry_reading_model.specs.Heads.{named_in};
+ghost use Rattle.registry_reading_model.specs.Kept.{kept};
+ghost use Rattle.registry_reading_model.specs.Words.{on_some, entity_name_of};
+ghost use Rattle.registry_reading.specs.Taken.{IsTaken};
+ghost use Rattle.registry_reading.specs.Members.{added_to};
+
+use crate::fields::field;
+use crate::heads::Heads;
+use crate::kind::kind;
+use crate::last::take_last;
+use crate::names::{entity_name, identifier_alone, push_entity_name};
+use crate::words::{behind, flags, identifier, word};
+use std::alloc::Global;
+use uno_base::NoMemory;
+use uno_types::{Constructor, Name, Part};
+
+// ---- services of the new form
+
+#[tactic(auto, unfolding(registry_reading_model::specs::Bodies::constructor_of))]
+fn constructor(alloc: Global, text: &str) -> Result<Option<Constructor>, NoMemory>
+    ensures { IfOk result (λ k. option_map constructor_of k ≡ model.constructor_of text.now) }
+{
+    let Some(name) = identifier_alone(alloc, text)? else {
+        return Ok(None);
+    };
+    Ok(Some(Constructor {
+        name,
+        params: Vec::new(alloc),
+        rest: None,
+        raises: Vec::new(alloc),
+    }))
+}
+
+/// Whether neither a rest parameter nor what is raised stands behind the parameters.
+fn is_open(constructor: &Constructor) -> bool
+    ensures { result ≡ model.is_open (constructor_of constructor.now) }
+{
+    constructor.rest.is_none() && constructor.raises.is_empty()
+}
+
+/// A parameter, before the rest parameter and what is raised.
+#[tactic(auto, unfolding(registry_reading_model::specs::Bodies::given_added))]
+fn with_param(
+    alloc: Global,
+    heads: &Heads<'_>,
+    constructor: Constructor,
+    text: &str,
+) -> Result<Option<Constructor>, NoMemory>
+    ensures { IfOk result (λ k. option_map constructor_of k ≡ model.given_added (kept (named_in heads.now)) text.now (constructor_of constructor)) }
+{
+    if !is_open(&constructor) {
+        return Ok(None);
+    }
+    let Some(text) = behind(text, "in ") else {
+        return Ok(None);
+    };
+    let Some(param) = field(alloc, heads, text)? else {
+        return Ok(None);
+    };
+    let mut constructor = constructor;
+    constructor.params.push(param)?;
+    Ok(Some(constructor))
+}
+
+#[tactic(auto, unfolding(registry_reading_model::specs::Bodies::rest_added))]
+fn with_rest(
+    alloc: Global,
+    constructor: Constructor,
+    text: &str,
+) -> Result<Option<Constructor>, NoMemory>
+    ensures { IfOk result (λ k. option_map constructor_of k ≡ model.rest_added text.now (constructor_of constructor)) }
+{
+    if !is_open(&constructor) {
+        return Ok(None);
+    }
+    let Some(name) = identifier_alone(alloc, text)? else {
+        return Ok(None);
+    };
+    let mut constructor = constructor;
+    constructor.rest = Some(name);
+    Ok(Some(constructor))
+}
+
+#[tactic(auto, unfolding(registry_reading_model::specs::Bodies::raised_added))]
+fn with_raises(
+    alloc: Global,
+    constructor: Constructor,
+    text: &str,
+) -> Result<Option<Constructor>, NoMemory>
+    ensures { IfOk result (λ k. option_map constructor_of k ≡ model.raised_added text.now (constructor_of constructor)) }
+{
+    let mut constructor = constructor;
+    if !push_entity_name(alloc, &mut constructor.raises, text)? {
+        return Ok(None);
+    }
+    Ok(Some(constructor))
+}
+
+/// The constructor with one line more under it.
+#[tactic(auto, unfolding(crate::specs::Members::added_to))]
+fn with_line(
+    alloc: Global,
+    heads: &Heads<'_>,
+    constructor: Constructor,
+    word: &str,
+    text: &str,
+) -> Result<Option<Constructor>, NoMemory>
+    ensures { IfOk result (λ k. option_map constructor_of k ≡ added_to (kept (named_in heads.now)) word.now text.now (constructor_of constructor)) }
+{
+    match word {
+        "param" => with_param(alloc, heads, constructor, text),
+        "rest" => with_rest(alloc, constructor, text),
+        "raises" => with_raises(alloc, constructor, text),
+        _ => Ok(None),
+    }
+}
+
+/// One line more under a service of the new form: a word, and what stands behind it.
+#[tactic(auto, unfolding(registry_reading_model::specs::Bodies::constructor_line))]
+pub(crate) fn constructor_line(
+    alloc: Global,
+    heads: &Heads<'_>,
+    constructors: &mut Vec<Constructor>,
+    word: &str,
+    text: &str,
+) -> Result<bool, NoMemory>
+    ensures { IfOk result (λ taken. IsTaken taken (map constructor_of constructors.new.items) (model.constructor_line (kept (named_in heads.now)) (map constructor_of constructors.old.items) word.now text.now)) }
+{
+    match word {
+        "constructor" => push_constructor(alloc, constructors, text),
+        _ => line_under_constructor(alloc, heads, constructors, word, text),
+    }
+}
+
+fn push_constructor(
+    alloc: Global,
+    constructors: &mut Vec<Constructor>,
+    text: &str,
+) -> Result<bool, NoMemory>
+    ensures { IfOk result (λ taken. IsTaken taken (map constructor_of constructors.new.items) (model.pushed (map constructor_of constructors.old.items) (model.constructor_of text.now))) }
+{
+    let Some(constructor) = constructor(alloc, text)? else {
+        return Ok(false);
+    };
+    constructors.push(constructor)?;
+    Ok(true)
+}
+
+/// A line that goes into the last constructor.
+fn line_under_constructor(
+    alloc: Global,
+    heads: &Heads<'_>,
+    constructors: &mut Vec<Constructor>,
+    word: &str,
+    text: &str,
+) -> Result<bool, NoMemory>
+    ensures { IfOk result (λ taken. IsTaken taken (map constructor_of constructors.new.items) (model.last_changed (added_to (kept (named_in heads.now)) word.now text.now) (map constructor_of constructors.old.items))) }
+{
+    let Some(constructor) = take_last(constructors) else {
+        return Ok(false);
+    };
+    let Some(constructor) = with_line(alloc, heads, constructor, word, text)? else {
+        return Ok(false);
+    };
+    constructors.push(constructor)?;
+    Ok(true)
+}
+
+// ---- services of the old form
+
+/// `NAME FLAGS TYPE`.
+#[tactic(auto, unfolding(registry_reading_model::specs::Bodies::property_of))]
+fn property(alloc: Global, heads: &Heads<'_>, text: &str) -> Result<Option<Part>, NoMemory>
+    ensures { IfOk result (λ p. option_map part_of p ≡ model.property_of (kept (named_in heads.now)) text.now) }
+{
+    let Some((name, behind)) = identifier(text) else {
+        return Ok(None);
+    };
+    let Some((word, behind)) = word(behind) else {
+        return Ok(None);
+    };
+    let Some(flags) = flags(word) else {
+        return Ok(None);
+    };
+    let Some(kind) = kind(alloc, heads, behind)? else {
+        return Ok(None);
+    };
+    let name = Name::of(alloc, name)?;
+    Ok(Some(Part::Property { name, flags, kind }))
+}
+
+fn interface_part(alloc: Global, optional: bool, text: &str) -> Result<Option<Part>, NoMemory>
+    ensures { IfOk result (λ p. option_map part_of p ≡ on_some (entity_name_of text.now) (λ name. Some (plain.face optional name))) }
+{
+    match entity_name(alloc, text)? {
+        Some(name) => Ok(Some(Part::Interface { optional, name })),
+        None => Ok(None),
+    }
+}
+
+fn service_part(alloc: Global, optional: bool, text: &str) -> Result<Option<Part>, NoMemory>
+    ensures { IfOk result (λ p. option_map part_of p ≡ on_some (entity_name_of text.now) (λ name. Some (plain.subservice optional name))) }
+{
+    match entity_name(alloc, text)? {
+        Some(name) => Ok(Some(Part::Service { optional, name })),
+        None => Ok(None),
+    }
+}
+
+/// A line under a service of the old form: a word, and what stands behind it.
+#[tactic(auto, unfolding(registry_reading_model::specs::Bodies::part_of))]
+pub(crate) fn part(
+    alloc: Global,
+    heads: &Heads<'_>,
+    word: &str,
+    text: &str,
+) -> Result<Option<Part>, NoMemory>
+    ensures { IfOk result (λ p. option_map part_of p ≡ model.part_of (kept (named_in heads.now)) word.now text.now) }
+{
+    match word {
+        "interface" => interface_part(alloc, false, text),
+        "optinterface" => interface_part(alloc, true, text),
+        "service" => service_part(alloc, false, text),
+        "optservice" => service_part(alloc, true, text),
+        "property" => property(alloc, heads, text),
+        _ => Ok(None),
+    }
+}
