@@ -1,0 +1,195 @@
+-- To change all types and numbers while a text is read is to read it and to change them then.
+use Rattle.std.proofs.Common.{◌≡◌, ℕ, ℤ, Bool, true, false, not, ◌&&◌, ◌||◌, List, [], ◌∷◌, ◌++◌, map, Option, None, Some, Result, Ok, Err, option_map, if◌then◌else◌, refl, sym, ap, ◌∙◌, codes}
+use Rattle.std.proofs.lemmas.List.{map_push, map-append}
+use Rattle.std.specs.Str.{bytes_eq}
+use Rattle.uno_model.specs.Entities.{Field, Param, Base, Attribute, Method, Member, attribute, method, Item, Constant, Constructor, Part, face, subservice, property}
+use Rattle.uno_model.specs.Entities.{Body, interface, struct, exception, enum, constants, typedef, new_service, old_service, new_singleton, old_singleton, Entity}
+use Rattle.uno_model.specs.Kinds.{Kind}
+use Rattle.uno_model.specs.Sound.{is_some_list}
+use Rattle.registry_reading_model.proofs.OptionMaps.{on_some_changed, on_changed, where_changed, choice_changed, pushed_changed, some_list_changed, last_changed_changed}
+use Rattle.registry_reading_model.specs.Bodies.{body_line, changed_kind, field_of, attribute_of, method_of, oneway_of, param_of, get_raises_added, set_raises_added, param_added, raises_added}
+use Rattle.registry_reading_model.specs.Bodies.{base_added, with_members, interface_line, item_of, constant_of, constructor_of, is_open, given_added, rest_added, raised_added}
+use Rattle.registry_reading_model.specs.Bodies.{constructor_line, property_of, part_of, behind_word, fields_line, pushed, last_changed}
+use Rattle.registry_reading_model.specs.Changes.{Change, same, field_changed, param_changed, attribute_changed, method_changed, member_changed, item_changed, constant_changed}
+use Rattle.registry_reading_model.specs.Changes.{constructor_changed, part_changed, body_changed, entity_changed}
+use Rattle.registry_reading_model.specs.Headers.{header_of, words_opened, opened, opened_with, opened_alone, service_opened, singleton_of, perhaps_published}
+use Rattle.registry_reading_model.specs.Kinds.{kind_of_text}
+use Rattle.registry_reading_model.specs.Numbers.{number_of}
+use Rattle.registry_reading_model.specs.States.{State, unread, between, within, Wrong, step, run, begun, gone_on, on_read, with_body, is_above}
+use Rattle.registry_reading_model.specs.Words.{on_some, where_, word_of, identifier_of, behind, entity_name_of, identifier_alone, way_of, access_of, flags_of}
+
+-- ---- parts of lines
+
+kind_changed : {Y Z : Type 0} (c : Change) (h : Y → Z) (text : List ℕ) (f : Kind → Option Y) (g : Kind → Option Z) → ((k : Kind) → g (c.kind k) ≡ option_map h (f k))
+    → on_some (changed_kind c text) g ≡ option_map h (on_some (changed_kind same text) f)
+kind_changed c h text f g each = by_kind (kind_of_text text)
+  where
+    by_kind : (o : Option Kind) → on_some (on_some o (λ k. Some (c.kind k))) g ≡ option_map h (on_some (on_some o (λ k. Some k)) f)
+    by_kind None = refl
+    by_kind (Some k) = each k
+
+field_by : (c : Change) (text : List ℕ) → field_of c text ≡ option_map (field_changed c) (field_of same text)
+unfolding field_of
+field_by c text = on_some_changed (field_changed c) (identifier_of text) _ _ (λ x. kind_changed c (field_changed c) x.1 _ _ (λ k. refl))
+
+attribute_by : (c : Change) (text : List ℕ) → attribute_of c text ≡ option_map (attribute_changed c) (attribute_of same text)
+unfolding attribute_of
+attribute_by c text =
+    on_some_changed (attribute_changed c) (identifier_of text) _ _ (λ x. on_some_changed (attribute_changed c) (word_of x.1) _ _ (λ y.
+    on_some_changed (attribute_changed c) (access_of y.0) _ _ (λ read_only. kind_changed c (attribute_changed c) y.1 _ _ (λ k. refl))))
+
+method_by : (c : Change) (text : List ℕ) → method_of c text ≡ option_map (method_changed c) (method_of same text)
+unfolding method_of
+method_by c text = on_some_changed (method_changed c) (identifier_of text) _ _ (λ x. kind_changed c (method_changed c) x.1 _ _ (λ k. refl))
+
+oneway_by : (c : Change) (text : List ℕ) → oneway_of c text ≡ option_map (method_changed c) (oneway_of same text)
+unfolding oneway_of
+oneway_by c text = on_some_changed (method_changed c) (identifier_alone text) _ _ (λ name. refl)
+
+param_by : (c : Change) (text : List ℕ) → param_of c text ≡ option_map (param_changed c) (param_of same text)
+unfolding param_of
+param_by c text =
+    on_some_changed (param_changed c) (word_of text) _ _ (λ x. on_some_changed (param_changed c) (way_of x.0) _ _ (λ way.
+    on_some_changed (param_changed c) (identifier_of x.1) _ _ (λ y. kind_changed c (param_changed c) y.1 _ _ (λ k. refl))))
+
+get_raises_by : (c : Change) (text : List ℕ) (m : Member) → get_raises_added text (member_changed c m) ≡ option_map (member_changed c) (get_raises_added text m)
+unfolding get_raises_added
+get_raises_by c text (method m) = refl
+get_raises_by c text (attribute a) =
+    where_changed (member_changed c) (not (is_some_list a.set_raises)) _ _ (on_some_changed (member_changed c) (pushed a.get_raises (entity_name_of text)) _ _ (λ names. refl))
+
+set_raises_by : (c : Change) (text : List ℕ) (m : Member) → set_raises_added text (member_changed c m) ≡ option_map (member_changed c) (set_raises_added text m)
+unfolding set_raises_added
+set_raises_by c text (method m) = refl
+set_raises_by c text (attribute a) = on_some_changed (member_changed c) (pushed a.set_raises (entity_name_of text)) _ _ (λ names. refl)
+
+param_added_by : (c : Change) (text : List ℕ) (m : Member) → param_added c text (member_changed c m) ≡ option_map (member_changed c) (param_added same text m)
+unfolding param_added
+param_added_by c text (attribute a) = refl
+param_added_by c text (method m) =
+    where_changed (member_changed c) (not (is_some_list m.raises)) _ _
+    (on_changed (member_changed c) (map (param_changed c)) (pushed m.params (param_of same text)) _ _ _
+    (pushed_changed (param_changed c) m.params (param_of same text) (param_of c text) (param_by c text)) (λ params. refl))
+
+raises_by : (c : Change) (text : List ℕ) (m : Member) → raises_added text (member_changed c m) ≡ option_map (member_changed c) (raises_added text m)
+unfolding raises_added
+raises_by c text (attribute a) = refl
+raises_by c text (method m) = on_some_changed (member_changed c) (pushed m.raises (entity_name_of text)) _ _ (λ names. refl)
+
+item_by : (c : Change) (text : List ℕ) → item_of c text ≡ option_map (item_changed c) (item_of same text)
+unfolding item_of
+item_by c text = on_some_changed (item_changed c) (identifier_of text) _ _ (λ x. on_some_changed (item_changed c) (number_of x.1) _ _ (λ n. refl))
+
+constant_by : (c : Change) (text : List ℕ) → constant_of c text ≡ option_map (constant_changed c) (constant_of same text)
+unfolding constant_of
+constant_by c text =
+    on_some_changed (constant_changed c) (identifier_of text) _ _ (λ x. on_some_changed (constant_changed c) (word_of x.1) _ _ (λ y.
+    on_some_changed (constant_changed c) (number_of y.0) _ _ (λ n. kind_changed c (constant_changed c) y.1 _ _ (λ k. refl))))
+
+constructor_by : (c : Change) (text : List ℕ) → constructor_of text ≡ option_map (constructor_changed c) (constructor_of text)
+unfolding constructor_of
+constructor_by c text = on_some_changed (constructor_changed c) (identifier_alone text) _ _ (λ name. refl)
+
+given_by : (c : Change) (text : List ℕ) (k : Constructor) → given_added c text (constructor_changed c k) ≡ option_map (constructor_changed c) (given_added same text k)
+unfolding given_added
+given_by c text k =
+    where_changed (constructor_changed c) (is_open k) _ _
+    (on_changed (constructor_changed c) (map (field_changed c)) (pushed k.params (on_some (behind (codes "in ") text) (field_of same))) _ _ _
+    (pushed_changed (field_changed c) k.params _ _ (on_some_changed (field_changed c) (behind (codes "in ") text) (field_of same) (field_of c) (λ x. field_by c x))) (λ params. refl))
+
+rest_by : (c : Change) (text : List ℕ) (k : Constructor) → rest_added text (constructor_changed c k) ≡ option_map (constructor_changed c) (rest_added text k)
+unfolding rest_added
+rest_by c text k = where_changed (constructor_changed c) (is_open k) _ _ (on_some_changed (constructor_changed c) (identifier_alone text) _ _ (λ name. refl))
+
+raised_by : (c : Change) (text : List ℕ) (k : Constructor) → raised_added text (constructor_changed c k) ≡ option_map (constructor_changed c) (raised_added text k)
+unfolding raised_added
+raised_by c text k = on_some_changed (constructor_changed c) (pushed k.raises (entity_name_of text)) _ _ (λ names. refl)
+
+property_by : (c : Change) (text : List ℕ) → property_of c text ≡ option_map (part_changed c) (property_of same text)
+unfolding property_of
+property_by c text =
+    on_some_changed (part_changed c) (identifier_of text) _ _ (λ x. on_some_changed (part_changed c) (word_of x.1) _ _ (λ y.
+    on_some_changed (part_changed c) (flags_of y.0) _ _ (λ flags. kind_changed c (part_changed c) y.1 _ _ (λ k. refl))))
+
+-- ---- lines under a header
+
+members_by : (c : Change) (bases : List Base) (o : Option (List Member)) (p : Option (List Member)) → p ≡ option_map (map (member_changed c)) o
+    → with_members bases p ≡ option_map (body_changed c) (with_members bases o)
+members_by c bases o p e = on_changed (body_changed c) (map (member_changed c)) o p _ _ e (λ ms. refl)
+
+base_by : (c : Change) (optional : Bool) (bases : List Base) (members : List Member) (text : List ℕ)
+    → base_added optional bases (map (member_changed c) members) text ≡ option_map (body_changed c) (base_added optional bases members text)
+base_by c optional bases [] text = on_some_changed (body_changed c) (entity_name_of text) _ _ (λ name. refl)
+base_by c optional bases (m ∷ ms) text = refl
+
+interface_by : (c : Change) (bases : List Base) (members : List Member) (word text : List ℕ)
+    → interface_line c bases (map (member_changed c) members) word text ≡ option_map (body_changed c) (interface_line same bases members word text)
+unfolding interface_line
+interface_by c bases members word text =
+    let h = body_changed c in
+    let inner = member_changed c in
+    choice_changed h (bytes_eq word (codes "base")) _ _ _ _ (base_by c false bases members text)
+    (choice_changed h (bytes_eq word (codes "optional")) _ _ _ _ (base_by c true bases members text)
+    (choice_changed h (bytes_eq word (codes "attribute")) _ _ _ _
+    (members_by c bases _ _ (pushed_changed inner members _ _ (on_changed inner (attribute_changed c) (attribute_of same text) (attribute_of c text) _ _ (attribute_by c text) (λ a. refl))))
+    (choice_changed h (bytes_eq word (codes "getraises")) _ _ _ _ (members_by c bases _ _ (last_changed_changed inner _ _ (get_raises_by c text) members))
+    (choice_changed h (bytes_eq word (codes "setraises")) _ _ _ _ (members_by c bases _ _ (last_changed_changed inner _ _ (set_raises_by c text) members))
+    (choice_changed h (bytes_eq word (codes "method")) _ _ _ _
+    (members_by c bases _ _ (pushed_changed inner members _ _ (on_changed inner (method_changed c) (method_of same text) (method_of c text) _ _ (method_by c text) (λ m. refl))))
+    (choice_changed h (bytes_eq word (codes "oneway")) _ _ _ _
+    (members_by c bases _ _ (pushed_changed inner members _ _ (on_changed inner (method_changed c) (oneway_of same text) (oneway_of c text) _ _ (oneway_by c text) (λ m. refl))))
+    (choice_changed h (bytes_eq word (codes "param")) _ _ _ _ (members_by c bases _ _ (last_changed_changed inner _ _ (param_added_by c text) members))
+    (choice_changed h (bytes_eq word (codes "raises")) _ _ _ _ (members_by c bases _ _ (last_changed_changed inner _ _ (raises_by c text) members)) refl))))))))
+
+constructors_by : (c : Change) (constructors : List Constructor) (word text : List ℕ)
+    → constructor_line c (map (constructor_changed c) constructors) word text ≡ option_map (map (constructor_changed c)) (constructor_line same constructors word text)
+unfolding constructor_line
+constructors_by c constructors word text =
+    let h = map (constructor_changed c) in
+    let inner = constructor_changed c in
+    choice_changed h (bytes_eq word (codes "constructor")) _ _ _ _ (pushed_changed inner constructors (constructor_of text) (constructor_of text) (constructor_by c text))
+    (choice_changed h (bytes_eq word (codes "param")) _ _ _ _ (last_changed_changed inner _ _ (given_by c text) constructors)
+    (choice_changed h (bytes_eq word (codes "rest")) _ _ _ _ (last_changed_changed inner _ _ (rest_by c text) constructors)
+    (choice_changed h (bytes_eq word (codes "raises")) _ _ _ _ (last_changed_changed inner _ _ (raised_by c text) constructors) refl)))
+
+part_by : (c : Change) (word text : List ℕ) → part_of c word text ≡ option_map (part_changed c) (part_of same word text)
+unfolding part_of
+part_by c word text =
+    let h = part_changed c in
+    choice_changed h (bytes_eq word (codes "interface")) _ _ _ _ (on_some_changed h (entity_name_of text) _ _ (λ name. refl))
+    (choice_changed h (bytes_eq word (codes "optinterface")) _ _ _ _ (on_some_changed h (entity_name_of text) _ _ (λ name. refl))
+    (choice_changed h (bytes_eq word (codes "service")) _ _ _ _ (on_some_changed h (entity_name_of text) _ _ (λ name. refl))
+    (choice_changed h (bytes_eq word (codes "optservice")) _ _ _ _ (on_some_changed h (entity_name_of text) _ _ (λ name. refl))
+    (choice_changed h (bytes_eq word (codes "property")) _ _ _ _ (property_by c text) refl))))
+
+behind_word_changed : {Y Z : Type 0} (h : Y → Z) (line : List ℕ) (f : List ℕ → List ℕ → Option Y) (g : List ℕ → List ℕ → Option Z)
+    → ((word text : List ℕ) → g word text ≡ option_map h (f word text)) → behind_word line g ≡ option_map h (behind_word line f)
+behind_word_changed h line f g each = on_some_changed h (word_of line) _ _ (λ x. each x.0 x.1)
+
+fields_by : (c : Change) (members : List Field) (line : List ℕ)
+    → fields_line c (map (field_changed c) members) line ≡ option_map (map (field_changed c)) (fields_line same members line)
+unfolding fields_line
+fields_by c members line =
+    pushed_changed (field_changed c) members _ _ (on_some_changed (field_changed c) (behind (codes "member ") line) (field_of same) (field_of c) (λ x. field_by c x))
+
+pub line_changed : (c : Change) (b : Body) (line : List ℕ) → body_line c (body_changed c b) line ≡ option_map (body_changed c) (body_line same b line)
+unfolding body_line
+line_changed c (interface bases members) line = behind_word_changed (body_changed c) line _ _ (λ word text. interface_by c bases members word text)
+line_changed c (struct base members) line = on_changed (body_changed c) (map (field_changed c)) (fields_line same members line) _ _ _ (fields_by c members line) (λ fields. refl)
+line_changed c (exception base members) line = on_changed (body_changed c) (map (field_changed c)) (fields_line same members line) _ _ _ (fields_by c members line) (λ fields. refl)
+line_changed c (enum items) line =
+    on_changed (body_changed c) (map (item_changed c)) (pushed items (on_some (behind (codes "value ") line) (item_of same))) _ _ _
+    (pushed_changed (item_changed c) items _ _ (on_some_changed (item_changed c) (behind (codes "value ") line) (item_of same) (item_of c) (λ x. item_by c x))) (λ is. refl)
+line_changed c (constants cs) line =
+    on_changed (body_changed c) (map (constant_changed c)) (pushed cs (on_some (behind (codes "const ") line) (constant_of same))) _ _ _
+    (pushed_changed (constant_changed c) cs _ _ (on_some_changed (constant_changed c) (behind (codes "const ") line) (constant_of same) (constant_of c) (λ x. constant_by c x)))
+    (λ ks. refl)
+line_changed c (new_service base constructors) line =
+    on_changed (body_changed c) (map (constructor_changed c)) (behind_word line (constructor_line same constructors)) _ _ _
+    (behind_word_changed (map (constructor_changed c)) line _ _ (λ word text. constructors_by c constructors word text)) (λ ks. refl)
+line_changed c (old_service parts) line =
+    on_changed (body_changed c) (map (part_changed c)) (pushed parts (behind_word line (part_of same))) _ _ _
+    (pushed_changed (part_changed c) parts _ _ (behind_word_changed (part_changed c) line _ _ (λ word text. part_by c word text))) (λ ps. refl)
+line_changed c (typedef k) line = refl
+line_changed c (new_singleton base) line = refl
+line_changed c (old_singleton service) line = refl
