@@ -12,10 +12,10 @@ use Rattle.registry_reading_model.specs.Bodies.{base_added, with_members, interf
 use Rattle.registry_reading_model.specs.Bodies.{constructor_line, property_of, part_of, behind_word, fields_line, pushed, last_changed}
 use Rattle.registry_reading_model.specs.Changes.{Change, same, field_changed, param_changed, attribute_changed, method_changed, member_changed, item_changed, constant_changed}
 use Rattle.registry_reading_model.specs.Changes.{constructor_changed, part_changed, body_changed, entity_changed}
-use Rattle.registry_reading_model.specs.Headers.{header_of, words_opened, opened, opened_with, opened_alone, service_opened, singleton_of, perhaps_published}
+use Rattle.registry_reading_model.specs.Headers.{header_of, is_free_name, words_opened, opened, opened_with, opened_alone, service_opened, singleton_of, perhaps_published}
 use Rattle.registry_reading_model.specs.Kinds.{kind_of_text}
 use Rattle.registry_reading_model.specs.Numbers.{number_of}
-use Rattle.registry_reading_model.specs.States.{State, unread, between, within, Wrong, step, run, begun, gone_on, on_read, with_body, is_above}
+use Rattle.registry_reading_model.specs.States.{State, unread, between, within, Wrong, bad, out_of_order, step, run, begun, gone_on, on_read, with_body, is_above}
 use Rattle.registry_reading_model.specs.Words.{on_some, where_, word_of, identifier_of, behind, entity_name_of, identifier_alone, way_of, access_of, flags_of}
 
 -- ---- parts of lines
@@ -193,3 +193,110 @@ line_changed c (old_service parts) line =
 line_changed c (typedef k) line = refl
 line_changed c (new_singleton base) line = refl
 line_changed c (old_singleton service) line = refl
+
+-- ---- headers
+
+opened_by : (c : Change) (word rest : List ℕ) → opened_with c word rest ≡ option_map (body_changed c) (opened_with same word rest)
+unfolding opened_with
+opened_by c word rest =
+    let h = body_changed c in
+    choice_changed h (bytes_eq word (codes "struct")) _ _ _ _ (on_some_changed h (entity_name_of rest) _ _ (λ base. refl))
+    (choice_changed h (bytes_eq word (codes "exception")) _ _ _ _ (on_some_changed h (entity_name_of rest) _ _ (λ base. refl))
+    (choice_changed h (bytes_eq word (codes "typedef")) _ _ _ _ (kind_changed c h rest _ _ (λ k. refl))
+    (choice_changed h (bytes_eq word (codes "service")) _ _ _ _
+    (choice_changed h (bytes_eq rest (codes "old")) _ _ _ _ refl
+    (on_some_changed h (behind (codes "new ") rest) _ _ (λ base. on_some_changed h (entity_name_of base) _ _ (λ name. refl))))
+    (choice_changed h (bytes_eq word (codes "singleton")) _ _ _ _
+    (on_some_changed h (word_of rest) _ _ (λ x. on_some_changed h (entity_name_of x.1) (singleton_of x.0) (singleton_of x.0) (λ name. singleton_by x.0 name))) refl))))
+  where
+    singleton_by : (form name : List ℕ) → singleton_of form name ≡ option_map (body_changed c) (singleton_of form name)
+    singleton_by form name =
+        choice_changed (body_changed c) (bytes_eq form (codes "new")) _ _ _ _ refl (choice_changed (body_changed c) (bytes_eq form (codes "old")) _ _ _ _ refl refl)
+
+alone_by : (c : Change) (word : List ℕ) → opened_alone word ≡ option_map (body_changed c) (opened_alone word)
+unfolding opened_alone
+alone_by c word =
+    let h = body_changed c in
+    choice_changed h (bytes_eq word (codes "interface")) _ _ _ _ refl
+    (choice_changed h (bytes_eq word (codes "struct")) _ _ _ _ refl
+    (choice_changed h (bytes_eq word (codes "exception")) _ _ _ _ refl
+    (choice_changed h (bytes_eq word (codes "enum")) _ _ _ _ refl
+    (choice_changed h (bytes_eq word (codes "constants")) _ _ _ _ refl refl))))
+
+words_by : (c : Change) (published : Bool) (text : List ℕ) → words_opened c published text ≡ option_map (entity_changed c) (words_opened same published text)
+unfolding words_opened
+words_by c published text = on_some_changed (entity_changed c) (word_of text) _ _ (λ x. by_name x.0 x.1 (word_of x.1))
+  where
+    by_name : (word behind_it : List ℕ) (o : Option (List ℕ × List ℕ)) → opened c published word behind_it o ≡ option_map (entity_changed c) (opened same published word behind_it o)
+    by_name word behind_it None =
+        where_changed (entity_changed c) (is_free_name behind_it) _ _ (on_changed (entity_changed c) (body_changed c) (opened_alone word) (opened_alone word) _ _ (alone_by c word) (λ b. refl))
+    by_name word behind_it (Some x) =
+        where_changed (entity_changed c) (is_free_name x.0) _ _
+        (on_changed (entity_changed c) (body_changed c) (opened_with same word x.1) (opened_with c word x.1) _ _ (opened_by c word x.1) (λ b. refl))
+
+pub header_changed : (c : Change) (line : List ℕ) → header_of c line ≡ option_map (entity_changed c) (header_of same line)
+unfolding header_of
+header_changed c line = by_words (behind (codes "published ") line)
+  where
+    by_words : (o : Option (List ℕ)) → perhaps_published c line o ≡ option_map (entity_changed c) (perhaps_published same line o)
+    by_words None = words_by c false line
+    by_words (Some words) = words_by c true words
+
+-- ---- states
+
+abbrev pub state_changed : Change → State → State
+state_changed c unread = unread
+state_changed c (between es) = between (map (entity_changed c) es)
+state_changed c (within es e) = within (map (entity_changed c) es) (entity_changed c e)
+
+abbrev pub result_map : {T U E : Type 0} → (T → U) → Result T E → Result U E
+result_map f (Ok x) = Ok (f x)
+result_map f (Err e) = Err e
+
+pub above_changed : (c : Change) (es : List Entity) (name : List ℕ) → is_above (map (entity_changed c) es) name ≡ is_above es name
+unfolding is_above
+above_changed c [] name = refl
+above_changed c (e ∷ []) name = refl
+above_changed c (e ∷ (d ∷ ds)) name = above_changed c (d ∷ ds) name
+
+pub step_changed : (o : Bool) (c : Change) (st : State) (line : List ℕ) → step o c (state_changed c st) line ≡ result_map (state_changed c) (step o same st line)
+unfolding step
+step_changed o c unread line = by_test (bytes_eq line (codes "unoreg 1"))
+  where
+    by_test : (b : Bool) → ◌≡◌ {A = Result State Wrong} (if b then Ok (between []) else Err bad) (result_map (state_changed c) (if b then Ok (between []) else Err bad))
+    by_test true = refl
+    by_test false = refl
+step_changed o c (between es) line = rw (header_changed c line) (by_header (header_of same line))
+  where
+    by_test : (e : Entity) (b : Bool) → ◌≡◌ {A = Result State Wrong} (if b then Ok (within (map (entity_changed c) es) (entity_changed c e)) else Err out_of_order)
+        (result_map (state_changed c) (if b then Ok (within es e) else Err out_of_order))
+    by_test e true = refl
+    by_test e false = refl
+    by_header : (h : Option Entity) → begun o (map (entity_changed c) es) (option_map (entity_changed c) h) ≡ result_map (state_changed c) (begun o es h)
+    by_header None = refl
+    by_header (Some e) = rw (above_changed c es e.name) (by_test e (not o || is_above es e.name))
+step_changed o c (within es e) line = by_test (bytes_eq line (codes "end"))
+  where
+    by_line : (b : Option Body) → gone_on (map (entity_changed c) es) (entity_changed c e) (option_map (body_changed c) b) ≡ result_map (state_changed c) (gone_on es e b)
+    by_line None = refl
+    by_line (Some b) = refl
+    ended : ◌≡◌ {A = Result State Wrong} (Ok (between (map (entity_changed c) es ++ entity_changed c e ∷ []))) (Ok (between (map (entity_changed c) (es ++ e ∷ []))))
+    ended = ap (λ ds. Ok (between ds)) (sym (map_push (entity_changed c) es e))
+    by_test : (b : Bool)
+        → (if b then Ok (between (map (entity_changed c) es ++ entity_changed c e ∷ [])) else gone_on (map (entity_changed c) es) (entity_changed c e) (body_line c (body_changed c e.body) line))
+        ≡ result_map (state_changed c) (if b then Ok (between (es ++ e ∷ [])) else gone_on es e (body_line same e.body line))
+    by_test true = ended
+    by_test false = rw (line_changed c e.body line) (by_line (body_line same e.body line))
+
+pub run_from_changed : (o : Bool) (c : Change) (lines : List (List ℕ)) (st : State) → run o c (state_changed c st) lines ≡ result_map (state_changed c) (run o same st lines)
+unfolding run
+run_from_changed o c [] st = refl
+run_from_changed o c (line ∷ lines) st = rw (step_changed o c st line) (by_step (step o same st line) (λ next. run_from_changed o c lines next))
+  where
+    by_step : (r : Result State Wrong) → ((next : State) → run o c (state_changed c next) lines ≡ result_map (state_changed c) (run o same next lines))
+        → on_read (result_map (state_changed c) r) (λ next. run o c next lines) ≡ result_map (state_changed c) (on_read r (λ next. run o same next lines))
+    by_step (Err w) rest = refl
+    by_step (Ok next) rest = rest next
+
+pub run_changed : (o : Bool) (c : Change) (lines : List (List ℕ)) → run o c unread lines ≡ result_map (state_changed c) (run o same unread lines)
+run_changed o c lines = run_from_changed o c lines unread
