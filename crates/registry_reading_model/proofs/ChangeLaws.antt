@@ -1,22 +1,22 @@
 -- To change all types and numbers while a text is read is to read it and to change them then.
-use Rattle.std.proofs.Common.{◌≡◌, ℕ, ℤ, Bool, true, false, not, ◌&&◌, ◌||◌, List, [], ◌∷◌, ◌++◌, map, Option, None, Some, Result, Ok, Err, option_map, if◌then◌else◌, refl, sym, ap, ◌∙◌, codes}
-use Rattle.std.proofs.lemmas.List.{map_push, map-append}
+use Rattle.std.proofs.Common.{◌≡◌, ℕ, Bool, true, false, not, ◌||◌, List, [], ◌∷◌, ◌++◌, map, Option, None, Some, Result, Ok, Err, option_map, if◌then◌else◌, refl, sym, ap, codes}
+use Rattle.std.proofs.lemmas.List.{map_push}
 use Rattle.std.specs.Str.{bytes_eq}
-use Rattle.uno_model.specs.Entities.{Field, Param, Base, Attribute, Method, Member, attribute, method, Item, Constant, Constructor, Part, face, subservice, property}
+use Rattle.uno_model.specs.Entities.{Field, Base, Member, attribute, method, Constructor}
 use Rattle.uno_model.specs.Entities.{Body, interface, struct, exception, enum, constants, typedef, new_service, old_service, new_singleton, old_singleton, Entity}
 use Rattle.uno_model.specs.Kinds.{Kind}
 use Rattle.uno_model.specs.Sound.{is_some_list}
-use Rattle.registry_reading_model.proofs.OptionMaps.{on_some_changed, on_changed, where_changed, choice_changed, pushed_changed, some_list_changed, last_changed_changed}
+use Rattle.registry_reading_model.proofs.OptionMaps.{on_some_changed, on_changed, where_changed, choice_changed, pushed_changed, last_changed_changed}
 use Rattle.registry_reading_model.specs.Bodies.{body_line, changed_kind, field_of, attribute_of, method_of, oneway_of, param_of, get_raises_added, set_raises_added, param_added, raises_added}
 use Rattle.registry_reading_model.specs.Bodies.{base_added, with_members, interface_line, item_of, constant_of, constructor_of, is_open, given_added, rest_added, raised_added}
-use Rattle.registry_reading_model.specs.Bodies.{constructor_line, property_of, part_of, behind_word, fields_line, pushed, last_changed}
+use Rattle.registry_reading_model.specs.Bodies.{constructor_line, property_of, part_of, behind_word, fields_line, pushed}
 use Rattle.registry_reading_model.specs.Changes.{Change, same, field_changed, param_changed, attribute_changed, method_changed, member_changed, item_changed, constant_changed}
 use Rattle.registry_reading_model.specs.Changes.{constructor_changed, part_changed, body_changed, entity_changed}
-use Rattle.registry_reading_model.specs.Headers.{header_of, is_free_name, words_opened, opened, opened_with, opened_alone, service_opened, singleton_of, perhaps_published}
+use Rattle.registry_reading_model.specs.Headers.{header_of, is_free_name, words_opened, opened, opened_with, opened_alone, singleton_of, perhaps_published}
 use Rattle.registry_reading_model.specs.Kinds.{kind_of_text}
 use Rattle.registry_reading_model.specs.Numbers.{number_of}
-use Rattle.registry_reading_model.specs.States.{State, unread, between, within, Wrong, bad, out_of_order, step, run, begun, gone_on, on_read, with_body, is_above}
-use Rattle.registry_reading_model.specs.Words.{on_some, where_, word_of, identifier_of, behind, entity_name_of, identifier_alone, way_of, access_of, flags_of}
+use Rattle.registry_reading_model.specs.States.{State, unread, between, within, Wrong, bad, out_of_order, step, run, begun, gone_on, on_read, is_above}
+use Rattle.registry_reading_model.specs.Words.{on_some, word_of, identifier_of, behind, entity_name_of, identifier_alone, way_of, access_of, flags_of}
 
 -- ---- parts of lines
 
@@ -272,6 +272,7 @@ step_changed o c (between es) line = rw (header_changed c line) (by_header (head
         (result_map (state_changed c) (if b then Ok (within es e) else Err out_of_order))
     by_test e true = refl
     by_test e false = refl
+
     by_header : (h : Option Entity) → begun o (map (entity_changed c) es) (option_map (entity_changed c) h) ≡ result_map (state_changed c) (begun o es h)
     by_header None = refl
     by_header (Some e) = rw (above_changed c es e.name) (by_test e (not o || is_above es e.name))
@@ -280,8 +281,10 @@ step_changed o c (within es e) line = by_test (bytes_eq line (codes "end"))
     by_line : (b : Option Body) → gone_on (map (entity_changed c) es) (entity_changed c e) (option_map (body_changed c) b) ≡ result_map (state_changed c) (gone_on es e b)
     by_line None = refl
     by_line (Some b) = refl
+
     ended : ◌≡◌ {A = Result State Wrong} (Ok (between (map (entity_changed c) es ++ entity_changed c e ∷ []))) (Ok (between (map (entity_changed c) (es ++ e ∷ []))))
     ended = ap (λ ds. Ok (between ds)) (sym (map_push (entity_changed c) es e))
+
     by_test : (b : Bool)
         → (if b then Ok (between (map (entity_changed c) es ++ entity_changed c e ∷ [])) else gone_on (map (entity_changed c) es) (entity_changed c e) (body_line c (body_changed c e.body) line))
         ≡ result_map (state_changed c) (if b then Ok (between (es ++ e ∷ [])) else gone_on es e (body_line same e.body line))

@@ -1,2 +1,5 @@
 pub mod ChangeLaws
+pub mod ChangedUses
+pub mod ListMaps
 pub mod OptionMaps
+pub mod ResolvedLaws

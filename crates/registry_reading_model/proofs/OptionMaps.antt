@@ -1,8 +1,8 @@
 -- Changes that go through options, tests and lists.
-use Rattle.std.proofs.Common.{◌≡◌, ℕ, Bool, true, false, not, List, [], ◌∷◌, ◌++◌, map, Option, None, Some, option_map, if◌then◌else◌, refl, sym, ap, ◌∙◌}
+use Rattle.std.proofs.Common.{◌≡◌, Bool, true, false, List, [], ◌∷◌, map, Option, None, Some, option_map, if◌then◌else◌, refl, sym, ap}
 use Rattle.std.proofs.lemmas.List.{map_push}
 use Rattle.uno_model.specs.Sound.{is_some_list}
-use Rattle.registry_reading_model.specs.Bodies.{pushed, all_but_last, last_of, last_changed, behind_word}
+use Rattle.registry_reading_model.specs.Bodies.{pushed, all_but_last, last_of, last_changed}
 use Rattle.registry_reading_model.specs.Words.{on_some, where_}
 
 pub on_some_changed : {X Y Z : Type 0} (h : Y → Z) (o : Option X) (f : X → Option Y) (g : X → Option Z) → ((x : X) → g x ≡ option_map h (f x))
