@@ -1,0 +1,3 @@
+pub mod LineBack
+pub mod LineForth
+pub mod TextLaws
