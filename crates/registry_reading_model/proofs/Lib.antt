@@ -5,4 +5,6 @@ pub mod LineForth
 pub mod ListMaps
 pub mod OptionMaps
 pub mod ResolvedLaws
+pub mod RisingLaws
+pub mod RunLaws
 pub mod TextLaws
