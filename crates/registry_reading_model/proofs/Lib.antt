@@ -1,3 +1,4 @@
+pub mod BeginLaws
 pub mod ChangeLaws
 pub mod ChangedUses
 pub mod LineBack
