@@ -8,4 +8,6 @@ pub mod OptionMaps
 pub mod ResolvedLaws
 pub mod RisingLaws
 pub mod RunLaws
+pub mod RunsLaws
 pub mod TextLaws
+pub mod VerdictLaws
