@@ -1,6 +1,7 @@
 pub mod BeginLaws
 pub mod ChangeLaws
 pub mod ChangedUses
+pub mod ChangedVerdictLaws
 pub mod LineBack
 pub mod LineForth
 pub mod ListMaps
