@@ -2,9 +2,12 @@ pub mod BeginLaws
 pub mod ChangeLaws
 pub mod ChangedUses
 pub mod ChangedVerdictLaws
+pub mod FlagLaws
+pub mod KindLaws
 pub mod LineBack
 pub mod LineForth
 pub mod ListMaps
+pub mod NumberLaws
 pub mod OptionMaps
 pub mod ResolvedLaws
 pub mod RisingLaws
@@ -12,3 +15,4 @@ pub mod RunLaws
 pub mod RunsLaws
 pub mod TextLaws
 pub mod VerdictLaws
+pub mod WordLaws
