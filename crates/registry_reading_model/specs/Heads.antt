@@ -1,5 +1,6 @@
--- The headers of a text, looked through before it is read: which name is a type, of which class, and on which line it stands.
-use Rattle.std.specs.Prelude.{ℕ, suc, Bool, true, false, ◌||◌, ◌==◌, List, [], ◌∷◌, ◌++◌, Option, None, Some, codes, if◌then◌else◌}
+-- The headers of a text, looked through before it is read: which name is a type, of which class, on which line it stands, and whether a value under it is
+-- beyond those of `long`.
+use Rattle.std.specs.Prelude.{ℕ, suc, ℤ, Bool, true, false, not, ◌||◌, ◌==◌, List, [], ◌∷◌, ◌++◌, Option, None, Some, codes, if◌then◌else◌}
 use Rattle.std.specs.Cmp.Lexicographic.{slice_cmp}
 use Rattle.std.specs.Ordering.{nat_cmp, is_lt}
 use Rattle.std.specs.Str.{bytes_eq}
@@ -8,12 +9,15 @@ use Rattle.uno_model.specs.Kinds.{Kind}
 use Rattle.uno_model.specs.Kinds as kd
 use Rattle.uno_model.specs.declared.type_class.TypeClass.{TypeClass}
 use Rattle.uno_model.specs.declared.type_class.TypeClass.TheVariants as class
-use Rattle.registry_reading_model.specs.Words.{word_of, behind}
+use Rattle.registry_text_model.specs.EnumValues.{is_long}
+use Rattle.registry_reading_model.specs.Numbers.{number_of}
+use Rattle.registry_reading_model.specs.Words.{on_some, word_of, identifier_of, behind}
 
 pub record Head : Type 0 where
   pub name : List ℕ
   pub class : Option TypeClass
   pub line : ℕ
+  pub beyond : Bool
 
 -- ---- the header on a line
 
@@ -41,7 +45,7 @@ or_whole line (Some words) = words
 unfoldable pub head_of : ℕ → List ℕ → Head
 head_of number line =
     let words = first_word (or_whole line (behind (codes "published ") line)) in
-    record { name = (first_word words.1).0; class = class_of_word words.0; line = number }
+    record { name = (first_word words.1).0; class = class_of_word words.0; line = number; beyond = false }
 
 -- ---- all of them
 
@@ -55,8 +59,23 @@ is_above_last (h ∷ (g ∷ gs)) name = is_above_last (g ∷ gs) name
 abbrev pub head_added : List Head → Head → List Head
 head_added heads h = if is_above_last heads h.name then heads ++ h ∷ [] else heads
 
+-- an item whose value is beyond those of `long`
+abbrev pub is_beyond : Option ℤ → Bool
+is_beyond None = false
+is_beyond (Some n) = not (is_long n)
+
+unfoldable pub beyond_long : List ℕ → Bool
+beyond_long line = is_beyond (on_some (behind (codes "value ") line) (λ text. on_some (identifier_of text) (λ x. number_of x.1)))
+
+-- the last of them is marked
+unfoldable pub last_marked : List Head → List Head
+last_marked [] = []
+last_marked (h ∷ []) = record { name = h.name; class = h.class; line = h.line; beyond = true } ∷ []
+last_marked (h ∷ (g ∷ gs)) = h ∷ last_marked (g ∷ gs)
+
 abbrev pub one_line_on : ℕ → Bool → List Head → List ℕ → List Head
-one_line_on number is_header heads line = if is_header then head_added heads (head_of number line) else heads
+one_line_on number true heads line = head_added heads (head_of number line)
+one_line_on number false heads line = if beyond_long line then last_marked heads else heads
 
 -- the header of an entity is the line behind the first of a text, and each behind an `end`; the lines from this number on, the first of which is a header or not
 unfoldable pub heads_on : ℕ → Bool → List Head → List (List ℕ) → List Head

@@ -6,4 +6,5 @@ pub mod Kept
 pub mod Kinds
 pub mod Numbers
 pub mod States
+pub mod TextLines
 pub mod Words
