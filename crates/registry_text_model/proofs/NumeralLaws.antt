@@ -14,7 +14,7 @@ unfolding digits_text
 digits_are zero some = let bad : ⊥ = omega arith in absurd bad
 digits_are (suc n) some = refl
 
-one_digit : (n : ℕ) → n < 10 → digits_text n ≡ (48 + n) ∷ []
+pub one_digit : (n : ℕ) → n < 10 → digits_text n ≡ (48 + n) ∷ []
 unfolding digits_text
 one_digit zero few = refl
 one_digit (suc n) few =
