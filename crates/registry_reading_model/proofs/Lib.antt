@@ -3,6 +3,7 @@ pub mod ChangeLaws
 pub mod ChangedUses
 pub mod ChangedVerdictLaws
 pub mod FlagLaws
+pub mod HeadLaws
 pub mod HeadLineLaws
 pub mod KindLaws
 pub mod LineBack
