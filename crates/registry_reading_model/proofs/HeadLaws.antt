@@ -211,3 +211,12 @@ first_line_on lines = refl
 -- one for each entity: its name, its class, the line of its header, and whether a value of it is beyond
 pub heads_of_text : (es : List Entity) → are_writable es ≡ true → IsRising es → heads_in (text_lines es) ≡ heads_of [] es
 heads_of_text es writable rising = first_line_on (flat_map entity_lines es) ∙ heads_from [] es [] writable rising refl
+
+-- the header of an entity among the others
+pub heads_split : (before xs : List Entity) (e : Entity) (ys : List Entity)
+    → heads_of before (xs ++ e ∷ ys) ≡ heads_of before xs ++ head_of_entity (before ++ xs) e ∷ heads_of ((before ++ xs) ++ e ∷ []) ys
+heads_split before [] e ys = ap (λ bs. head_of_entity bs e ∷ heads_of (bs ++ e ∷ []) ys) (sym (append-nil before))
+heads_split before (x ∷ xs) e ys =
+    ap (λ hs. head_of_entity before x ∷ hs)
+    (heads_split (before ++ x ∷ []) xs e ys
+    ∙ ap (λ bs. heads_of (before ++ x ∷ []) xs ++ head_of_entity bs e ∷ heads_of (bs ++ e ∷ []) ys) (append_assoc before (x ∷ []) xs))

@@ -9,6 +9,7 @@ pub mod KindLaws
 pub mod LineBack
 pub mod LineForth
 pub mod ListMaps
+pub mod NamedLaws
 pub mod NumberLaws
 pub mod OptionMaps
 pub mod ResolvedLaws
