@@ -1,3 +1,4 @@
+pub mod AndThenLaws
 pub mod BeginLaws
 pub mod ChangeLaws
 pub mod ChangedUses
@@ -16,6 +17,7 @@ pub mod ResolvedLaws
 pub mod RisingLaws
 pub mod RunLaws
 pub mod RunsLaws
+pub mod SaysLaws
 pub mod TextLaws
 pub mod VerdictLaws
 pub mod WordLaws
