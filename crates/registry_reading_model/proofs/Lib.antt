@@ -19,5 +19,6 @@ pub mod RunLaws
 pub mod RunsLaws
 pub mod SaysLaws
 pub mod TextLaws
+pub mod TextLinesLaws
 pub mod VerdictLaws
 pub mod WordLaws
