@@ -1,6 +1,7 @@
 pub mod AndThenLaws
 pub mod BeginLaws
 pub mod ChangeLaws
+pub mod ChangedParts
 pub mod ChangedUses
 pub mod ChangedVerdictLaws
 pub mod FlagLaws
