@@ -1,28 +1,13 @@
 -- To change an entity twice is to change it once, by the one and then the other.
-use Rattle.std.proofs.Common.{◌≡◌, ℕ, Bool, true, false, not, ◌&&◌, ◌||◌, List, [], ◌∷◌, ◌++◌, map, Option, None, Some, Result, Ok, Err, if◌then◌else◌, refl, sym, ap, ap₂, subst, ◌∙◌, codes}
-use Rattle.std.proofs.lemmas.Bool.{and_from}
-use Rattle.std.specs.List.{flat_map, list_all}
-use Rattle.std.specs.Str.{bytes_eq}
-use Rattle.uno_model.specs.BuiltIn.{HasBuiltIn}
-use Rattle.uno_model.specs.BuiltIn.{x_interface_name, exception_name, runtime_exception_name, disposed_exception_name, factory_name}
-use Rattle.uno_model.specs.Entities.{Field, Param, Attribute, Method, Member, attribute, method, Constant, Constructor, Part, face, subservice, property}
-use Rattle.uno_model.specs.Entities.{Body, interface, struct, exception, enum, constants, typedef, new_service, old_service, new_singleton, old_singleton, Entity}
-use Rattle.uno_model.specs.Kinds.{Kind, name_of}
-use Rattle.uno_model.specs.Kinds as kd
-use Rattle.uno_model.specs.Names.{is_entity_name}
-use Rattle.uno_model.specs.Registry.{IsRising}
-use Rattle.uno_model.specs.Uses.{kinds_in}
-use Rattle.uno_model.specs.declared.type_class.TypeClass.{TypeClass}
-use Rattle.uno_model.specs.declared.type_class.TypeClass.TheVariants as class
-use Rattle.registry_text_model.specs.Lines.{entity_lines, is_built_in_name, written, text_of}
-use Rattle.registry_text_model.specs.OneWayMethods.{is_void}
-use Rattle.registry_text_model.specs.Reading.{is_writable, are_writable, text_lines, is_resolved, is_spelled, Says}
-use Rattle.registry_reading_model.proofs.ChangedUses.{kinds_changed}
-use Rattle.registry_reading_model.proofs.ListMaps.{maps_agree, flat_maps_agree, all_agree}
-use Rattle.registry_reading_model.specs.Changes.{Change, same, and_then, field_changed, param_changed, member_changed, item_changed, constant_changed, constructor_changed, part_changed, body_changed, entity_changed}
-use Rattle.registry_reading_model.specs.Heads.{Head, head_named, kind_of_class, kind_of_head, named_in, heads_in}
-use Rattle.registry_reading_model.specs.Kept.{resolved, resolving, unresolved, limited, kept}
-use Rattle.registry_reading_model.specs.States.{State, unread, between, run}
+use Rattle.std.proofs.Common.{◌≡◌, ℕ, List, map, refl, sym, ap}
+use Rattle.uno_model.specs.Entities.{Member, attribute, method, Constructor, Part, face, subservice, property}
+use Rattle.uno_model.specs.Entities.{Body, interface, struct, exception, enum, constants, typedef, new_service, old_service, new_singleton}
+use Rattle.uno_model.specs.Entities.{old_singleton, Entity}
+use Rattle.uno_model.specs.Kinds.{Kind}
+use Rattle.registry_reading_model.proofs.ListMaps.{maps_agree}
+use Rattle.registry_reading_model.specs.Changes.{Change, and_then, field_changed, param_changed, member_changed, item_changed, constant_changed}
+use Rattle.registry_reading_model.specs.Changes.{constructor_changed, part_changed, body_changed, entity_changed}
+use Rattle.registry_reading_model.specs.Kept.{resolving, limited, kept}
 
 member_twice : (c d : Change) (m : Member) → member_changed d (member_changed c m) ≡ member_changed (and_then c d) m
 member_twice c d (attribute a) = refl
@@ -60,5 +45,6 @@ pub entities_twice : (c d : Change) (es : List Entity) → map (entity_changed d
 entities_twice c d es = maps_agree (entity_changed c) (entity_changed (and_then c d)) (entity_changed d) (entity_twice c d) es
 
 -- what a reader keeps of entities is what it keeps of them resolved
-pub kept_of_resolved : (named : List ℕ → Kind) (es : List Entity) → map (entity_changed (kept named)) es ≡ map (entity_changed limited) (map (entity_changed (resolving named)) es)
+pub kept_of_resolved : (named : List ℕ → Kind) (es : List Entity)
+    → map (entity_changed (kept named)) es ≡ map (entity_changed limited) (map (entity_changed (resolving named)) es)
 kept_of_resolved named es = sym (entities_twice (resolving named) limited es)

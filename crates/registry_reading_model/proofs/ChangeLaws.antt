@@ -1,23 +1,26 @@
 -- To change all types and numbers while a text is read is to read it and to change them then.
-use Rattle.std.proofs.Common.{◌≡◌, ℕ, Bool, true, false, not, ◌||◌, List, [], ◌∷◌, ◌++◌, map, Option, None, Some, Result, Ok, Err, option_map, if◌then◌else◌, refl, sym, ap, codes}
+use Rattle.std.proofs.Common.{◌≡◌, ℕ, Bool, true, false, not, ◌||◌, List, [], ◌∷◌, ◌++◌, map, Option, None, Some, Result, Ok, Err, option_map}
+use Rattle.std.proofs.Common.{if◌then◌else◌, refl, sym, ap, codes}
 use Rattle.std.proofs.lemmas.List.{map_push}
 use Rattle.std.specs.Str.{bytes_eq}
 use Rattle.uno_model.specs.Entities.{Field, Base, Member, attribute, method, Constructor}
-use Rattle.uno_model.specs.Entities.{Body, interface, struct, exception, enum, constants, typedef, new_service, old_service, new_singleton, old_singleton, Entity}
-use Rattle.uno_model.specs.Kinds.{Kind}
-use Rattle.uno_model.specs.Sound.{is_some_list}
+use Rattle.uno_model.specs.Entities.{Body, interface, struct, exception, enum, constants, typedef, new_service, old_service, new_singleton}
+use Rattle.uno_model.specs.Entities.{old_singleton, Entity}
 use Rattle.registry_reading_model.proofs.OptionMaps.{on_some_changed, on_changed, where_changed, choice_changed, pushed_changed, last_changed_changed}
-use Rattle.registry_reading_model.specs.Bodies.{body_line, changed_kind, field_of, attribute_of, method_of, oneway_of, param_of, get_raises_added, set_raises_added, param_added, raises_added}
-use Rattle.registry_reading_model.specs.Bodies.{base_added, with_members, interface_line, item_of, constant_of, constructor_of, is_open, given_added, rest_added, raised_added}
-use Rattle.registry_reading_model.specs.Bodies.{constructor_line, property_of, part_of, behind_word, fields_line, pushed}
-use Rattle.registry_reading_model.specs.Changes.{Change, same, field_changed, param_changed, attribute_changed, method_changed, member_changed, item_changed, constant_changed}
+use Rattle.registry_reading_model.specs.Bodies.{body_line, field_of, attribute_of, method_of, oneway_of}
+use Rattle.registry_reading_model.specs.Bodies.{base_added, with_members, interface_line, item_of, constant_of, constructor_of}
+use Rattle.registry_reading_model.specs.Bodies.{constructor_line, part_of, behind_word, fields_line, pushed}
+use Rattle.registry_reading_model.specs.Changes.{Change, same, field_changed, attribute_changed, method_changed, member_changed, item_changed}
+use Rattle.registry_reading_model.specs.Changes.{constant_changed}
 use Rattle.registry_reading_model.specs.Changes.{constructor_changed, part_changed, body_changed, entity_changed}
-use Rattle.registry_reading_model.specs.Headers.{header_of, is_free_name, words_opened, opened, opened_with, opened_alone, singleton_of, perhaps_published}
-use Rattle.registry_reading_model.specs.Kinds.{kind_of_text}
-use Rattle.registry_reading_model.specs.Numbers.{number_of}
-use Rattle.registry_reading_model.specs.States.{State, unread, between, within, Wrong, bad, out_of_order, step, run, begun, gone_on, on_read, is_above}
-use Rattle.registry_reading_model.specs.Words.{on_some, word_of, identifier_of, behind, entity_name_of, identifier_alone, way_of, access_of, flags_of}
-use Rattle.registry_reading_model.proofs.ChangedParts.{kind_changed, field_by, attribute_by, method_by, oneway_by, get_raises_by, set_raises_by, param_added_by, raises_by, item_by, constant_by, constructor_by, given_by, rest_by, raised_by, property_by}
+use Rattle.registry_reading_model.specs.Headers.{header_of, is_free_name, words_opened, opened, opened_with, opened_alone, singleton_of}
+use Rattle.registry_reading_model.specs.Headers.{perhaps_published}
+use Rattle.registry_reading_model.specs.States.{State, unread, between, within, Wrong, bad, out_of_order, step, run, begun, gone_on, on_read}
+use Rattle.registry_reading_model.specs.States.{is_above}
+use Rattle.registry_reading_model.specs.Words.{on_some, word_of, behind, entity_name_of}
+use Rattle.registry_reading_model.proofs.ChangedParts.{kind_changed, field_by, attribute_by, method_by, oneway_by, get_raises_by, set_raises_by}
+use Rattle.registry_reading_model.proofs.ChangedParts.{param_added_by, raises_by, item_by, constant_by, constructor_by, given_by, rest_by, raised_by}
+use Rattle.registry_reading_model.proofs.ChangedParts.{property_by}
 
 -- ---- lines under a header
 
@@ -131,11 +134,13 @@ alone_by c word =
     (choice_changed h (bytes_eq word (codes "enum")) _ _ _ _ refl
     (choice_changed h (bytes_eq word (codes "constants")) _ _ _ _ refl refl))))
 
-words_by : (c : Change) (published : Bool) (text : List ℕ) → words_opened c published text ≡ option_map (entity_changed c) (words_opened same published text)
+words_by : (c : Change) (published : Bool) (text : List ℕ)
+    → words_opened c published text ≡ option_map (entity_changed c) (words_opened same published text)
 unfolding words_opened
 words_by c published text = on_some_changed (entity_changed c) (word_of text) _ _ (λ x. by_name x.0 x.1 (word_of x.1))
   where
-    by_name : (word behind_it : List ℕ) (o : Option (List ℕ × List ℕ)) → opened c published word behind_it o ≡ option_map (entity_changed c) (opened same published word behind_it o)
+    by_name : (word behind_it : List ℕ) (o : Option (List ℕ × List ℕ))
+        → opened c published word behind_it o ≡ option_map (entity_changed c) (opened same published word behind_it o)
     by_name word behind_it None =
         where_changed (entity_changed c) (is_free_name behind_it) _ _ (on_changed (entity_changed c) (body_changed c) (opened_alone word) (opened_alone word) _ _ (alone_by c word) (λ b. refl))
     by_name word behind_it (Some x) =
@@ -167,7 +172,8 @@ above_changed c [] name = refl
 above_changed c (e ∷ []) name = refl
 above_changed c (e ∷ (d ∷ ds)) name = above_changed c (d ∷ ds) name
 
-pub step_changed : (o : Bool) (c : Change) (st : State) (line : List ℕ) → step o c (state_changed c st) line ≡ result_map (state_changed c) (step o same st line)
+pub step_changed : (o : Bool) (c : Change) (st : State) (line : List ℕ)
+    → step o c (state_changed c st) line ≡ result_map (state_changed c) (step o same st line)
 unfolding step
 step_changed o c unread line = by_test (bytes_eq line (codes "unoreg 1"))
   where
@@ -199,7 +205,8 @@ step_changed o c (within es e) line = by_test (bytes_eq line (codes "end"))
     by_test true = ended
     by_test false = rw (line_changed c e.body line) (by_line (body_line same e.body line))
 
-pub run_from_changed : (o : Bool) (c : Change) (lines : List (List ℕ)) (st : State) → run o c (state_changed c st) lines ≡ result_map (state_changed c) (run o same st lines)
+pub run_from_changed : (o : Bool) (c : Change) (lines : List (List ℕ)) (st : State)
+    → run o c (state_changed c st) lines ≡ result_map (state_changed c) (run o same st lines)
 unfolding run
 run_from_changed o c [] st = refl
 run_from_changed o c (line ∷ lines) st = rw (step_changed o c st line) (by_step (step o same st line) (λ next. run_from_changed o c lines next))

@@ -1,24 +1,22 @@
 -- What a part of a line says is changed as it is read.
-use Rattle.std.proofs.Common.{◌≡◌, ℕ, Bool, true, false, not, ◌||◌, List, [], ◌∷◌, ◌++◌, map, Option, None, Some, Result, Ok, Err, option_map, if◌then◌else◌, refl, sym, ap, codes}
-use Rattle.std.proofs.lemmas.List.{map_push}
-use Rattle.std.specs.Str.{bytes_eq}
-use Rattle.uno_model.specs.Entities.{Field, Base, Member, attribute, method, Constructor}
-use Rattle.uno_model.specs.Entities.{Body, interface, struct, exception, enum, constants, typedef, new_service, old_service, new_singleton, old_singleton, Entity}
+use Rattle.std.proofs.Common.{◌≡◌, ℕ, not, List, map, Option, None, Some, option_map, refl, codes}
+use Rattle.uno_model.specs.Entities.{Member, attribute, method, Constructor}
 use Rattle.uno_model.specs.Kinds.{Kind}
 use Rattle.uno_model.specs.Sound.{is_some_list}
-use Rattle.registry_reading_model.proofs.OptionMaps.{on_some_changed, on_changed, where_changed, choice_changed, pushed_changed, last_changed_changed}
-use Rattle.registry_reading_model.specs.Bodies.{body_line, changed_kind, field_of, attribute_of, method_of, oneway_of, param_of, get_raises_added, set_raises_added, param_added, raises_added}
-use Rattle.registry_reading_model.specs.Bodies.{base_added, with_members, interface_line, item_of, constant_of, constructor_of, is_open, given_added, rest_added, raised_added}
-use Rattle.registry_reading_model.specs.Bodies.{constructor_line, property_of, part_of, behind_word, fields_line, pushed}
-use Rattle.registry_reading_model.specs.Changes.{Change, same, field_changed, param_changed, attribute_changed, method_changed, member_changed, item_changed, constant_changed}
-use Rattle.registry_reading_model.specs.Changes.{constructor_changed, part_changed, body_changed, entity_changed}
-use Rattle.registry_reading_model.specs.Headers.{header_of, is_free_name, words_opened, opened, opened_with, opened_alone, singleton_of, perhaps_published}
+use Rattle.registry_reading_model.proofs.OptionMaps.{on_some_changed, on_changed, where_changed, pushed_changed}
+use Rattle.registry_reading_model.specs.Bodies.{changed_kind, field_of, attribute_of, method_of, oneway_of, param_of, get_raises_added}
+use Rattle.registry_reading_model.specs.Bodies.{set_raises_added, param_added, raises_added}
+use Rattle.registry_reading_model.specs.Bodies.{item_of, constant_of, constructor_of, is_open, given_added, rest_added, raised_added}
+use Rattle.registry_reading_model.specs.Bodies.{property_of, pushed}
+use Rattle.registry_reading_model.specs.Changes.{Change, same, field_changed, param_changed, attribute_changed, method_changed, member_changed}
+use Rattle.registry_reading_model.specs.Changes.{item_changed, constant_changed}
+use Rattle.registry_reading_model.specs.Changes.{constructor_changed, part_changed}
 use Rattle.registry_reading_model.specs.Kinds.{kind_of_text}
 use Rattle.registry_reading_model.specs.Numbers.{number_of}
-use Rattle.registry_reading_model.specs.States.{State, unread, between, within, Wrong, bad, out_of_order, step, run, begun, gone_on, on_read, is_above}
 use Rattle.registry_reading_model.specs.Words.{on_some, word_of, identifier_of, behind, entity_name_of, identifier_alone, way_of, access_of, flags_of}
 
-pub kind_changed : {Y Z : Type 0} (c : Change) (h : Y → Z) (text : List ℕ) (f : Kind → Option Y) (g : Kind → Option Z) → ((k : Kind) → g (c.kind k) ≡ option_map h (f k))
+pub kind_changed : {Y Z : Type 0} (c : Change) (h : Y → Z) (text : List ℕ) (f : Kind → Option Y) (g : Kind → Option Z)
+    → ((k : Kind) → g (c.kind k) ≡ option_map h (f k))
     → on_some (changed_kind c text) g ≡ option_map h (on_some (changed_kind same text) f)
 kind_changed c h text f g each = by_kind (kind_of_text text)
   where
@@ -50,18 +48,21 @@ param_by c text =
     on_some_changed (param_changed c) (word_of text) _ _ (λ x. on_some_changed (param_changed c) (way_of x.0) _ _ (λ way.
     on_some_changed (param_changed c) (identifier_of x.1) _ _ (λ y. kind_changed c (param_changed c) y.1 _ _ (λ k. refl))))
 
-pub get_raises_by : (c : Change) (text : List ℕ) (m : Member) → get_raises_added text (member_changed c m) ≡ option_map (member_changed c) (get_raises_added text m)
+pub get_raises_by : (c : Change) (text : List ℕ) (m : Member)
+    → get_raises_added text (member_changed c m) ≡ option_map (member_changed c) (get_raises_added text m)
 unfolding get_raises_added
 get_raises_by c text (method m) = refl
 get_raises_by c text (attribute a) =
     where_changed (member_changed c) (not (is_some_list a.set_raises)) _ _ (on_some_changed (member_changed c) (pushed a.get_raises (entity_name_of text)) _ _ (λ names. refl))
 
-pub set_raises_by : (c : Change) (text : List ℕ) (m : Member) → set_raises_added text (member_changed c m) ≡ option_map (member_changed c) (set_raises_added text m)
+pub set_raises_by : (c : Change) (text : List ℕ) (m : Member)
+    → set_raises_added text (member_changed c m) ≡ option_map (member_changed c) (set_raises_added text m)
 unfolding set_raises_added
 set_raises_by c text (method m) = refl
 set_raises_by c text (attribute a) = on_some_changed (member_changed c) (pushed a.set_raises (entity_name_of text)) _ _ (λ names. refl)
 
-pub param_added_by : (c : Change) (text : List ℕ) (m : Member) → param_added c text (member_changed c m) ≡ option_map (member_changed c) (param_added same text m)
+pub param_added_by : (c : Change) (text : List ℕ) (m : Member)
+    → param_added c text (member_changed c m) ≡ option_map (member_changed c) (param_added same text m)
 unfolding param_added
 param_added_by c text (attribute a) = refl
 param_added_by c text (method m) =
@@ -69,7 +70,8 @@ param_added_by c text (method m) =
     (on_changed (member_changed c) (map (param_changed c)) (pushed m.params (param_of same text)) _ _ _
     (pushed_changed (param_changed c) m.params (param_of same text) (param_of c text) (param_by c text)) (λ params. refl))
 
-pub raises_by : (c : Change) (text : List ℕ) (m : Member) → raises_added text (member_changed c m) ≡ option_map (member_changed c) (raises_added text m)
+pub raises_by : (c : Change) (text : List ℕ) (m : Member)
+    → raises_added text (member_changed c m) ≡ option_map (member_changed c) (raises_added text m)
 unfolding raises_added
 raises_by c text (attribute a) = refl
 raises_by c text (method m) = on_some_changed (member_changed c) (pushed m.raises (entity_name_of text)) _ _ (λ names. refl)
@@ -88,18 +90,21 @@ pub constructor_by : (c : Change) (text : List ℕ) → constructor_of text ≡ 
 unfolding constructor_of
 constructor_by c text = on_some_changed (constructor_changed c) (identifier_alone text) _ _ (λ name. refl)
 
-pub given_by : (c : Change) (text : List ℕ) (k : Constructor) → given_added c text (constructor_changed c k) ≡ option_map (constructor_changed c) (given_added same text k)
+pub given_by : (c : Change) (text : List ℕ) (k : Constructor)
+    → given_added c text (constructor_changed c k) ≡ option_map (constructor_changed c) (given_added same text k)
 unfolding given_added
 given_by c text k =
     where_changed (constructor_changed c) (is_open k) _ _
     (on_changed (constructor_changed c) (map (field_changed c)) (pushed k.params (on_some (behind (codes "in ") text) (field_of same))) _ _ _
     (pushed_changed (field_changed c) k.params _ _ (on_some_changed (field_changed c) (behind (codes "in ") text) (field_of same) (field_of c) (λ x. field_by c x))) (λ params. refl))
 
-pub rest_by : (c : Change) (text : List ℕ) (k : Constructor) → rest_added text (constructor_changed c k) ≡ option_map (constructor_changed c) (rest_added text k)
+pub rest_by : (c : Change) (text : List ℕ) (k : Constructor)
+    → rest_added text (constructor_changed c k) ≡ option_map (constructor_changed c) (rest_added text k)
 unfolding rest_added
 rest_by c text k = where_changed (constructor_changed c) (is_open k) _ _ (on_some_changed (constructor_changed c) (identifier_alone text) _ _ (λ name. refl))
 
-pub raised_by : (c : Change) (text : List ℕ) (k : Constructor) → raised_added text (constructor_changed c k) ≡ option_map (constructor_changed c) (raised_added text k)
+pub raised_by : (c : Change) (text : List ℕ) (k : Constructor)
+    → raised_added text (constructor_changed c k) ≡ option_map (constructor_changed c) (raised_added text k)
 unfolding raised_added
 raised_by c text k = on_some_changed (constructor_changed c) (pushed k.raises (entity_name_of text)) _ _ (λ names. refl)
 

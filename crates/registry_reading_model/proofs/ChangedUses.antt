@@ -2,9 +2,11 @@
 use Rattle.std.proofs.Common.{◌≡◌, ◌∷◌, ◌++◌, map, refl, sym, ap, ap₂, ◌∙◌}
 use Rattle.std.proofs.lemmas.List.{map-append}
 use Rattle.uno_model.specs.Entities.{Member, attribute, method, Constructor, Part, face, subservice, property}
-use Rattle.uno_model.specs.Entities.{Body, interface, struct, exception, enum, constants, typedef, new_service, old_service, new_singleton, old_singleton, Entity}
+use Rattle.uno_model.specs.Entities.{Body, interface, struct, exception, enum, constants, typedef, new_service, old_service, new_singleton}
+use Rattle.uno_model.specs.Entities.{old_singleton, Entity}
 use Rattle.uno_model.specs.Sound.{is_named}
-use Rattle.uno_model.specs.Uses.{kinds_in, value_kinds, result_kinds, target_kinds, value_kinds_of, result_kinds_of, property_kinds, inner_names, member_names, constructor_names, part_names}
+use Rattle.uno_model.specs.Uses.{kinds_in, value_kinds, result_kinds, target_kinds, value_kinds_of, result_kinds_of, property_kinds, inner_names}
+use Rattle.uno_model.specs.Uses.{member_names, constructor_names, part_names}
 use Rattle.uno_model.specs.Uses.{raised_by, interfaces_of_part, services_of_part}
 use Rattle.registry_text_model.specs.Reading.{names_used}
 use Rattle.registry_reading_model.proofs.ListMaps.{maps_agree, map_of_maps, flat_maps_agree, map_of_flat_maps}

@@ -1,5 +1,6 @@
 -- The headers that are found in the text of entities are those of the entities; in any text their names rise.
-use Rattle.std.proofs.Common.{◌≡◌, ℕ, suc, ◌+◌, ◌<◌, Bool, true, false, not, ◌&&◌, ◌||◌, ◌==◌, List, [], ◌∷◌, ◌++◌, length, map, if◌then◌else◌, refl, sym, ap, ap₂, subst, ◌∙◌, codes, arith}
+use Rattle.std.proofs.Common.{◌≡◌, ℕ, suc, ◌+◌, ◌<◌, Bool, true, false, not, ◌&&◌, ◌||◌, ◌==◌, List, [], ◌∷◌, ◌++◌, length, map, if◌then◌else◌, refl}
+use Rattle.std.proofs.Common.{sym, ap, ap₂, subst, ◌∙◌, codes, arith}
 use Rattle.std.proofs.lemmas.Bool.{and_parts, not-true, ne_eqb, or_right}
 use Rattle.std.proofs.lemmas.Cmp.{nat_list_cmp_total}
 use Rattle.std.proofs.lemmas.List.{append-nil, append_assoc, map_push, length-append}
@@ -25,7 +26,8 @@ head_names heads = map (λ h. h.name) heads
 
 -- ---- names rise
 
-below_head : (hs : List Head) (name : List ℕ) → IsStrictlySortedBy (slice_cmp nat_cmp) (head_names hs) → is_above_last hs name ≡ true → AllBelow (head_names hs) name
+below_head : (hs : List Head) (name : List ℕ) → IsStrictlySortedBy (slice_cmp nat_cmp) (head_names hs) → is_above_last hs name ≡ true
+    → AllBelow (head_names hs) name
 unfolding is_above_last IsStrictlySortedBy
 below_head [] name sorted above = tt
 below_head (h ∷ []) name sorted above = (less_from_below h.name name above, tt)
@@ -33,7 +35,8 @@ below_head (h ∷ (g ∷ gs)) name sorted above =
     let rest = below_head (g ∷ gs) name sorted.1 above in
     (nat_list_cmp_total.trans h.name g.name name sorted.0.0 rest.0, rest)
 
-added_rise : (hs : List Head) (h : Head) → IsStrictlySortedBy (slice_cmp nat_cmp) (head_names hs) → IsStrictlySortedBy (slice_cmp nat_cmp) (head_names (head_added hs h))
+added_rise : (hs : List Head) (h : Head) → IsStrictlySortedBy (slice_cmp nat_cmp) (head_names hs)
+    → IsStrictlySortedBy (slice_cmp nat_cmp) (head_names (head_added hs h))
 added_rise hs h sorted = by_test (is_above_last hs h.name) refl
   where
     by_test : (b : Bool) → is_above_last hs h.name ≡ b → IsStrictlySortedBy (slice_cmp nat_cmp) (head_names (if b then hs ++ h ∷ [] else hs))
@@ -115,7 +118,8 @@ later : (n : ℕ) → 1 < n → (n == 1) ≡ false
 later n high = ne_eqb n 1 (λ e. omega (arith, high, e))
 
 -- one line more: under a header, an `end`, and a header
-one_line : (n : ℕ) (is_header : Bool) (hs : List Head) (line : List ℕ) (lines : List (List ℕ)) (end : Bool) → ((n == 1) || bytes_eq line (codes "end")) ≡ end
+one_line : (n : ℕ) (is_header : Bool) (hs : List Head) (line : List ℕ) (lines : List (List ℕ)) (end : Bool)
+    → ((n == 1) || bytes_eq line (codes "end")) ≡ end
     → heads_on n is_header hs (line ∷ lines) ≡ heads_on (suc n) end (one_line_on n is_header hs line) lines
 unfolding heads_on
 one_line n is_header hs line lines end is = ap (λ b. heads_on (suc n) b (one_line_on n is_header hs line) lines) is
@@ -126,7 +130,8 @@ no_end n line high other = rw (later n high, other) refl
 under_header : (n : ℕ) (hs : List Head) (h : Head) (line : List ℕ) (lines : List (List ℕ)) → 1 < n → bytes_eq line (codes "end") ≡ false
     → heads_on n false (hs ++ h ∷ []) (line ∷ lines) ≡ heads_on (suc n) false (hs ++ marked h (beyond_long line) ∷ []) lines
 under_header n hs h line lines high other =
-    one_line n false (hs ++ h ∷ []) line lines false (no_end n line high other) ∙ ap (λ gs. heads_on (suc n) false gs lines) (mark_last hs h (beyond_long line))
+    one_line n false (hs ++ h ∷ []) line lines false (no_end n line high other)
+    ∙ ap (λ gs. heads_on (suc n) false gs lines) (mark_last hs h (beyond_long line))
 
 at_end : (n : ℕ) (hs : List Head) (lines : List (List ℕ)) → heads_on n false hs (codes "end" ∷ lines) ≡ heads_on (suc n) true hs lines
 unfolding beyond_long behind
@@ -169,7 +174,8 @@ length_more before e =
     let own = ap length (append-nil (entity_lines e)) in
     omega (arith, all, parts, own)
 
-over_entity : (before : List Entity) (e : Entity) (hs : List Head) (rest : List (List ℕ)) → is_writable e ≡ true → head_names hs ≡ map (λ d. d.name) before
+over_entity : (before : List Entity) (e : Entity) (hs : List Head) (rest : List (List ℕ)) → is_writable e ≡ true
+    → head_names hs ≡ map (λ d. d.name) before
     → is_above before e.name ≡ true
     → heads_on (suc (length (text_lines before))) true hs (entity_lines e ++ rest)
     ≡ heads_on (suc (length (text_lines (before ++ e ∷ [])))) true (hs ++ head_of_entity before e ∷ []) rest
@@ -199,7 +205,8 @@ heads_from before (e ∷ es) hs writable rising same =
     let parts = and_parts (is_writable e && not (is_built_in_name e.name)) (are_writable es) writable in
     let own = (and_parts (is_writable e) (not (is_built_in_name e.name)) parts.0).0 in
     let names : head_names (hs ++ head_of_entity before e ∷ []) ≡ map (λ d. d.name) (before ++ e ∷ []) =
-    map_push (λ (h : Head). h.name) hs (head_of_entity before e) ∙ ap (λ ns. ns ++ e.name ∷ []) same ∙ sym (map_push (λ (d : Entity). d.name) before e) in
+    map_push (λ (h : Head). h.name) hs (head_of_entity before e) ∙ ap (λ ns. ns ++ e.name ∷ []) same
+    ∙ sym (map_push (λ (d : Entity). d.name) before e) in
     over_entity before e hs (flat_map entity_lines es) own same (above_of_rising before e es rising)
     ∙ heads_from (before ++ e ∷ []) es (hs ++ head_of_entity before e ∷ []) parts.1 (subst IsRising (sym (append_assoc before (e ∷ []) es)) rising) names
     ∙ append_assoc hs (head_of_entity before e ∷ []) (heads_of (before ++ e ∷ []) es)

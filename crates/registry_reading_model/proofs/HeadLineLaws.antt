@@ -1,11 +1,13 @@
 -- What the look for headers finds on each line of an entity's text.
-use Rattle.std.proofs.Common.{◌≡◌, ℕ, ℤ, Bool, true, false, not, ◌&&◌, ◌||◌, List, [], ◌∷◌, ◌++◌, map, Option, None, Some, if◌then◌else◌, refl, sym, ap, ap₂, subst, ◌∙◌, codes}
+use Rattle.std.proofs.Common.{◌≡◌, ℕ, Bool, true, false, not, ◌&&◌, ◌||◌, List, [], ◌∷◌, ◌++◌, map, Option, None, Some, if◌then◌else◌, refl, sym, ap}
+use Rattle.std.proofs.Common.{ap₂, ◌∙◌, codes}
 use Rattle.std.proofs.lemmas.Bool.{and_parts, and_from, or_from, not-true}
 use Rattle.std.specs.List.{flat_map, list_all, list_any}
 use Rattle.std.specs.Str.{bytes_eq}
 use Rattle.uno_model.proofs.AllLaws.{all_append}
-use Rattle.uno_model.specs.Entities.{Field, Param, Base, Attribute, Method, Member, attribute, method, Item, Constant, Constructor, Part, face, subservice, property}
-use Rattle.uno_model.specs.Entities.{Body, interface, struct, exception, enum, constants, typedef, new_service, old_service, new_singleton, old_singleton, Entity}
+use Rattle.uno_model.specs.Entities.{Field, Base, Member, attribute, method, Item, Constant, Constructor, Part, face, subservice, property}
+use Rattle.uno_model.specs.Entities.{Body, interface, struct, exception, enum, constants, typedef, new_service, old_service, new_singleton}
+use Rattle.uno_model.specs.Entities.{old_singleton, Entity}
 use Rattle.uno_model.specs.Kinds.{name_of}
 use Rattle.uno_model.specs.Names.{is_entity_name, is_identifier}
 use Rattle.uno_model.specs.Sound.{is_named}
@@ -13,14 +15,15 @@ use Rattle.uno_model.specs.Uses.{inner_names}
 use Rattle.uno_model.specs.declared.type_class.TypeClass.{TypeClass}
 use Rattle.uno_model.specs.declared.type_class.TypeClass.TheVariants as class
 use Rattle.registry_text_model.specs.EnumValues.{is_long, items_are_long, values_are_long}
-use Rattle.registry_text_model.specs.Lines.{header_line, header_words, body_lines, member_lines, method_line, attribute_line, param_line, field_line, item_line, constant_line, base_line}
-use Rattle.registry_text_model.specs.Lines.{constructor_lines, given_line, part_line, spaced, base_word, face_word, subservice_word, name_lines, rest_lines, numeral, name_and_base}
+use Rattle.registry_text_model.specs.Lines.{header_line, header_words, body_lines, member_lines, method_line, param_line, field_line, item_line}
+use Rattle.registry_text_model.specs.Lines.{constant_line, base_line}
+use Rattle.registry_text_model.specs.Lines.{constructor_lines, given_line, part_line, spaced, base_word, face_word, subservice_word, name_lines}
+use Rattle.registry_text_model.specs.Lines.{rest_lines, numeral, name_and_base}
 use Rattle.registry_text_model.specs.Reading.{is_writable}
 use Rattle.registry_reading_model.proofs.NumberLaws.{number_forth}
 use Rattle.registry_reading_model.proofs.WordLaws.{split_forth, split_none, entity_name_no_blank, identifier_forth}
-use Rattle.registry_reading_model.specs.Heads.{Head, class_of_word, or_alone, first_word, or_whole, head_of, beyond_long, is_beyond}
-use Rattle.registry_reading_model.specs.Numbers.{number_of}
-use Rattle.registry_reading_model.specs.Words.{on_some, word_of, identifier_of, behind, split_at, in_front}
+use Rattle.registry_reading_model.specs.Heads.{Head, class_of_word, or_alone, first_word, or_whole, head_of, beyond_long}
+use Rattle.registry_reading_model.specs.Words.{behind, split_at}
 
 -- the class of the type that an entity is
 abbrev pub class_of_body : Body → Option TypeClass
@@ -94,7 +97,8 @@ header_head number e writable =
 abbrev pub is_no_end : List ℕ → Bool
 is_no_end line = not (bytes_eq line (codes "end"))
 
-header_goes_on : (published : Bool) (name : List ℕ) (body : Body) → bytes_eq (if published then spaced (codes "published") (header_words name body) else header_words name body) (codes "end") ≡ false
+header_goes_on : (published : Bool) (name : List ℕ) (body : Body)
+    → bytes_eq (if published then spaced (codes "published") (header_words name body) else header_words name body) (codes "end") ≡ false
 unfolding spaced
 header_goes_on true name body = refl
 header_goes_on false name (interface bases members) = refl
@@ -119,7 +123,8 @@ all_mapped : {X : Type 0} (P : List ℕ → Bool) (f : X → List ℕ) → ((x :
 all_mapped P f each [] = refl
 all_mapped P f each (x ∷ xs) = and_from (P (f x)) (list_all P (map f xs)) (each x) (all_mapped P f each xs)
 
-all_flat_mapped : {X : Type 0} (P : List ℕ → Bool) (f : X → List (List ℕ)) → ((x : X) → list_all P (f x) ≡ true) → (xs : List X) → list_all P (flat_map f xs) ≡ true
+all_flat_mapped : {X : Type 0} (P : List ℕ → Bool) (f : X → List (List ℕ)) → ((x : X) → list_all P (f x) ≡ true) → (xs : List X)
+    → list_all P (flat_map f xs) ≡ true
 all_flat_mapped P f each [] = refl
 all_flat_mapped P f each (x ∷ xs) = all_append P (f x) (flat_map f xs) (each x) (all_flat_mapped P f each xs)
 
@@ -201,8 +206,7 @@ items_seen : (items : List Item) → list_all is_identifier (map (λ i. i.name) 
 items_seen [] named = (refl, refl)
 items_seen (i ∷ items) named =
     let parts = and_parts (is_identifier i.name) (list_all is_identifier (map (λ d. d.name) items)) named in
-    let rest = items_seen items parts.1 in
-    (
+    let rest = items_seen items parts.1 in (
       and_from (is_no_end (item_line i)) _ (value_goes_on (spaced i.name (numeral i.number))) rest.0,
       ap₂ (λ a b. a || b) (item_seen i parts.0) rest.1 ∙ sym (not_both (is_long i.number) (list_all (λ d. is_long d.number) items)),
     )
@@ -227,6 +231,7 @@ body_seen (new_singleton base) named = (refl, refl)
 body_seen (old_singleton service) named = (refl, refl)
 
 -- no line under a header is an `end`, and one is beyond where a value is
-pub lines_seen : (e : Entity) → is_writable e ≡ true → (list_all is_no_end (body_lines e.body) ≡ true) × (list_any beyond_long (body_lines e.body) ≡ not (values_are_long e))
+pub lines_seen : (e : Entity) → is_writable e ≡ true
+    → (list_all is_no_end (body_lines e.body) ≡ true) × (list_any beyond_long (body_lines e.body) ≡ not (values_are_long e))
 unfolding values_are_long
 lines_seen e writable = body_seen e.body (and_parts (is_entity_name e.name) (list_all is_identifier (inner_names e.body)) (named_when_writable e writable)).1

@@ -1,25 +1,20 @@
 -- By the headers of its text a name stands as the type that the registry of the text has of that name.
-use Rattle.std.proofs.Common.{◌≡◌, ℕ, Bool, true, false, not, ◌&&◌, ◌||◌, List, [], ◌∷◌, ◌++◌, map, Option, None, Some, if◌then◌else◌, refl, sym, ap, ap₂, subst, ◌∙◌, codes, arith}
-use Rattle.std.proofs.lemmas.Bool.{or_cases, or_parts}
+use Rattle.std.proofs.Common.{◌≡◌, ℕ, Bool, true, false, not, ◌||◌, List, [], ◌∷◌, ◌++◌, Option, None, Some, if◌then◌else◌, refl, sym, ap, ◌∙◌, arith}
 use Rattle.std.proofs.lemmas.Slice.Eq.{bytes_eq-Decides}
-use Rattle.std.specs.Prelude.{filter}
 use Rattle.std.specs.Str.{bytes_eq}
-use Rattle.uno_model.specs.BuiltIn.{HasBuiltIn, built_in, x_interface, base_exception, runtime_exception, disposed_exception, factory}
+use Rattle.uno_model.specs.BuiltIn.{HasBuiltIn, x_interface, base_exception, runtime_exception, disposed_exception, factory}
 use Rattle.uno_model.specs.BuiltIn.{x_interface_name, exception_name, runtime_exception_name, disposed_exception_name, factory_name}
-use Rattle.uno_model.specs.Entities.{Body, interface, struct, exception, enum, constants, typedef, new_service, old_service, new_singleton, old_singleton, Entity}
-use Rattle.uno_model.specs.Kinds.{Kind, name_of}
+use Rattle.uno_model.specs.Entities.{Body, interface, struct, exception, enum, constants, typedef, new_service, old_service, new_singleton}
+use Rattle.uno_model.specs.Entities.{old_singleton, Entity}
+use Rattle.uno_model.specs.Kinds.{Kind}
 use Rattle.uno_model.specs.Kinds as kd
-use Rattle.uno_model.specs.Names.{is_entity_name}
 use Rattle.uno_model.specs.Registry.{IsRising, find_entity}
-use Rattle.uno_model.specs.Sound.{is_there, is_interface, is_exception, is_enum}
-use Rattle.uno_model.specs.declared.type_class.TypeClass.{TypeClass}
-use Rattle.uno_model.specs.declared.type_class.TypeClass.TheVariants as class
+use Rattle.uno_model.specs.Sound.{is_there, is_interface, is_exception}
 use Rattle.registry_text_model.specs.Lines.{is_built_in_name, written}
-use Rattle.registry_text_model.specs.OneWayMethods.{is_void}
-use Rattle.registry_text_model.specs.Reading.{are_writable, text_lines, is_resolved, is_spelled}
+use Rattle.registry_text_model.specs.Reading.{are_writable, text_lines, is_resolved}
 use Rattle.registry_reading_model.proofs.HeadLaws.{heads_of, head_of_entity, heads_of_text}
 use Rattle.registry_reading_model.proofs.HeadLineLaws.{class_of_body}
-use Rattle.registry_reading_model.specs.Heads.{Head, head_named, kind_of_class, kind_of_head, named_in, heads_in}
+use Rattle.registry_reading_model.specs.Heads.{head_named, kind_of_class, kind_of_head, named_in, heads_in}
 use Rattle.registry_reading_model.specs.Kept.{resolved}
 
 -- ---- what is found of a name
@@ -28,7 +23,8 @@ abbrev kind_of_found : List ℕ → Option Entity → Kind
 kind_of_found name None = kd.struct name
 kind_of_found name (Some e) = kind_of_class name (class_of_body e.body)
 
-head_kind : (before es : List Entity) (name : List ℕ) → kind_of_head name (head_named name (heads_of before es)) ≡ kind_of_found name (find_entity name es)
+head_kind : (before es : List Entity) (name : List ℕ)
+    → kind_of_head name (head_named name (heads_of before es)) ≡ kind_of_found name (find_entity name es)
 unfolding head_named find_entity
 head_kind before [] name = refl
 head_kind before (e ∷ es) name = by_test (bytes_eq name e.name) (head_kind (before ++ e ∷ []) es name)
@@ -73,21 +69,25 @@ found_resolved reg name = by_find (find_entity name reg) refl
     by_body own published (old_service parts) found = rw found refl
     by_body own published (new_singleton base) found = rw found refl
     by_body own published (old_singleton service) found = rw found refl
+
     by_find : (o : Option Entity) → find_entity name reg ≡ o → is_resolved reg (kind_of_found name o) ≡ true
     by_find None found = rw found refl
     by_find (Some e) found = by_body e.name e.published e.body found
 
-own_resolved : (es reg : List Entity) (name : List ℕ) → written reg ≡ es → is_built_in_name name ≡ false → is_resolved reg (kind_of_head name (head_named name (heads_of [] es))) ≡ true
+own_resolved : (es reg : List Entity) (name : List ℕ) → written reg ≡ es → is_built_in_name name ≡ false
+    → is_resolved reg (kind_of_head name (head_named name (heads_of [] es))) ≡ true
 own_resolved es reg name all own =
     let found : find_entity name es ≡ find_entity name reg = ap (find_entity name) (sym all) ∙ found_written reg name own in
     let kind = head_kind [] es name ∙ ap (kind_of_found name) found in
     ap (is_resolved reg) kind ∙ found_resolved reg name
 
-interface_there : (reg : List Entity) (e : Entity) (name : List ℕ) → HasBuiltIn reg → find_entity e.name reg ≡ Some e → is_interface e.body ≡ true → bytes_eq name e.name ≡ true
+interface_there : (reg : List Entity) (e : Entity) (name : List ℕ) → HasBuiltIn reg → find_entity e.name reg ≡ Some e → is_interface e.body ≡ true
+    → bytes_eq name e.name ≡ true
     → is_there reg is_interface name ≡ true
 interface_there reg e name has found is same = rw ((bytes_eq-Decides name e.name).0 same, found) is
 
-exception_there : (reg : List Entity) (e : Entity) (name : List ℕ) → HasBuiltIn reg → find_entity e.name reg ≡ Some e → is_exception e.body ≡ true → bytes_eq name e.name ≡ true
+exception_there : (reg : List Entity) (e : Entity) (name : List ℕ) → HasBuiltIn reg → find_entity e.name reg ≡ Some e → is_exception e.body ≡ true
+    → bytes_eq name e.name ≡ true
     → is_there reg is_exception name ≡ true
 exception_there reg e name has found is same = rw ((bytes_eq-Decides name e.name).0 same, found) is
 
@@ -97,13 +97,15 @@ not_built_in : (name : List ℕ) → bytes_eq name x_interface_name ≡ false �
 unfolding is_built_in_name
 not_built_in name a b c d e = rw (a, b, c, d, e) refl
 
-name_resolved_in : (es reg : List Entity) (name : List ℕ) → written reg ≡ es → HasBuiltIn reg → is_resolved reg (named_in (heads_of [] es) name) ≡ true
+name_resolved_in : (es reg : List Entity) (name : List ℕ) → written reg ≡ es → HasBuiltIn reg
+    → is_resolved reg (named_in (heads_of [] es) name) ≡ true
 unfolding named_in
 name_resolved_in es reg name all has =
     by_tests (bytes_eq name x_interface_name) refl (bytes_eq name factory_name) refl (bytes_eq name exception_name) refl (bytes_eq name runtime_exception_name) refl
     (bytes_eq name disposed_exception_name) refl
   where
-    by_tests : (a : Bool) → bytes_eq name x_interface_name ≡ a → (b : Bool) → bytes_eq name factory_name ≡ b → (c : Bool) → bytes_eq name exception_name ≡ c
+    by_tests : (a : Bool) → bytes_eq name x_interface_name ≡ a → (b : Bool) → bytes_eq name factory_name ≡ b → (c : Bool)
+        → bytes_eq name exception_name ≡ c
         → (d : Bool) → bytes_eq name runtime_exception_name ≡ d → (e : Bool) → bytes_eq name disposed_exception_name ≡ e
         → is_resolved reg (if a || b then kd.interface name else (if c || (d || e) then kd.exception name else kind_of_head name (head_named name (heads_of [] es)))) ≡ true
     by_tests true is b _ c _ d _ e _ = interface_there reg x_interface name has (has.found x_interface (4, omega arith, refl)) refl is
@@ -113,7 +115,8 @@ name_resolved_in es reg name all has =
     by_tests false _ false _ false _ false _ true is = exception_there reg disposed_exception name has (has.found disposed_exception (0, omega arith, refl)) refl is
     by_tests false f false g false h false i false j = own_resolved es reg name all (not_built_in name f g h i j)
 
-kind_resolved_in : (es reg : List Entity) → written reg ≡ es → HasBuiltIn reg → (k : Kind) → is_resolved reg (resolved (named_in (heads_of [] es)) k) ≡ true
+kind_resolved_in : (es reg : List Entity) → written reg ≡ es → HasBuiltIn reg → (k : Kind)
+    → is_resolved reg (resolved (named_in (heads_of [] es)) k) ≡ true
 unfolding resolved
 kind_resolved_in es reg all has (kd.enum name) = name_resolved_in es reg name all has
 kind_resolved_in es reg all has (kd.struct name) = name_resolved_in es reg name all has

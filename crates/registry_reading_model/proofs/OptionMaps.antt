@@ -25,7 +25,8 @@ pub choice_changed : {Y Z : Type 0} (h : Y → Z) (b : Bool) (o p : Option Y) (q
 choice_changed h true o p q r e f = e
 choice_changed h false o p q r e f = f
 
-pub pushed_changed : {Y Z : Type 0} (h : Y → Z) (ys : List Y) (o : Option Y) (p : Option Z) → p ≡ option_map h o → pushed (map h ys) p ≡ option_map (map h) (pushed ys o)
+pub pushed_changed : {Y Z : Type 0} (h : Y → Z) (ys : List Y) (o : Option Y) (p : Option Z) → p ≡ option_map h o
+    → pushed (map h ys) p ≡ option_map (map h) (pushed ys o)
 pushed_changed h ys None p e = rw e refl
 pushed_changed h ys (Some y) p e = rw e (ap Some (sym (map_push h ys y)))
 

@@ -1,7 +1,8 @@
 -- An entity in whose types each name stands as the type of that name has the same lines, and a text can write it where it can write the other.
 use Rattle.std.proofs.Common.{◌≡◌, ℕ, false, List, ◌++◌, map, refl, ap, codes}
 use Rattle.uno_model.specs.Entities.{Field, Member, attribute, method, Constructor, Part, face, subservice, property}
-use Rattle.uno_model.specs.Entities.{Body, interface, struct, exception, enum, constants, typedef, new_service, old_service, new_singleton, old_singleton, Entity}
+use Rattle.uno_model.specs.Entities.{Body, interface, struct, exception, enum, constants, typedef, new_service, old_service, new_singleton}
+use Rattle.uno_model.specs.Entities.{old_singleton, Entity}
 use Rattle.uno_model.specs.Kinds.{Kind, name_of}
 use Rattle.uno_model.specs.Kinds as kd
 use Rattle.uno_model.specs.Names.{is_entity_name}
@@ -40,7 +41,8 @@ name_resolved named back kd.str = refl
 name_resolved named back kd.kind = refl
 name_resolved named back kd.any = refl
 
-member_as_it_was : (named : List ℕ → Kind) → ((n : List ℕ) → name_of (named n) ≡ n) → (m : Member) → member_lines (member_changed (resolving named) m) ≡ member_lines m
+member_as_it_was : (named : List ℕ → Kind) → ((n : List ℕ) → name_of (named n) ≡ n) → (m : Member)
+    → member_lines (member_changed (resolving named) m) ≡ member_lines m
 member_as_it_was named back (attribute a) = rw (name_resolved named back a.kind) refl
 member_as_it_was named back (method m) =
     rw (
@@ -56,7 +58,8 @@ constructor_as_it_was named back k =
     rw (maps_agree (field_changed (resolving named)) given_line given_line
     (λ f. ap (λ n. spaced (codes "param") (spaced (codes "in") (spaced f.name n))) (name_resolved named back f.kind)) k.params) refl
 
-part_as_it_was : (named : List ℕ → Kind) → ((n : List ℕ) → name_of (named n) ≡ n) → (p : Part) → part_line (part_changed (resolving named) p) ≡ part_line p
+part_as_it_was : (named : List ℕ → Kind) → ((n : List ℕ) → name_of (named n) ≡ n) → (p : Part)
+    → part_line (part_changed (resolving named) p) ≡ part_line p
 part_as_it_was named back (face optional name) = refl
 part_as_it_was named back (subservice optional name) = refl
 part_as_it_was named back (property name flags k) = rw (name_resolved named back k) refl
@@ -66,7 +69,8 @@ fields_as_they_were : (named : List ℕ → Kind) → ((n : List ℕ) → name_o
 fields_as_they_were named back fields =
     maps_agree (field_changed (resolving named)) field_line field_line (λ f. ap (λ n. spaced (codes "member") (spaced f.name n)) (name_resolved named back f.kind)) fields
 
-pub body_lines_resolved : (named : List ℕ → Kind) → ((n : List ℕ) → name_of (named n) ≡ n) → (b : Body) → body_lines (body_changed (resolving named) b) ≡ body_lines b
+pub body_lines_resolved : (named : List ℕ → Kind) → ((n : List ℕ) → name_of (named n) ≡ n) → (b : Body)
+    → body_lines (body_changed (resolving named) b) ≡ body_lines b
 body_lines_resolved named back (interface bases members) = rw (flat_maps_agree (member_changed (resolving named)) member_lines member_lines (member_as_it_was named back) members) refl
 body_lines_resolved named back (struct base members) = fields_as_they_were named back members
 body_lines_resolved named back (exception base members) = fields_as_they_were named back members
@@ -93,12 +97,14 @@ header_words_resolved named back name (old_service parts) = refl
 header_words_resolved named back name (new_singleton base) = refl
 header_words_resolved named back name (old_singleton service) = refl
 
-pub entity_lines_resolved : (named : List ℕ → Kind) → ((n : List ℕ) → name_of (named n) ≡ n) → (e : Entity) → entity_lines (entity_changed (resolving named) e) ≡ entity_lines e
+pub entity_lines_resolved : (named : List ℕ → Kind) → ((n : List ℕ) → name_of (named n) ≡ n) → (e : Entity)
+    → entity_lines (entity_changed (resolving named) e) ≡ entity_lines e
 entity_lines_resolved named back e = rw (header_words_resolved named back e.name e.body, body_lines_resolved named back e.body) refl
 
 -- ---- whether a text can write it
 
-pub spelled_resolved : (named : List ℕ → Kind) → ((n : List ℕ) → is_spelled (named n) ≡ is_entity_name n) → (k : Kind) → is_spelled (resolved named k) ≡ is_spelled k
+pub spelled_resolved : (named : List ℕ → Kind) → ((n : List ℕ) → is_spelled (named n) ≡ is_entity_name n) → (k : Kind)
+    → is_spelled (resolved named k) ≡ is_spelled k
 unfolding resolved
 spelled_resolved named back (kd.enum name) = back name
 spelled_resolved named back (kd.struct name) = back name
@@ -140,11 +146,13 @@ void_resolved named other kd.str = refl
 void_resolved named other kd.kind = refl
 void_resolved named other kd.any = refl
 
-oneway_resolved : (named : List ℕ → Kind) → ((n : List ℕ) → is_void (named n) ≡ false) → (m : Member) → oneway_is_void (member_changed (resolving named) m) ≡ oneway_is_void m
+oneway_resolved : (named : List ℕ → Kind) → ((n : List ℕ) → is_void (named n) ≡ false) → (m : Member)
+    → oneway_is_void (member_changed (resolving named) m) ≡ oneway_is_void m
 oneway_resolved named other (attribute a) = refl
 oneway_resolved named other (method m) = rw (void_resolved named other m.result_kind) refl
 
-written_resolved : (named : List ℕ → Kind) → ((n : List ℕ) → is_void (named n) ≡ false) → (b : Body) → results_written (body_changed (resolving named) b) ≡ results_written b
+written_resolved : (named : List ℕ → Kind) → ((n : List ℕ) → is_void (named n) ≡ false) → (b : Body)
+    → results_written (body_changed (resolving named) b) ≡ results_written b
 written_resolved named other (interface bases members) = all_agree (member_changed (resolving named)) oneway_is_void oneway_is_void (oneway_resolved named other) members
 written_resolved named other (struct base members) = refl
 written_resolved named other (exception base members) = refl
@@ -156,7 +164,8 @@ written_resolved named other (old_service parts) = refl
 written_resolved named other (new_singleton base) = refl
 written_resolved named other (old_singleton service) = refl
 
-pub writable_resolved : (named : List ℕ → Kind) → ((n : List ℕ) → is_spelled (named n) ≡ is_entity_name n) → ((n : List ℕ) → is_void (named n) ≡ false) → (e : Entity)
+pub writable_resolved : (named : List ℕ → Kind) → ((n : List ℕ) → is_spelled (named n) ≡ is_entity_name n)
+    → ((n : List ℕ) → is_void (named n) ≡ false) → (e : Entity)
     → is_writable (entity_changed (resolving named) e) ≡ is_writable e
 unfolding is_writable
 writable_resolved named back other e =

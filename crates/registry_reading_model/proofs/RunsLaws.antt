@@ -1,6 +1,7 @@
 -- The text of entities that can be written is read, as those entities with each name in a type as a struct's.
-use Rattle.std.proofs.Common.{◌≡◌, ℕ, Bool, true, false, not, ◌&&◌, ◌||◌, List, [], ◌∷◌, ◌++◌, map, Option, None, Some, Result, Ok, Err, if◌then◌else◌, refl, sym, ap, subst, ◌∙◌, codes}
-use Rattle.std.proofs.lemmas.Bool.{and_parts, or_right, not-true}
+use Rattle.std.proofs.Common.{◌≡◌, ℕ, Bool, true, false, not, ◌&&◌, ◌||◌, List, [], ◌∷◌, ◌++◌, map, Option, None, Some, Ok, Err, if◌then◌else◌, refl}
+use Rattle.std.proofs.Common.{sym, ap, subst, ◌∙◌, codes}
+use Rattle.std.proofs.lemmas.Bool.{and_parts, not-true}
 use Rattle.std.proofs.lemmas.List.{append-nil, append_assoc, map_push}
 use Rattle.std.proofs.lemmas.Slice.Eq.{bytes_eq-Decides}
 use Rattle.std.specs.List.{flat_map}
@@ -17,7 +18,7 @@ use Rattle.registry_reading_model.specs.Bodies.{body_line}
 use Rattle.registry_reading_model.specs.Changes.{Change, same, body_changed, entity_changed}
 use Rattle.registry_reading_model.specs.Headers.{header_of}
 use Rattle.registry_reading_model.specs.Kept.{unresolved}
-use Rattle.registry_reading_model.specs.States.{State, unread, between, within, Wrong, bad, out_of_order, step, run, begun, gone_on, on_read, is_above, with_body}
+use Rattle.registry_reading_model.specs.States.{unread, between, within, out_of_order, step, run, gone_on, on_read, is_above, with_body}
 use Rattle.registry_reading_model.specs.Words.{on_some}
 
 -- a line under a header is no `end`
@@ -56,11 +57,13 @@ begins_entity : (o : Bool) (es : List Entity) (line : List ℕ) (e : Entity) →
 unfolding step
 begins_entity o es line e read above = rw read (by_order o above)
   where
-    by_order : (b : Bool) → (b ≡ true → is_above es e.name ≡ true) → (if not b || is_above es e.name then Ok (within es e) else Err out_of_order) ≡ Ok (within es e)
+    by_order : (b : Bool) → (b ≡ true → is_above es e.name ≡ true)
+        → (if not b || is_above es e.name then Ok (within es e) else Err out_of_order) ≡ Ok (within es e)
     by_order true is = rw (is refl) refl
     by_order false is = refl
 
-run_entity : (o : Bool) (es : List Entity) (e : Entity) → is_writable e ≡ true → is_built_in_name e.name ≡ false → (o ≡ true → is_above es e.name ≡ true)
+run_entity : (o : Bool) (es : List Entity) (e : Entity) → is_writable e ≡ true → is_built_in_name e.name ≡ false
+    → (o ≡ true → is_above es e.name ≡ true)
     → run o same (between es) (entity_lines e) ≡ Ok (between (es ++ entity_changed unresolved e ∷ []))
 unfolding run
 run_entity o es e writable written above =

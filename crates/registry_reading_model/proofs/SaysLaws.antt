@@ -1,12 +1,12 @@
 -- What a text that is read says: its entities, each name in a type as the type that the headers of the text have of it.
-use Rattle.std.proofs.Common.{◌≡◌, ℕ, Bool, true, false, not, ◌&&◌, ◌||◌, List, [], ◌∷◌, ◌++◌, map, Option, None, Some, Result, Ok, Err, if◌then◌else◌, refl, sym, ap, ap₂, subst, ◌∙◌, codes}
+use Rattle.std.proofs.Common.{◌≡◌, ℕ, Bool, true, false, not, ◌&&◌, ◌||◌, List, [], ◌∷◌, map, Option, None, Some, Ok, if◌then◌else◌, refl, sym, ap}
+use Rattle.std.proofs.Common.{◌∙◌, codes}
 use Rattle.std.proofs.lemmas.Bool.{and_from}
-use Rattle.std.specs.List.{flat_map, list_all}
+use Rattle.std.specs.List.{list_all}
 use Rattle.std.specs.Str.{bytes_eq}
 use Rattle.uno_model.specs.BuiltIn.{HasBuiltIn}
 use Rattle.uno_model.specs.BuiltIn.{x_interface_name, exception_name, runtime_exception_name, disposed_exception_name, factory_name}
-use Rattle.uno_model.specs.Entities.{Field, Param, Attribute, Method, Member, attribute, method, Constant, Constructor, Part, face, subservice, property}
-use Rattle.uno_model.specs.Entities.{Body, interface, struct, exception, enum, constants, typedef, new_service, old_service, new_singleton, old_singleton, Entity}
+use Rattle.uno_model.specs.Entities.{Entity}
 use Rattle.uno_model.specs.Kinds.{Kind, name_of}
 use Rattle.uno_model.specs.Kinds as kd
 use Rattle.uno_model.specs.Names.{is_entity_name}
@@ -24,14 +24,15 @@ use Rattle.registry_reading_model.proofs.NamedLaws.{resolved_in_registry}
 use Rattle.registry_reading_model.proofs.ResolvedLaws.{entity_lines_resolved, writable_resolved}
 use Rattle.registry_reading_model.proofs.RisingLaws.{rising_by_names}
 use Rattle.registry_reading_model.proofs.RunsLaws.{runs}
-use Rattle.registry_reading_model.specs.Changes.{Change, same, and_then, field_changed, param_changed, member_changed, item_changed, constant_changed, constructor_changed, part_changed, body_changed, entity_changed}
+use Rattle.registry_reading_model.specs.Changes.{Change, same, body_changed, entity_changed}
 use Rattle.registry_reading_model.specs.Heads.{Head, head_named, kind_of_class, kind_of_head, named_in, heads_in}
-use Rattle.registry_reading_model.specs.Kept.{resolved, resolving, unresolved, limited, kept}
-use Rattle.registry_reading_model.specs.States.{State, unread, between, run}
+use Rattle.registry_reading_model.specs.Kept.{resolved, resolving, unresolved}
+use Rattle.registry_reading_model.specs.States.{unread, between, run}
 
 -- ---- types of names
 
-named_kinds : (P : Kind → Type 0) (heads : List Head) (name : List ℕ) → P (kd.interface name) → P (kd.exception name) → P (kd.enum name) → P (kd.struct name)
+named_kinds : (P : Kind → Type 0) (heads : List Head) (name : List ℕ) → P (kd.interface name) → P (kd.exception name) → P (kd.enum name)
+    → P (kd.struct name)
     → P (named_in heads name)
 unfolding named_in
 named_kinds P heads name i x e s =
@@ -43,9 +44,11 @@ named_kinds P heads name i x e s =
     by_class (Some class.Exception) = x
     by_class (Some class.Enum) = e
     by_class _ = s
+
     by_head : (o : Option Head) → P (kind_of_head name o)
     by_head None = s
     by_head (Some h) = by_class h.class
+
     by_tests : (a b : Bool) (o : Option Head) → P (if a then kd.interface name else (if b then kd.exception name else kind_of_head name o))
     by_tests true b o = i
     by_tests false true o = x
@@ -111,7 +114,8 @@ says_resolved bytes es reg text writable rising all order has =
 -- ---- entities that were read
 
 -- each name in a type of them stands as a struct's
-pub read_unresolved : (lines : List (List ℕ)) (es : List Entity) → run true same unread lines ≡ Ok (between es) → map (entity_changed unresolved) es ≡ es
+pub read_unresolved : (lines : List (List ℕ)) (es : List Entity) → run true same unread lines ≡ Ok (between es)
+    → map (entity_changed unresolved) es ≡ es
 read_unresolved lines es read =
     let back = begins true (between es) lines read in
     let again = runs true es back.1.writable (λ ordered. back.1.rising refl) in

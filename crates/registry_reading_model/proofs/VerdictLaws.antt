@@ -1,7 +1,7 @@
 -- The line at which the reading of a text stops is the first wrong one, and a text that is read is that of entities whose names rise.
-use Rattle.std.proofs.Common.{◌≡◌, ℕ, suc, Bool, true, false, not, ◌&&◌, ◌==◌, List, [], ◌∷◌, ◌++◌, length, map, Result, Ok, Err, refl, sym, ap, subst, ◌∙◌, codes}
-use Rattle.std.proofs.lemmas.Bool.{and_parts, both_ways}
-use Rattle.std.proofs.lemmas.List.{append-nil, append_assoc, append_cancel_left}
+use Rattle.std.proofs.Common.{◌≡◌, ℕ, suc, true, false, not, ◌==◌, List, [], ◌∷◌, ◌++◌, length, map, Ok, Err, refl, sym, ap, subst, ◌∙◌}
+use Rattle.std.proofs.lemmas.Bool.{and_parts}
+use Rattle.std.proofs.lemmas.List.{append-nil, append_assoc}
 use Rattle.std.proofs.lemmas.List.Concat.{flat_map-append}
 use Rattle.std.proofs.lemmas.List.Folds.{list_all-append}
 use Rattle.std.specs.List.{flat_map, list_all}
@@ -9,12 +9,12 @@ use Rattle.uno_model.specs.Entities.{Entity}
 use Rattle.uno_model.specs.Registry.{IsRising}
 use Rattle.registry_text_model.specs.Lines.{text_of}
 use Rattle.registry_text_model.specs.Reading.{are_writable, text_lines, Begin, BeginInOrder, is_one_line, IsBadLine, IsOutOfOrder}
-use Rattle.registry_reading_model.proofs.BeginLaws.{lines_of, entities_of, left_of, Good, text_of_entities, begins}
+use Rattle.registry_reading_model.proofs.BeginLaws.{entities_of, left_of, text_of_entities, begins}
 use Rattle.registry_reading_model.proofs.RunLaws.{first_part, run_more, run_unordered, bad_unordered, fits_unordered}
 use Rattle.registry_reading_model.proofs.RunsLaws.{runs}
 use Rattle.registry_reading_model.specs.Changes.{same, entity_changed}
 use Rattle.registry_reading_model.specs.Kept.{unresolved}
-use Rattle.registry_reading_model.specs.States.{State, unread, between, within, Wrong, bad, out_of_order, step, run}
+use Rattle.registry_reading_model.specs.States.{State, unread, between, bad, out_of_order, step, run}
 
 -- ---- texts in lines
 
@@ -86,7 +86,8 @@ front_read_in_order lines begun =
     (subst (λ ls. run true same unread ls ≡ Ok (between (map (entity_changed unresolved) begun.entities))) begun.split read)
 
 -- a line that may not stand there begins no text with those before it
-begins_none : (before : List (List ℕ)) (here : List ℕ) (st : State) → run true same unread before ≡ Ok st → step true same st here ≡ Err bad → Begin (before ++ here ∷ []) → ⊥
+begins_none : (before : List (List ℕ)) (here : List ℕ) (st : State) → run true same unread before ≡ Ok st → step true same st here ≡ Err bad
+    → Begin (before ++ here ∷ []) → ⊥
 begins_none before here st read wrong begun =
     let front = front_read (before ++ here ∷ []) begun in
     let one : run false same unread (before ++ here ∷ []) ≡ step false same st here = run_more false same unread st before here (run_unordered same unread st before read) in
@@ -95,7 +96,8 @@ begins_none before here st read wrong begun =
 
 -- ---- the first wrong line
 
-pub bad_here : (bytes : List ℕ) (before : List (List ℕ)) (here behind : List ℕ) (st : State) → bytes ≡ text_of (before ++ here ∷ []) ++ behind → is_one_line here ≡ true
+pub bad_here : (bytes : List ℕ) (before : List (List ℕ)) (here behind : List ℕ) (st : State) → bytes ≡ text_of (before ++ here ∷ []) ++ behind
+    → is_one_line here ≡ true
     → run true same unread before ≡ Ok st → step true same st here ≡ Err bad → IsBadLine bytes (suc (length before))
 bad_here bytes before here behind st split one read wrong =
     record {
@@ -105,11 +107,12 @@ bad_here bytes before here behind st split one read wrong =
       place = refl;
       begun = begun_in_order before st read;
       wrong = λ line rest same_rest one_line begun.
-        begins_none before here st read wrong (subst (λ l. Begin (before ++ l ∷ [])) (sym (first_line here line behind rest one one_line same_rest)) begun);
+          begins_none before here st read wrong (subst (λ l. Begin (before ++ l ∷ [])) (sym (first_line here line behind rest one one_line same_rest)) begun);
       unfinished = λ none es writable all. nothing_left here behind (sym none);
     }
 
-pub cut_line : (bytes : List ℕ) (before : List (List ℕ)) (rest : List ℕ) (st : State) → bytes ≡ text_of before ++ rest → (rest ≡ [] → ⊥) → is_one_line rest ≡ true
+pub cut_line : (bytes : List ℕ) (before : List (List ℕ)) (rest : List ℕ) (st : State) → bytes ≡ text_of before ++ rest → (rest ≡ [] → ⊥)
+    → is_one_line rest ≡ true
     → run true same unread before ≡ Ok st → IsBadLine bytes (suc (length before))
 cut_line bytes before rest st split some one read =
     record {
@@ -142,7 +145,8 @@ unfinished bytes before st split read owed =
         let both = sym front ∙ ap (run false same unread) all ∙ ended in
         owed (map (entity_changed unresolved) es) cc
 
-pub out_of_order_here : (bytes : List ℕ) (before : List (List ℕ)) (here behind : List ℕ) (st : State) → bytes ≡ text_of (before ++ here ∷ []) ++ behind → is_one_line here ≡ true
+pub out_of_order_here : (bytes : List ℕ) (before : List (List ℕ)) (here behind : List ℕ) (st : State)
+    → bytes ≡ text_of (before ++ here ∷ []) ++ behind → is_one_line here ≡ true
     → run true same unread before ≡ Ok st → step true same st here ≡ Err out_of_order → IsOutOfOrder bytes (suc (length before))
 out_of_order_here bytes before here behind st split one read wrong =
     let next = fits_unordered same st here wrong in
