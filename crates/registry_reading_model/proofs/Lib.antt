@@ -1,4 +1,3 @@
-pub mod AndThenLaws
 pub mod BeginLaws
 pub mod ChangeLaws
 pub mod ChangedParts
