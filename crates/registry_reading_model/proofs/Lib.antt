@@ -5,3 +5,4 @@ pub mod LineForth
 pub mod NumberLaws
 pub mod TextLaws
 pub mod WordLaws
+pub mod WritableLaws
