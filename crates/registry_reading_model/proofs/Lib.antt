@@ -1,8 +1,12 @@
 pub mod FlagLaws
+pub mod GrowthLaws
+pub mod InterfaceBack
 pub mod KindLaws
 pub mod LineBack
 pub mod LineForth
 pub mod NumberLaws
+pub mod PartBack
+pub mod PrintedLaws
 pub mod TextLaws
 pub mod WordLaws
 pub mod WritableLaws
