@@ -7,6 +7,7 @@ pub mod LineForth
 pub mod NumberLaws
 pub mod PartBack
 pub mod PrintedLaws
+pub mod ServiceBack
 pub mod TextLaws
 pub mod WordLaws
 pub mod WritableLaws
