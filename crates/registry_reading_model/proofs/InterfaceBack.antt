@@ -143,14 +143,14 @@ oneway_made text m read =
 -- ---- lines under a member
 
 -- one more line of the first of two runs, behind a first line
-first_run : (first : List ℕ) (xs ys : List (List ℕ)) (x : List ℕ) → ys ≡ [] → first ∷ ((xs ++ x ∷ []) ++ ys) ≡ (first ∷ (xs ++ ys)) ++ x ∷ []
+pub first_run : (first : List ℕ) (xs ys : List (List ℕ)) (x : List ℕ) → ys ≡ [] → first ∷ ((xs ++ x ∷ []) ++ ys) ≡ (first ∷ (xs ++ ys)) ++ x ∷ []
 first_run first xs ys x none = ap (λ t. first ∷ t) (between_runs xs ys x none)
 
 second_run : (first : List ℕ) (xs ys : List (List ℕ)) (x : List ℕ) → first ∷ (xs ++ (ys ++ x ∷ [])) ≡ (first ∷ (xs ++ ys)) ++ x ∷ []
 second_run first xs ys x = ap (λ t. first ∷ t) (sym (append_assoc xs ys (x ∷ [])))
 
 -- one more name
-names_grow : (word text : List ℕ) (xs ys : List (List ℕ)) → pushed xs (entity_name_of text) ≡ Some ys
+pub names_grow : (word text : List ℕ) (xs ys : List (List ℕ)) → pushed xs (entity_name_of text) ≡ Some ys
     → (name_lines word ys ≡ name_lines word xs ++ spaced word text ∷ []) × (list_all is_entity_name xs ≡ true → list_all is_entity_name ys ≡ true) × (is_text text ≡ true)
 names_grow word text xs ys read =
     let x = pushed_is xs ys (entity_name_of text) read in
