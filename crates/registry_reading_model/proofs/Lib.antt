@@ -4,8 +4,10 @@ pub mod ChangedParts
 pub mod ChangedUses
 pub mod ChangedVerdictLaws
 pub mod FlagLaws
+pub mod GrowthLaws
 pub mod HeadLaws
 pub mod HeadLineLaws
+pub mod InterfaceBack
 pub mod KindLaws
 pub mod LineBack
 pub mod LineForth
@@ -13,12 +15,16 @@ pub mod ListMaps
 pub mod NamedLaws
 pub mod NumberLaws
 pub mod OptionMaps
+pub mod PartBack
+pub mod PrintedLaws
 pub mod ResolvedLaws
 pub mod RisingLaws
 pub mod RunLaws
 pub mod RunsLaws
 pub mod SaysLaws
+pub mod ServiceBack
 pub mod TextLaws
 pub mod TextLinesLaws
 pub mod VerdictLaws
 pub mod WordLaws
+pub mod WritableLaws
