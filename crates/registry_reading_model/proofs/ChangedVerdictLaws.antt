@@ -1,5 +1,5 @@
 -- The same of a reading that changes types and numbers on the way in.
-use Rattle.std.proofs.Common.{◌≡◌, ℕ, suc, Bool, true, List, [], ◌∷◌, ◌++◌, length, map, Result, Ok, Err, refl, sym, ap, ◌∙◌}
+use Rattle.std.proofs.Common.{◌≡◌, ◌≢◌, ℕ, suc, Bool, true, List, [], ◌∷◌, ◌++◌, length, map, Result, Ok, Err, refl, sym, ap, ◌∙◌}
 use Rattle.uno_model.specs.Entities.{Entity}
 use Rattle.uno_model.specs.Registry.{IsRising}
 use Rattle.registry_text_model.specs.Lines.{text_of}
@@ -43,7 +43,7 @@ bad_here_changed c bytes before here behind st split one read wrong =
     bad_here bytes before here behind was.0 split one was.1 (wrong_before true c st was.0 here bad was.2 wrong)
 
 pub cut_line_changed : (c : Change) (bytes : List ℕ) (before : List (List ℕ)) (rest : List ℕ) (st : State) → bytes ≡ text_of before ++ rest
-    → (rest ≡ [] → ⊥)
+    → rest ≢ []
     → is_one_line rest ≡ true → run true c unread before ≡ Ok st → IsBadLine bytes (suc (length before))
 cut_line_changed c bytes before rest st split some one read =
     let was = run_before true c before st read in
@@ -51,7 +51,7 @@ cut_line_changed c bytes before rest st split some one read =
 
 pub unfinished_changed : (c : Change) (bytes : List ℕ) (before : List (List ℕ)) (st : State) → bytes ≡ text_of before
     → run true c unread before ≡ Ok st
-    → ((es : List Entity) → st ≡ between es → ⊥) → IsBadLine bytes (suc (length before))
+    → ((es : List Entity) → st ≢ between es) → IsBadLine bytes (suc (length before))
 unfinished_changed c bytes before st split read owed =
     let was = run_before true c before st read in
     unfinished bytes before was.0 split was.1 (λ es is. owed (map (entity_changed c) es) (was.2 ∙ ap (state_changed c) is))

@@ -1,5 +1,5 @@
 -- The line at which the reading of a text stops is the first wrong one, and a text that is read is that of entities whose names rise.
-use Rattle.std.proofs.Common.{◌≡◌, ℕ, suc, true, false, not, ◌==◌, List, [], ◌∷◌, ◌++◌, length, map, Ok, Err, refl, sym, ap, subst, ◌∙◌}
+use Rattle.std.proofs.Common.{◌≡◌, ◌≢◌, ℕ, suc, true, false, not, ◌==◌, List, [], ◌∷◌, ◌++◌, length, map, Ok, Err, refl, sym, ap, subst, ◌∙◌}
 use Rattle.std.proofs.lemmas.Bool.{and_parts}
 use Rattle.std.proofs.lemmas.List.{append-nil, append_assoc}
 use Rattle.std.proofs.lemmas.List.Concat.{flat_map-append}
@@ -47,7 +47,7 @@ first_line (c ∷ x) (d ∷ y) u v one two e =
     let rest = first_line x y u v (and_parts (not (c == 10)) (is_one_line x) one).1 (and_parts (not (d == 10)) (is_one_line y) two).1 tails in
     cc
 
-one_line_only : (x y v : List ℕ) → is_one_line x ≡ true → x ≡ y ++ 10 ∷ v → ⊥
+one_line_only : (x y v : List ℕ) → is_one_line x ≡ true → x ≢ y ++ 10 ∷ v
 unfolding is_one_line
 one_line_only x y v one e =
     let all : list_all (λ c. not (c == 10)) (y ++ 10 ∷ v) ≡ true = subst (λ z. is_one_line z ≡ true) e one in
@@ -55,7 +55,7 @@ one_line_only x y v one e =
     let worse : false ≡ true = parts.1 in
     cc
 
-nothing_left : (y v : List ℕ) → [] ≡ y ++ 10 ∷ v → ⊥
+nothing_left : (y v : List ℕ) → [] ≢ y ++ 10 ∷ v
 nothing_left [] v e = cc
 nothing_left (c ∷ y) v e = cc
 
@@ -87,7 +87,7 @@ front_read_in_order lines begun =
 
 -- a line that may not stand there begins no text with those before it
 begins_none : (before : List (List ℕ)) (here : List ℕ) (st : State) → run true same unread before ≡ Ok st → step true same st here ≡ Err bad
-    → Begin (before ++ here ∷ []) → ⊥
+    → ¬ Begin (before ++ here ∷ [])
 begins_none before here st read wrong begun =
     let front = front_read (before ++ here ∷ []) begun in
     let one : run false same unread (before ++ here ∷ []) ≡ step false same st here = run_more false same unread st before here (run_unordered same unread st before read) in
@@ -111,7 +111,7 @@ bad_here bytes before here behind st split one read wrong =
       unfinished = λ none es writable all. nothing_left here behind (sym none);
     }
 
-pub cut_line : (bytes : List ℕ) (before : List (List ℕ)) (rest : List ℕ) (st : State) → bytes ≡ text_of before ++ rest → (rest ≡ [] → ⊥)
+pub cut_line : (bytes : List ℕ) (before : List (List ℕ)) (rest : List ℕ) (st : State) → bytes ≡ text_of before ++ rest → rest ≢ []
     → is_one_line rest ≡ true
     → run true same unread before ≡ Ok st → IsBadLine bytes (suc (length before))
 cut_line bytes before rest st split some one read =
@@ -126,7 +126,7 @@ cut_line bytes before rest st split some one read =
     }
 
 pub unfinished : (bytes : List ℕ) (before : List (List ℕ)) (st : State) → bytes ≡ text_of before → run true same unread before ≡ Ok st
-    → ((es : List Entity) → st ≡ between es → ⊥) → IsBadLine bytes (suc (length before))
+    → ((es : List Entity) → st ≢ between es) → IsBadLine bytes (suc (length before))
 unfinished bytes before st split read owed =
     record {
       before = before;
@@ -138,7 +138,7 @@ unfinished bytes before st split read owed =
       unfinished = λ none es writable all. whole es writable all;
     }
   where
-    whole : (es : List Entity) → are_writable es ≡ true → before ≡ text_lines es → ⊥
+    whole : (es : List Entity) → are_writable es ≡ true → before ≢ text_lines es
     whole es writable all =
         let ended = runs false es writable (λ ordered. let worse : ⊥ = cc in absurd worse) in
         let front : run false same unread before ≡ Ok st = run_unordered same unread st before read in
@@ -168,7 +168,7 @@ out_of_order_here bytes before here behind st split one read wrong =
       falls = λ begun. falls begun;
     }
   where
-    falls : BeginInOrder (before ++ here ∷ []) → ⊥
+    falls : ¬ BeginInOrder (before ++ here ∷ [])
     falls begun =
         let front = front_read_in_order (before ++ here ∷ []) begun in
         let both : Err out_of_order ≡ Ok front.0 = sym wrong ∙ sym (run_more true same unread st before here read) ∙ front.1 in
