@@ -19,10 +19,10 @@ pub mod PartBack
 pub mod PrintedLaws
 pub mod ResolvedLaws
 pub mod RisingLaws
-pub mod RunLaws
 pub mod RunsLaws
 pub mod SaysLaws
 pub mod ServiceBack
+pub mod StateRunLaws
 pub mod TextLaws
 pub mod TextLinesLaws
 pub mod VerdictLaws

@@ -13,7 +13,7 @@ use Rattle.registry_text_model.specs.Reading.{is_writable, are_writable, text_li
 use Rattle.registry_reading_model.proofs.ChangeLaws.{above_changed}
 use Rattle.registry_reading_model.proofs.LineForth.{emptied, run_body, header_forth, body_forth, no_end}
 use Rattle.registry_reading_model.proofs.RisingLaws.{above_of_rising}
-use Rattle.registry_reading_model.proofs.RunLaws.{run_append}
+use Rattle.registry_reading_model.proofs.StateRunLaws.{run_append}
 use Rattle.registry_reading_model.specs.Bodies.{body_line}
 use Rattle.registry_reading_model.specs.Changes.{Change, same, body_changed, entity_changed}
 use Rattle.registry_reading_model.specs.Headers.{header_of}

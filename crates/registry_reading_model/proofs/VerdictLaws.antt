@@ -10,7 +10,7 @@ use Rattle.uno_model.specs.Registry.{IsRising}
 use Rattle.registry_text_model.specs.Lines.{text_of}
 use Rattle.registry_text_model.specs.Reading.{are_writable, text_lines, Begin, BeginInOrder, is_one_line, IsBadLine, IsOutOfOrder}
 use Rattle.registry_reading_model.proofs.BeginLaws.{entities_of, left_of, text_of_entities, begins}
-use Rattle.registry_reading_model.proofs.RunLaws.{first_part, run_more, run_unordered, bad_unordered, fits_unordered}
+use Rattle.registry_reading_model.proofs.StateRunLaws.{first_part, run_more, run_unordered, bad_unordered, fits_unordered}
 use Rattle.registry_reading_model.proofs.RunsLaws.{runs}
 use Rattle.registry_reading_model.specs.Changes.{same, entity_changed}
 use Rattle.registry_reading_model.specs.Kept.{unresolved}
