@@ -1,5 +1,6 @@
 pub mod FlagLaws
 pub mod GrowthLaws
+pub mod HeaderBack
 pub mod InterfaceBack
 pub mod KindLaws
 pub mod LineBack

@@ -16,6 +16,7 @@ use Rattle.registry_reading_model.specs.Headers.{header_of}
 use Rattle.registry_reading_model.specs.States.{with_body}
 use Rattle.registry_reading_model.specs.Words.{on_some, where_, word_of, behind}
 use Rattle.registry_reading_model.proofs.GrowthLaws.{Made, Grown, grown_line}
+use Rattle.registry_reading_model.proofs.HeaderBack.{header_is}
 use Rattle.registry_reading_model.proofs.InterfaceBack.{Adds, interface_back}
 use Rattle.registry_reading_model.proofs.PartBack.{member_made, item_made, constant_made, part_made}
 use Rattle.registry_reading_model.proofs.ServiceBack.{constructors_back}
@@ -118,4 +119,6 @@ line_back b b' line read =
 
 pub header_back : (line : List ℕ) (e : Entity) → header_of same line ≡ Some e
     → (header_line e ≡ line) × (body_lines e.body ≡ []) × (is_writable e ≡ true) × (is_built_in_name e.name ≡ false)
-header_back line e read = ?
+header_back line e read =
+    let is = header_is line e read in
+    (is.printed, is.empty, writable_of_good e is.named is.good, is.free)
