@@ -1,6 +1,7 @@
 pub mod FlagLaws
 pub mod GrowthLaws
 pub mod HeaderBack
+pub mod HeaderForth
 pub mod InterfaceBack
 pub mod KindLaws
 pub mod LineBack
@@ -8,6 +9,7 @@ pub mod LineForth
 pub mod NumberLaws
 pub mod PartBack
 pub mod PrintedLaws
+pub mod RunLaws
 pub mod ServiceBack
 pub mod TextLaws
 pub mod WordLaws
