@@ -3,14 +3,17 @@ pub mod GrowthLaws
 pub mod HeaderBack
 pub mod HeaderForth
 pub mod InterfaceBack
+pub mod InterfaceForth
 pub mod KindLaws
 pub mod LineBack
 pub mod LineForth
 pub mod NumberLaws
 pub mod PartBack
+pub mod PartForth
 pub mod PrintedLaws
 pub mod RunLaws
 pub mod ServiceBack
+pub mod ServiceForth
 pub mod TextLaws
 pub mod WordLaws
 pub mod WritableLaws
