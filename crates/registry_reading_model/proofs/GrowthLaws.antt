@@ -1,5 +1,5 @@
 -- Lists to which a line adds one more, or whose last it changes.
-use Rattle.std.proofs.Common.{◌≡◌, ℕ, Bool, true, false, not, ◌&&◌, List, [], ◌∷◌, ◌++◌, map, Option, None, Some, refl, sym, ap, subst, ◌∙◌, append_assoc, append-nil}
+use Rattle.std.proofs.Common.{◌≡◌, ℕ, Bool, true, not, List, [], ◌∷◌, ◌++◌, map, Option, Some, refl, sym, ap, subst, ◌∙◌, append_assoc, append-nil}
 use Rattle.std.specs.List.{list_all, flat_map}
 use Rattle.std.proofs.lemmas.Bool.{and_parts, and_from}
 use Rattle.std.proofs.lemmas.List.{map-append}
@@ -8,7 +8,6 @@ use Rattle.uno_model.proofs.AllLaws.{all_append, of_append}
 use Rattle.uno_model.proofs.Options.{same_some, none_some}
 use Rattle.uno_model.specs.Sound.{is_some_list}
 use Rattle.registry_reading_model.specs.Bodies.{pushed, all_but_last, last_of, last_changed}
-use Rattle.registry_reading_model.specs.Words.{on_some}
 use Rattle.registry_reading_model.proofs.PrintedLaws.{is_text}
 use Rattle.registry_reading_model.proofs.WordLaws.{given}
 

@@ -1,5 +1,5 @@
 -- A header that is read is what is printed of the entity that it opens.
-use Rattle.std.proofs.Common.{◌≡◌, ℕ, Bool, true, false, not, ◌&&◌, List, [], ◌∷◌, ◌++◌, Option, None, Some, if◌then◌else◌, refl, sym, ap, subst, ◌∙◌, codes}
+use Rattle.std.proofs.Common.{◌≡◌, ℕ, Bool, true, false, not, ◌&&◌, List, [], Option, None, Some, refl, sym, ap, subst, ◌∙◌, codes}
 use Rattle.std.specs.Str.{bytes_eq}
 use Rattle.std.proofs.lemmas.Bool.{and_parts, and_from, not-true}
 use Rattle.uno_model.proofs.Options.{same_some, none_some}
@@ -12,7 +12,7 @@ use Rattle.registry_reading_model.specs.Changes.{same}
 use Rattle.registry_reading_model.specs.Headers.{singleton_of, opened_alone, service_opened, opened_with, is_free_name, opened, words_opened, perhaps_published, header_of}
 use Rattle.registry_reading_model.specs.Words.{on_some, where_, word_of, behind, entity_name_of}
 use Rattle.registry_reading_model.proofs.PartBack.{changed_kind_back, behind_word_back}
-use Rattle.registry_reading_model.proofs.PrintedLaws.{is_text, entity_name_text, kind_text, spaced_text}
+use Rattle.registry_reading_model.proofs.PrintedLaws.{is_text, entity_name_text, spaced_text}
 use Rattle.registry_reading_model.proofs.WordLaws.{given, allowed, chosen, same_word, word_back, entity_name_back}
 use Rattle.registry_reading_model.proofs.WritableLaws.{is_good_body}
 

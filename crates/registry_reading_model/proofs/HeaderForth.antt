@@ -1,17 +1,16 @@
 -- The header that is printed of an entity is read as the entity that has no more than that.
-use Rattle.std.proofs.Common.{◌≡◌, ℕ, Bool, true, false, not, ◌&&◌, List, [], ◌∷◌, ◌++◌, Option, None, Some, if◌then◌else◌, refl, sym, ap, subst, ◌∙◌, codes}
+use Rattle.std.proofs.Common.{◌≡◌, ℕ, Bool, true, false, ◌&&◌, List, None, Some, if◌then◌else◌, refl, codes}
 use Rattle.std.specs.List.{list_all}
-use Rattle.std.proofs.lemmas.Bool.{and_parts, and_from, not_from_false}
+use Rattle.std.proofs.lemmas.Bool.{and_parts}
 use Rattle.uno_model.specs.Entities.{Body, interface, struct, exception, enum, constants, typedef, new_service, old_service, new_singleton, old_singleton, Entity}
 use Rattle.uno_model.specs.Kinds.{name_of}
 use Rattle.uno_model.specs.Names.{is_entity_name}
 use Rattle.registry_text_model.specs.Lines.{spaced, header_line, header_words, is_built_in_name}
-use Rattle.registry_text_model.specs.Reading.{is_writable}
 use Rattle.registry_reading_model.specs.Changes.{same, body_changed, entity_changed}
 use Rattle.registry_reading_model.specs.Headers.{opened_alone, opened_with, words_opened, header_of}
 use Rattle.registry_reading_model.specs.Kept.{unresolved}
 use Rattle.registry_reading_model.specs.States.{with_body}
-use Rattle.registry_reading_model.specs.Words.{word_of, split_at, behind}
+use Rattle.registry_reading_model.specs.Words.{split_at, behind}
 use Rattle.registry_reading_model.proofs.KindLaws.{kind_forth}
 use Rattle.registry_reading_model.proofs.RunLaws.{emptied, behind_spaced}
 use Rattle.registry_reading_model.proofs.WordLaws.{split_none, word_forth, entity_name_no_blank}

@@ -1,11 +1,11 @@
 -- A line of an interface that is read is the next of what is printed of it.
-use Rattle.std.proofs.Common.{◌≡◌, ℕ, Bool, true, false, not, ◌&&◌, ◌||◌, List, [], ◌∷◌, ◌++◌, map, Option, None, Some, refl, sym, ap, subst, ◌∙◌, append_assoc, append-nil, codes}
+use Rattle.std.proofs.Common.{◌≡◌, ℕ, Bool, true, false, not, ◌&&◌, ◌||◌, List, [], ◌∷◌, ◌++◌, map, Option, Some, refl, sym, ap, subst, ◌∙◌, append_assoc, codes}
 use Rattle.std.specs.List.{list_all, flat_map}
 use Rattle.std.specs.Str.{bytes_eq}
 use Rattle.std.proofs.lemmas.Bool.{and_parts, and_from}
 use Rattle.std.proofs.lemmas.List.{map-append}
 use Rattle.uno_model.proofs.Options.{same_some, none_some}
-use Rattle.uno_model.specs.Entities.{Base, Attribute, Method, Member, Param, attribute, method, Body, interface}
+use Rattle.uno_model.specs.Entities.{Base, Attribute, Method, Member, attribute, method, Body, interface}
 use Rattle.uno_model.specs.Kinds.{name_of}
 use Rattle.uno_model.specs.Kinds as kd
 use Rattle.uno_model.specs.Names.{is_identifier, is_entity_name}
@@ -15,7 +15,7 @@ use Rattle.registry_text_model.specs.OneWayMethods.{is_void}
 use Rattle.registry_text_model.specs.Reading.{is_spelled}
 use Rattle.registry_reading_model.specs.Bodies.{changed_kind, pushed, last_changed, attribute_of, method_of, oneway_of, param_of, get_raises_added, set_raises_added, param_added, raises_added, base_added, with_members, interface_line}
 use Rattle.registry_reading_model.specs.Changes.{same}
-use Rattle.registry_reading_model.specs.Words.{on_some, where_, word_of, identifier_of, entity_name_of, identifier_alone, access_of}
+use Rattle.registry_reading_model.specs.Words.{on_some, word_of, identifier_of, entity_name_of, identifier_alone, access_of}
 use Rattle.registry_reading_model.proofs.GrowthLaws.{Made, Grown, no_list, pushed_passes, pushed_is, grown_by_push, grown_by_change, between_runs}
 use Rattle.registry_reading_model.proofs.PartBack.{changed_kind_back, param_back}
 use Rattle.registry_reading_model.proofs.PrintedLaws.{is_text, identifier_text, entity_name_text, spaced_text, kind_text, access_text}

@@ -1,5 +1,5 @@
 -- The lines that are printed of an interface are read.
-use Rattle.std.proofs.Common.{◌≡◌, ℕ, Bool, true, false, not, ◌&&◌, ◌||◌, List, [], ◌∷◌, ◌++◌, map, Option, None, Some, if◌then◌else◌, refl, sym, ap, subst, ◌∙◌, codes}
+use Rattle.std.proofs.Common.{◌≡◌, ℕ, Bool, true, false, not, ◌&&◌, ◌||◌, List, [], ◌∷◌, ◌++◌, map, Option, Some, if◌then◌else◌, refl, ◌∙◌, codes}
 use Rattle.std.specs.List.{list_all, flat_map}
 use Rattle.std.proofs.lemmas.Bool.{and_parts}
 use Rattle.uno_model.specs.Entities.{Base, Attribute, Method, Member, Param, attribute, method, Body, interface}
@@ -9,12 +9,12 @@ use Rattle.uno_model.specs.Names.{is_identifier, is_entity_name}
 use Rattle.registry_text_model.specs.Lines.{spaced, base_word, base_line, access_word, attribute_line, method_line, param_line, way_word, name_lines, member_lines}
 use Rattle.registry_text_model.specs.OneWayMethods.{is_void}
 use Rattle.registry_text_model.specs.Reading.{is_spelled}
-use Rattle.registry_reading_model.specs.Bodies.{last_changed, with_members, attribute_of, method_of, oneway_of, param_of, get_raises_added, set_raises_added, param_added, raises_added, interface_line, body_line}
-use Rattle.registry_reading_model.specs.Changes.{same, param_changed, attribute_changed, method_changed, member_changed}
+use Rattle.registry_reading_model.specs.Bodies.{last_changed, with_members, attribute_of, method_of, oneway_of, get_raises_added, set_raises_added, param_added, raises_added, interface_line, body_line}
+use Rattle.registry_reading_model.specs.Changes.{same, param_changed, member_changed}
 use Rattle.registry_reading_model.specs.Kept.{resolved, unresolved}
 use Rattle.registry_reading_model.proofs.KindLaws.{kind_forth}
 use Rattle.registry_reading_model.proofs.PartForth.{param_forth}
-use Rattle.registry_reading_model.proofs.RunLaws.{run_body, run_one, run_on, run_all, run_lines, run_flat, run_unchanged, last_forth, behind_word_forth}
+use Rattle.registry_reading_model.proofs.RunLaws.{run_body, run_one, run_on, run_lines, run_flat, run_unchanged, last_forth, behind_word_forth}
 use Rattle.registry_reading_model.proofs.WordLaws.{lacks, word_forth, identifier_forth, access_forth}
 use Rattle.registry_reading_model.proofs.WritableLaws.{is_good_param, is_good_member}
 

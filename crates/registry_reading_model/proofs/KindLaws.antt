@@ -1,8 +1,7 @@
 -- Types, both ways: each name in a type is read as a struct's.
-use Rattle.std.proofs.Common.{◌≡◌, ℕ, zero, suc, Bool, true, false, not, ◌&&◌, ◌==◌, List, [], ◌∷◌, ◌++◌, Option, None, Some, if◌then◌else◌, refl, sym, ap, subst, ◌∙◌, codes, arith}
-use Rattle.std.specs.List.{list_all}
+use Rattle.std.proofs.Common.{◌≡◌, ℕ, suc, Bool, true, false, ◌&&◌, ◌==◌, List, [], ◌∷◌, Option, None, Some, refl, sym, ap, subst, ◌∙◌, codes}
 use Rattle.std.specs.Str.{bytes_eq}
-use Rattle.std.proofs.lemmas.Bool.{and_parts, and_from, and_left, both_ways, eqb-true, false_from_ne_true}
+use Rattle.std.proofs.lemmas.Bool.{and_parts, both_ways, eqb-true, false_from_ne_true}
 use Rattle.uno_model.proofs.NameLaws.{no_bracket, no_simple}
 use Rattle.uno_model.proofs.Options.{same_some, none_some}
 use Rattle.uno_model.specs.Kinds.{Kind, name_of}
@@ -12,7 +11,7 @@ use Rattle.uno_model.specs.Names.{is_entity_name}
 use Rattle.registry_text_model.specs.Reading.{is_spelled}
 use Rattle.registry_reading_model.specs.Kept.{resolved}
 use Rattle.registry_reading_model.specs.Kinds.{brackets, behind_brackets, sequences, or_named, word_kind_of, kind_of_text}
-use Rattle.registry_reading_model.specs.Words.{on_some, where_}
+use Rattle.registry_reading_model.specs.Words.{on_some}
 use Rattle.registry_reading_model.proofs.WordLaws.{same_word, given, allowed, chosen}
 
 -- ---- what is written is read

@@ -1,27 +1,26 @@
 -- A line that is read is the next line of what is printed.
-use Rattle.std.proofs.Common.{◌≡◌, ℕ, Bool, true, false, not, ◌&&◌, List, [], ◌∷◌, ◌++◌, map, Option, None, Some, refl, sym, ap, subst, ◌∙◌, codes}
-use Rattle.std.specs.List.{list_all, flat_map}
-use Rattle.std.specs.Str.{bytes_eq}
-use Rattle.std.proofs.lemmas.Bool.{and_parts, and_from, not-true}
+use Rattle.std.proofs.Common.{◌≡◌, ℕ, true, false, List, [], ◌∷◌, ◌++◌, map, Option, Some, refl, sym, subst, codes}
+use Rattle.std.specs.List.{list_all}
+use Rattle.std.proofs.lemmas.Bool.{and_parts, and_from}
 use Rattle.uno_model.proofs.Options.{same_some, none_some}
-use Rattle.uno_model.specs.Entities.{Field, Item, Constant, Constructor, Part, Entity}
+use Rattle.uno_model.specs.Entities.{Field, Part, Entity}
 use Rattle.uno_model.specs.Entities.{Body, interface, struct, exception, enum, constants, typedef, new_service, old_service, new_singleton, old_singleton}
 use Rattle.uno_model.specs.Names.{is_identifier, is_entity_name}
 use Rattle.uno_model.specs.Registry.{at_most_one}
-use Rattle.registry_text_model.specs.Lines.{spaced, header_line, header_words, body_lines, is_built_in_name, field_line, item_line, constant_line, part_line, constructor_lines}
+use Rattle.registry_text_model.specs.Lines.{spaced, header_line, header_words, body_lines, is_built_in_name, field_line, item_line, constant_line, part_line}
 use Rattle.registry_text_model.specs.Reading.{is_writable}
 use Rattle.registry_reading_model.specs.Bodies.{pushed, field_of, item_of, constant_of, part_of, interface_line, constructor_line, fields_line, behind_word, body_line}
 use Rattle.registry_reading_model.specs.Changes.{same}
 use Rattle.registry_reading_model.specs.Headers.{header_of}
 use Rattle.registry_reading_model.specs.States.{with_body}
-use Rattle.registry_reading_model.specs.Words.{on_some, where_, word_of, behind}
+use Rattle.registry_reading_model.specs.Words.{on_some, word_of, behind}
 use Rattle.registry_reading_model.proofs.GrowthLaws.{Made, Grown, grown_line}
 use Rattle.registry_reading_model.proofs.HeaderBack.{header_is}
 use Rattle.registry_reading_model.proofs.InterfaceBack.{Adds, interface_back}
 use Rattle.registry_reading_model.proofs.PartBack.{member_made, item_made, constant_made, part_made}
 use Rattle.registry_reading_model.proofs.ServiceBack.{constructors_back}
-use Rattle.registry_reading_model.proofs.WordLaws.{given, allowed, word_back}
-use Rattle.registry_reading_model.proofs.WritableLaws.{is_good_field, is_good_constant, is_good_constructor, is_good_part, is_good_body, good_of_writable, writable_of_good}
+use Rattle.registry_reading_model.proofs.WordLaws.{given, word_back}
+use Rattle.registry_reading_model.proofs.WritableLaws.{is_good_field, is_good_constant, is_good_constructor, is_good_part, good_of_writable, writable_of_good}
 
 fields_back : (fs gs : List Field) (line : List ℕ) → fields_line same fs line ≡ Some gs → Grown (map field_line) (list_all is_good_field) fs gs line
 unfolding fields_line

@@ -1,15 +1,15 @@
 -- Whole numbers in decimal digits, both ways.
-use Rattle.std.proofs.Common.{◌≡◌, ℕ, zero, suc, ◌+◌, ◌-◌, ◌*◌, ◌<◌, ◌≤◌, ◌/◌, ◌%◌, ℤ, pos, negsuc, Bool, true, false, not, ◌&&◌, ◌||◌, ◌==◌, nat_le, List, [], ◌∷◌, ◌++◌, map, get_or, length, Option, None, Some, refl, sym, ap, subst, ◌∙◌, append_assoc, append-nil, codes, arith}
+use Rattle.std.proofs.Common.{◌≡◌, ℕ, zero, suc, ◌+◌, ◌-◌, ◌*◌, ◌<◌, ◌≤◌, ◌/◌, ◌%◌, ℤ, pos, negsuc, Bool, true, false, not, ◌&&◌, ◌==◌, nat_le, List, [], ◌∷◌, ◌++◌, map, get_or, Some, refl, sym, ap, ◌∙◌, append_assoc, append-nil, codes, arith}
 use Rattle.std.specs.Int.Digits.{digits_of, number_from_digits_after, AllBelowBase}
 use Rattle.std.specs.List.{list_all}
 use Rattle.std.specs.Str.{bytes_eq}
-use Rattle.std.proofs.lemmas.Bool.{and_parts, and_from, and_left, both_ways, leb-true, le-leb, eqb-true, eq-eqb, ne_eqb, not-true, not_from_false}
+use Rattle.std.proofs.lemmas.Bool.{and_parts, and_from, and_left, leb-true, le-leb, eqb-true, ne_eqb}
 use Rattle.std.proofs.lemmas.Int.Digits.{all_below_base_digits_of, first_digits_of, number_digits_of}
 use Rattle.uno_model.proofs.Options.{same_some, none_some}
 use Rattle.registry_text_model.proofs.NumeralLaws.{digits_are, one_digit, more_digits}
 use Rattle.registry_text_model.specs.Lines.{digits_text, numeral}
 use Rattle.registry_reading_model.specs.Numbers.{is_digit, read_on, magnitude_of, negated, number_of}
-use Rattle.registry_reading_model.specs.Words.{on_some, where_}
+use Rattle.registry_reading_model.specs.Words.{on_some}
 use Rattle.registry_reading_model.proofs.WordLaws.{lacks, same_word, given, allowed}
 
 -- ---- what is written is read

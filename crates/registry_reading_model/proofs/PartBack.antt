@@ -1,18 +1,18 @@
 -- Parts that are read are printed as they were read: members of structs, items, constants, and the parts of old services.
-use Rattle.std.proofs.Common.{◌≡◌, ℕ, ℤ, Bool, true, false, not, ◌&&◌, List, [], ◌∷◌, ◌++◌, map, Option, None, Some, refl, sym, ap, subst, ◌∙◌, append_assoc, codes}
+use Rattle.std.proofs.Common.{◌≡◌, ℕ, Bool, true, false, List, [], ◌∷◌, ◌++◌, Some, refl, sym, ap, subst, ◌∙◌, append_assoc, codes}
 use Rattle.std.specs.Str.{bytes_eq}
-use Rattle.std.proofs.lemmas.Bool.{and_parts, and_from}
+use Rattle.std.proofs.lemmas.Bool.{and_from}
 use Rattle.uno_model.proofs.Options.{same_some, none_some}
 use Rattle.uno_model.specs.Entities.{Field, Param, Item, Constant, Part, face, subservice, property}
 use Rattle.uno_model.specs.Kinds.{Kind, name_of}
-use Rattle.uno_model.specs.Names.{is_identifier, is_entity_name}
-use Rattle.registry_text_model.specs.Lines.{spaced, numeral, way_word, field_line, item_line, constant_line, given_line, param_line, part_line, face_word, subservice_word, flag_words, joined_by_commas}
+use Rattle.uno_model.specs.Names.{is_identifier}
+use Rattle.registry_text_model.specs.Lines.{spaced, numeral, way_word, field_line, item_line, constant_line, part_line, face_word, subservice_word, flag_words, joined_by_commas}
 use Rattle.registry_text_model.specs.Reading.{is_spelled}
 use Rattle.registry_reading_model.specs.Bodies.{changed_kind, field_of, param_of, item_of, constant_of, property_of, part_of}
 use Rattle.registry_reading_model.specs.Changes.{same}
 use Rattle.registry_reading_model.specs.Kinds.{kind_of_text}
 use Rattle.registry_reading_model.specs.Numbers.{number_of}
-use Rattle.registry_reading_model.specs.Words.{on_some, where_, word_of, identifier_of, entity_name_of, behind, way_of, flags_of}
+use Rattle.registry_reading_model.specs.Words.{on_some, word_of, identifier_of, entity_name_of, behind, way_of, flags_of}
 use Rattle.registry_reading_model.proofs.FlagLaws.{flags_back}
 use Rattle.registry_reading_model.proofs.GrowthLaws.{Made}
 use Rattle.registry_reading_model.proofs.KindLaws.{kind_back}

@@ -1,5 +1,5 @@
 -- Parts that are printed are read: members of structs, items, constants, parameters, and the parts of old services.
-use Rattle.std.proofs.Common.{◌≡◌, ℕ, ℤ, Bool, true, false, not, ◌&&◌, ◌==◌, List, [], ◌∷◌, ◌++◌, Option, None, Some, refl, sym, ap, subst, ◌∙◌, codes}
+use Rattle.std.proofs.Common.{◌≡◌, ℕ, Bool, true, false, not, ◌==◌, List, Some, refl, codes}
 use Rattle.std.proofs.lemmas.Bool.{and_parts}
 use Rattle.uno_model.specs.Entities.{Field, Param, Item, Constant, Part, face, subservice, property}
 use Rattle.uno_model.specs.Kinds.{Kind, name_of}
@@ -10,7 +10,7 @@ use Rattle.uno_model.specs.declared.way.Way.{Way}
 use Rattle.uno_model.specs.declared.way.Way.TheVariants as way
 use Rattle.registry_text_model.specs.Lines.{spaced, numeral, way_word, field_line, item_line, constant_line, part_line, face_word, subservice_word, flag_words, joined_by_commas}
 use Rattle.registry_text_model.specs.Reading.{is_spelled}
-use Rattle.registry_reading_model.specs.Bodies.{changed_kind, pushed, field_of, param_of, item_of, constant_of, property_of, part_of, behind_word}
+use Rattle.registry_reading_model.specs.Bodies.{changed_kind, field_of, param_of, item_of, constant_of, property_of, part_of, behind_word}
 use Rattle.registry_reading_model.specs.Changes.{same, field_changed, param_changed, item_changed, constant_changed, part_changed}
 use Rattle.registry_reading_model.specs.Kept.{resolved, unresolved}
 use Rattle.registry_reading_model.specs.Words.{on_some, behind}

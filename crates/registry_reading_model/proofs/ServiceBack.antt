@@ -1,5 +1,5 @@
 -- A line of a new service that is read is the next of what is printed of its constructors.
-use Rattle.std.proofs.Common.{◌≡◌, ℕ, Bool, true, false, not, ◌&&◌, is_none, List, [], ◌∷◌, ◌++◌, map, Option, None, Some, refl, sym, ap, subst, ◌∙◌, append_assoc, append-nil, codes}
+use Rattle.std.proofs.Common.{◌≡◌, ℕ, true, not, ◌&&◌, is_none, List, [], ◌∷◌, ◌++◌, map, Option, None, Some, refl, sym, ap, subst, ◌∙◌, append_assoc, append-nil, codes}
 use Rattle.std.specs.List.{list_all, flat_map}
 use Rattle.std.specs.Str.{bytes_eq}
 use Rattle.std.proofs.lemmas.Bool.{and_parts, and_from}
@@ -12,8 +12,8 @@ use Rattle.uno_model.specs.Sound.{is_some_list}
 use Rattle.registry_text_model.specs.Lines.{spaced, given_line, rest_lines, name_lines, constructor_lines}
 use Rattle.registry_reading_model.specs.Bodies.{pushed, last_changed, field_of, is_open, constructor_of, given_added, rest_added, raised_added, constructor_line}
 use Rattle.registry_reading_model.specs.Changes.{same}
-use Rattle.registry_reading_model.specs.Words.{on_some, where_, behind, entity_name_of, identifier_alone}
-use Rattle.registry_reading_model.proofs.GrowthLaws.{Made, Grown, no_list, pushed_passes, pushed_is, grown_by_push, grown_by_change, between_runs}
+use Rattle.registry_reading_model.specs.Words.{on_some, behind, entity_name_of, identifier_alone}
+use Rattle.registry_reading_model.proofs.GrowthLaws.{Made, Grown, no_list, pushed_passes, pushed_is, grown_by_push, grown_by_change}
 use Rattle.registry_reading_model.proofs.InterfaceBack.{first_run, names_grow}
 use Rattle.registry_reading_model.proofs.PartBack.{field_back, behind_word_back}
 use Rattle.registry_reading_model.proofs.PrintedLaws.{is_text, identifier_text, spaced_text}

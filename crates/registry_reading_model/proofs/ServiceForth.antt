@@ -1,5 +1,5 @@
 -- The lines that are printed of a new service are read.
-use Rattle.std.proofs.Common.{◌≡◌, ℕ, Bool, true, false, not, ◌&&◌, List, [], ◌∷◌, ◌++◌, map, Option, None, Some, refl, sym, ap, subst, ◌∙◌, codes}
+use Rattle.std.proofs.Common.{◌≡◌, ℕ, true, ◌&&◌, List, [], ◌∷◌, ◌++◌, map, Option, None, Some, refl, ◌∙◌, codes}
 use Rattle.std.specs.List.{list_all, flat_map}
 use Rattle.std.proofs.lemmas.Bool.{and_parts}
 use Rattle.uno_model.specs.Entities.{Field, Constructor, Body, new_service}
@@ -10,7 +10,6 @@ use Rattle.registry_text_model.specs.Lines.{spaced, given_line, rest_lines, name
 use Rattle.registry_reading_model.specs.Bodies.{last_changed, constructor_of, given_added, rest_added, raised_added, constructor_line, body_line}
 use Rattle.registry_reading_model.specs.Changes.{same, field_changed, constructor_changed}
 use Rattle.registry_reading_model.specs.Kept.{unresolved}
-use Rattle.registry_reading_model.specs.Words.{on_some}
 use Rattle.registry_reading_model.proofs.PartForth.{field_forth}
 use Rattle.registry_reading_model.proofs.RunLaws.{run_body, run_one, run_on, run_lines, run_flat, run_unchanged, last_forth, behind_word_forth, behind_spaced}
 use Rattle.registry_reading_model.proofs.WordLaws.{lacks}

@@ -1,6 +1,5 @@
 -- The words of a line, both ways.
-use Rattle.std.proofs.Common.{◌≡◌, ℕ, ◌+◌, ◌≤◌, Bool, true, false, not, ◌&&◌, ◌||◌, ◌==◌, List, [], ◌∷◌, ◌++◌, length, take, drop, Option, None, Some, if◌then◌else◌, refl, sym, ap, subst, ◌∙◌, codes, arith}
-use Rattle.std.specs.Prelude.{nat_lt}
+use Rattle.std.proofs.Common.{◌≡◌, ℕ, Bool, true, false, not, ◌&&◌, ◌||◌, ◌==◌, List, [], ◌∷◌, ◌++◌, length, take, drop, Option, None, Some, if◌then◌else◌, refl, sym, ap, subst, ◌∙◌, codes, arith}
 use Rattle.std.specs.List.{list_all, list_any}
 use Rattle.std.specs.Str.{bytes_eq}
 use Rattle.std.proofs.lemmas.Bool.{and_parts, and_from, both_ways, eqb-true, eq-eqb, not-true, not_from_false}
@@ -12,7 +11,7 @@ use Rattle.uno_model.specs.Names.{begins_identifier, goes_on_identifier, is_iden
 use Rattle.uno_model.specs.declared.way.Way.{Way}
 use Rattle.uno_model.specs.declared.way.Way.TheVariants as way
 use Rattle.registry_text_model.specs.Lines.{spaced, way_word, access_word}
-use Rattle.registry_reading_model.specs.Words.{on_some, where_, in_front, split_at, word_of, identifier_of, behind, entity_name_of, identifier_alone, way_of, access_of}
+use Rattle.registry_reading_model.specs.Words.{on_some, where_, split_at, word_of, identifier_of, behind, entity_name_of, identifier_alone, way_of, access_of}
 
 -- ---- options and tests that gave something
 
