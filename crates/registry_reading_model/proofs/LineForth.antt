@@ -3,13 +3,15 @@ use Rattle.std.proofs.Common.{◌≡◌, ℕ, true, false, List, [], ◌∷◌, 
 use Rattle.std.specs.List.{list_all}
 use Rattle.std.proofs.lemmas.Bool.{and_parts}
 use Rattle.uno_model.specs.Entities.{Field, Item, Constant, Part, Entity}
-use Rattle.uno_model.specs.Entities.{Body, interface, struct, exception, enum, constants, typedef, new_service, old_service, new_singleton, old_singleton}
+use Rattle.uno_model.specs.Entities.{Body, interface, struct, exception, enum, constants, typedef, new_service, old_service, new_singleton}
+use Rattle.uno_model.specs.Entities.{old_singleton}
 use Rattle.uno_model.specs.Names.{is_identifier, is_entity_name}
 use Rattle.uno_model.specs.Registry.{at_most_one}
 use Rattle.registry_text_model.specs.Lines.{header_line, body_lines, is_built_in_name, field_line, item_line, constant_line, part_line}
 use Rattle.registry_text_model.specs.Reading.{is_writable}
 use Rattle.registry_reading_model.specs.Bodies.{body_line, fields_line}
-use Rattle.registry_reading_model.specs.Changes.{Change, same, field_changed, item_changed, constant_changed, part_changed, body_changed, entity_changed}
+use Rattle.registry_reading_model.specs.Changes.{Change, same, field_changed, item_changed, constant_changed, part_changed, body_changed}
+use Rattle.registry_reading_model.specs.Changes.{entity_changed}
 use Rattle.registry_reading_model.specs.Headers.{header_of}
 use Rattle.registry_reading_model.specs.Kept.{unresolved}
 use Rattle.registry_reading_model.specs.States.{with_body}
@@ -19,34 +21,41 @@ use Rattle.registry_reading_model.proofs.InterfaceForth.{interface_forth}
 use Rattle.registry_reading_model.proofs.PartForth.{member_forth, item_forth, constant_forth, part_forth}
 use Rattle.registry_reading_model.proofs.RunLaws.{run_lines}
 use Rattle.registry_reading_model.proofs.ServiceForth.{service_forth}
-use Rattle.registry_reading_model.proofs.WritableLaws.{is_good_field, is_good_constant, is_good_constructor, is_good_member, is_good_part, is_good_body, good_of_writable}
+use Rattle.registry_reading_model.proofs.WritableLaws.{is_good_field, is_good_constant, is_good_constructor, is_good_member, is_good_part}
+use Rattle.registry_reading_model.proofs.WritableLaws.{is_good_body, good_of_writable}
 unfoldable pub use Rattle.registry_reading_model.proofs.RunLaws.{emptied, run_body}
 
 pub header_forth : (e : Entity) → is_writable e ≡ true → is_built_in_name e.name ≡ false
     → header_of same (header_line e) ≡ Some (entity_changed unresolved (with_body e (emptied e.body)))
 header_forth e writable written = let good = good_of_writable e writable in header_forth_good e good.0 good.1 written
 
-struct_field : (base : Option (List ℕ)) (done : List Field) (f : Field) → is_good_field f ≡ true → body_line same (struct base done) (field_line f) ≡ Some (struct base (done ++ field_changed unresolved f ∷ []))
+struct_field : (base : Option (List ℕ)) (done : List Field) (f : Field) → is_good_field f ≡ true
+    → body_line same (struct base done) (field_line f) ≡ Some (struct base (done ++ field_changed unresolved f ∷ []))
 unfolding body_line fields_line
 struct_field base done f good = rw (member_forth f good) refl
 
-exception_field : (base : Option (List ℕ)) (done : List Field) (f : Field) → is_good_field f ≡ true → body_line same (exception base done) (field_line f) ≡ Some (exception base (done ++ field_changed unresolved f ∷ []))
+exception_field : (base : Option (List ℕ)) (done : List Field) (f : Field) → is_good_field f ≡ true
+    → body_line same (exception base done) (field_line f) ≡ Some (exception base (done ++ field_changed unresolved f ∷ []))
 unfolding body_line fields_line
 exception_field base done f good = rw (member_forth f good) refl
 
-enum_item : (done : List Item) (i : Item) → is_identifier i.name ≡ true → body_line same (enum done) (item_line i) ≡ Some (enum (done ++ item_changed unresolved i ∷ []))
+enum_item : (done : List Item) (i : Item) → is_identifier i.name ≡ true
+    → body_line same (enum done) (item_line i) ≡ Some (enum (done ++ item_changed unresolved i ∷ []))
 unfolding body_line
 enum_item done i good = rw (item_forth i good) refl
 
-one_constant : (done : List Constant) (k : Constant) → is_good_constant k ≡ true → body_line same (constants done) (constant_line k) ≡ Some (constants (done ++ constant_changed unresolved k ∷ []))
+one_constant : (done : List Constant) (k : Constant) → is_good_constant k ≡ true
+    → body_line same (constants done) (constant_line k) ≡ Some (constants (done ++ constant_changed unresolved k ∷ []))
 unfolding body_line
 one_constant done k good = rw (constant_forth k good) refl
 
-one_part : (done : List Part) (p : Part) → is_good_part p ≡ true → body_line same (old_service done) (part_line p) ≡ Some (old_service (done ++ part_changed unresolved p ∷ []))
+one_part : (done : List Part) (p : Part) → is_good_part p ≡ true
+    → body_line same (old_service done) (part_line p) ≡ Some (old_service (done ++ part_changed unresolved p ∷ []))
 unfolding body_line
 one_part done p good = rw (part_forth p good) refl
 
-body_forth_good : (b : Body) → is_good_body b ≡ true → run_body same (body_changed unresolved (emptied b)) (body_lines b) ≡ Some (body_changed unresolved b)
+body_forth_good : (b : Body) → is_good_body b ≡ true → run_body same (body_changed unresolved (emptied b)) (body_lines b) ≡ Some
+    (body_changed unresolved b)
 unfolding run_body
 body_forth_good (interface bases members) good =
     let both = and_parts (list_all (λ b. is_entity_name b.name) bases) (list_all is_good_member members) good in
@@ -66,7 +75,8 @@ body_forth_good (typedef k) good = refl
 body_forth_good (new_singleton base) good = refl
 body_forth_good (old_singleton service) good = refl
 
-pub body_forth : (e : Entity) → is_writable e ≡ true → run_body same (body_changed unresolved (emptied e.body)) (body_lines e.body) ≡ Some (body_changed unresolved e.body)
+pub body_forth : (e : Entity) → is_writable e ≡ true → run_body same (body_changed unresolved (emptied e.body)) (body_lines e.body) ≡ Some
+    (body_changed unresolved e.body)
 body_forth e writable = body_forth_good e.body (good_of_writable e writable).1
 
 pub no_end : (c : Change) (b : Body) → body_line c b (codes "end") ≡ None

@@ -8,7 +8,8 @@ use Rattle.uno_model.specs.Names.{is_identifier, is_entity_name}
 use Rattle.uno_model.specs.declared.flags.Flags.{Flags}
 use Rattle.uno_model.specs.declared.way.Way.{Way}
 use Rattle.uno_model.specs.declared.way.Way.TheVariants as way
-use Rattle.registry_text_model.specs.Lines.{spaced, numeral, way_word, field_line, item_line, constant_line, part_line, face_word, subservice_word, flag_words, joined_by_commas}
+use Rattle.registry_text_model.specs.Lines.{spaced, numeral, way_word, field_line, item_line, constant_line, part_line, face_word, subservice_word}
+use Rattle.registry_text_model.specs.Lines.{flag_words, joined_by_commas}
 use Rattle.registry_text_model.specs.Reading.{is_spelled}
 use Rattle.registry_reading_model.specs.Bodies.{changed_kind, field_of, param_of, item_of, constant_of, property_of, part_of, behind_word}
 use Rattle.registry_reading_model.specs.Changes.{same, field_changed, param_changed, item_changed, constant_changed, part_changed}
@@ -38,7 +39,8 @@ no_blank_way way.Out = refl
 no_blank_way way.Both = refl
 
 -- `WAY NAME TYPE`
-pub param_forth : (p : Param) → is_good_param p ≡ true → param_of same (spaced (way_word p.way) (spaced p.name (name_of p.kind))) ≡ Some (param_changed unresolved p)
+pub param_forth : (p : Param) → is_good_param p ≡ true → param_of same (spaced (way_word p.way) (spaced p.name (name_of p.kind))) ≡ Some
+    (param_changed unresolved p)
 unfolding param_of
 param_forth p good =
     let both = and_parts (is_identifier p.name) (is_spelled p.kind) good in
@@ -52,14 +54,22 @@ param_forth p good =
 
 -- ---- lines that begin with a word of their own
 
-pub member_forth : (f : Field) → is_good_field f ≡ true → on_some (behind (codes "member ") (field_line f)) (field_of same) ≡ Some (field_changed unresolved f)
+pub member_forth : (f : Field) → is_good_field f ≡ true → on_some (behind (codes "member ") (field_line f)) (field_of same) ≡ Some
+    (field_changed unresolved f)
 member_forth f good = rw (behind_spaced (codes "member") (spaced f.name (name_of f.kind))) (field_forth f good)
 
-pub item_forth : (i : Item) → is_identifier i.name ≡ true → on_some (behind (codes "value ") (item_line i)) (item_of same) ≡ Some (item_changed unresolved i)
+pub item_forth : (i : Item) → is_identifier i.name ≡ true → on_some (behind (codes "value ") (item_line i)) (item_of same) ≡ Some
+    (item_changed unresolved i)
 unfolding item_of
-item_forth i named = rw (behind_spaced (codes "value") (spaced i.name (numeral i.number)), identifier_forth i.name (numeral i.number) named, number_forth i.number) refl
+item_forth i named = rw (
+  behind_spaced (codes "value") (spaced i.name (numeral i.number)),
+  identifier_forth i.name
+      (numeral i.number) named,
+  number_forth i.number,
+) refl
 
-pub constant_forth : (k : Constant) → is_good_constant k ≡ true → on_some (behind (codes "const ") (constant_line k)) (constant_of same) ≡ Some (constant_changed unresolved k)
+pub constant_forth : (k : Constant) → is_good_constant k ≡ true
+    → on_some (behind (codes "const ") (constant_line k)) (constant_of same) ≡ Some (constant_changed unresolved k)
 unfolding constant_of
 constant_forth k good =
     let both = and_parts (is_identifier k.name) (is_spelled k.kind) good in
@@ -78,12 +88,14 @@ constant_forth k good =
 flags_no_blank : (f : Flags) → lacks 32 (joined_by_commas (flag_words f)) ≡ true
 flags_no_blank f = flags_all (λ c. not (c == 32)) f refl refl refl
 
-face_forth : (optional : Bool) (name : List ℕ) → is_entity_name name ≡ true → behind_word (spaced (face_word optional) name) (part_of same) ≡ Some (face optional name)
+face_forth : (optional : Bool) (name : List ℕ) → is_entity_name name ≡ true
+    → behind_word (spaced (face_word optional) name) (part_of same) ≡ Some (face optional name)
 unfolding part_of face_word
 face_forth true name named = rw (behind_word_forth (codes "optinterface") name (part_of same) refl, named) refl
 face_forth false name named = rw (behind_word_forth (codes "interface") name (part_of same) refl, named) refl
 
-subservice_forth : (optional : Bool) (name : List ℕ) → is_entity_name name ≡ true → behind_word (spaced (subservice_word optional) name) (part_of same) ≡ Some (subservice optional name)
+subservice_forth : (optional : Bool) (name : List ℕ) → is_entity_name name ≡ true
+    → behind_word (spaced (subservice_word optional) name) (part_of same) ≡ Some (subservice optional name)
 unfolding part_of subservice_word
 subservice_forth true name named = rw (behind_word_forth (codes "optservice") name (part_of same) refl, named) refl
 subservice_forth false name named = rw (behind_word_forth (codes "service") name (part_of same) refl, named) refl

@@ -3,7 +3,8 @@ use Rattle.std.proofs.Common.{◌≡◌, ℕ, Bool, true, List, [], ◌∷◌, �
 use Rattle.std.specs.List.{list_all, flat_map}
 use Rattle.std.proofs.lemmas.Bool.{and_parts}
 use Rattle.uno_model.proofs.Options.{none_some}
-use Rattle.uno_model.specs.Entities.{Body, interface, struct, exception, enum, constants, typedef, new_service, old_service, new_singleton, old_singleton}
+use Rattle.uno_model.specs.Entities.{Body, interface, struct, exception, enum, constants, typedef, new_service, old_service, new_singleton}
+use Rattle.uno_model.specs.Entities.{old_singleton}
 use Rattle.registry_text_model.specs.Lines.{spaced}
 use Rattle.registry_reading_model.specs.Bodies.{all_but_last, last_of, last_changed, behind_word, body_line}
 use Rattle.registry_reading_model.specs.Changes.{Change, same}
@@ -30,7 +31,8 @@ run_body c b (line ∷ lines) = on_some (body_line c b line) (λ next. run_body 
 
 -- ---- lines one after the other
 
-pub run_one : (b d : Body) (line : List ℕ) (lines : List (List ℕ)) → body_line same b line ≡ Some d → run_body same b (line ∷ lines) ≡ run_body same d lines
+pub run_one : (b d : Body) (line : List ℕ) (lines : List (List ℕ)) → body_line same b line ≡ Some d
+    → run_body same b (line ∷ lines) ≡ run_body same d lines
 unfolding run_body
 run_one b d line lines read = rw read refl
 
@@ -39,18 +41,21 @@ unfolding run_body
 run_on b d [] ys read = ap (λ o. on_some o (λ next. run_body same next ys)) read
 run_on b d (x ∷ xs) ys read = by_line (body_line same b x) read (λ next first. run_on next d xs ys first)
   where
-    by_line : (o : Option Body) → on_some o (λ next. run_body same next xs) ≡ Some d → ((next : Body) → run_body same next xs ≡ Some d → run_body same next (xs ++ ys) ≡ run_body same d ys)
+    by_line : (o : Option Body) → on_some o (λ next. run_body same next xs) ≡ Some d
+        → ((next : Body) → run_body same next xs ≡ Some d → run_body same next (xs ++ ys) ≡ run_body same d ys)
         → on_some o (λ next. run_body same next (xs ++ ys)) ≡ run_body same d ys
     by_line None read on = absurd (none_some read)
     by_line (Some next) read on = on next read
 
-pub run_all : (b d : Body) (xs ys : List (List ℕ)) (e : Option Body) → run_body same b xs ≡ Some d → run_body same d ys ≡ e → run_body same b (xs ++ ys) ≡ e
+pub run_all : (b d : Body) (xs ys : List (List ℕ)) (e : Option Body) → run_body same b xs ≡ Some d → run_body same d ys ≡ e
+    → run_body same b (xs ++ ys) ≡ e
 run_all b d xs ys e first second = run_on b d xs ys first ∙ second
 
 -- ---- the same for each of a list
 
 module _ {X Z : Type 0} (make : List Z → Body) (change : X → Z) (good : X → Bool) where
-  pub run_lines : (line : X → List ℕ) → ((done : List Z) (x : X) → good x ≡ true → body_line same (make done) (line x) ≡ Some (make (done ++ change x ∷ [])))
+  pub run_lines : (line : X → List ℕ) → ((done : List Z) (x : X) → good x ≡ true → body_line same (make done) (line x) ≡ Some
+      (make (done ++ change x ∷ [])))
       → (done : List Z) (xs : List X) → list_all good xs ≡ true → run_body same (make done) (map line xs) ≡ Some (make (done ++ map change xs))
   unfolding run_body
   run_lines line each done [] all = ap (λ zs. Some (make zs)) (sym (append-nil done))
@@ -59,7 +64,8 @@ module _ {X Z : Type 0} (make : List Z → Body) (change : X → Z) (good : X �
       run_one (make done) (make (done ++ change x ∷ [])) (line x) (map line xs) (each done x parts.0)
       ∙ run_lines line each (done ++ change x ∷ []) xs parts.1 ∙ ap (λ zs. Some (make zs)) (append_assoc done (change x ∷ []) (map change xs))
 
-  pub run_flat : (lines : X → List (List ℕ)) → ((done : List Z) (x : X) → good x ≡ true → run_body same (make done) (lines x) ≡ Some (make (done ++ change x ∷ [])))
+  pub run_flat : (lines : X → List (List ℕ)) → ((done : List Z) (x : X) → good x ≡ true → run_body same (make done) (lines x) ≡ Some
+      (make (done ++ change x ∷ [])))
       → (done : List Z) (xs : List X) → list_all good xs ≡ true → run_body same (make done) (flat_map lines xs) ≡ Some (make (done ++ map change xs))
   unfolding run_body
   run_flat lines each done [] all = ap (λ zs. Some (make zs)) (sym (append-nil done))
@@ -97,7 +103,8 @@ last_forth f (z ∷ zs) x y is =
 
 -- ---- words of lines
 
-pub behind_word_forth : {X : Type 0} (word text : List ℕ) (f : List ℕ → List ℕ → Option X) → lacks 32 word ≡ true → behind_word (spaced word text) f ≡ f word text
+pub behind_word_forth : {X : Type 0} (word text : List ℕ) (f : List ℕ → List ℕ → Option X) → lacks 32 word ≡ true
+    → behind_word (spaced word text) f ≡ f word text
 behind_word_forth word text f none = rw (word_forth word text none) refl
 
 pub behind_spaced : (word text : List ℕ) → behind (word ++ 32 ∷ []) (spaced word text) ≡ Some text

@@ -19,7 +19,8 @@ use Rattle.registry_reading_model.proofs.WordLaws.{same_word}
 wrong_right : {w : Wrong} {st : State} → Err w ≡ Ok st → ⊥
 wrong_right is = cc
 
-pub line_is_text : (o : Bool) (st st' : State) (line : List ℕ) → step o same st line ≡ Ok st' → list_all (λ c. nat_lt c 128 && not (c == 10)) line ≡ true
+pub line_is_text : (o : Bool) (st st' : State) (line : List ℕ) → step o same st line ≡ Ok st'
+    → list_all (λ c. nat_lt c 128 && not (c == 10)) line ≡ true
 unfolding step
 line_is_text o unread st' line read = by_test (bytes_eq line (codes "unoreg 1")) refl read
   where
