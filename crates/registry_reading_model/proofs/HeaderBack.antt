@@ -16,7 +16,7 @@ use Rattle.registry_reading_model.specs.Words.{on_some, where_, word_of, behind,
 use Rattle.registry_reading_model.proofs.PartBack.{changed_kind_back, behind_word_back}
 use Rattle.registry_reading_model.proofs.PrintedLaws.{is_text, entity_name_text, spaced_text}
 use Rattle.registry_reading_model.proofs.WordLaws.{given, allowed, chosen, same_word, word_back, entity_name_back}
-use Rattle.registry_reading_model.proofs.WritableLaws.{is_good_body}
+use Rattle.registry_reading_model.proofs.GoodParts.{is_good_body}
 
 -- the words open this body, which has no lines yet
 pub record Opens (name words : List ℕ) (body : Body) : Type 0 where

@@ -15,7 +15,7 @@ use Rattle.registry_reading_model.specs.Words.{split_at, behind}
 use Rattle.registry_reading_model.proofs.KindLaws.{kind_forth}
 use Rattle.registry_reading_model.proofs.RunLaws.{emptied, behind_spaced}
 use Rattle.registry_reading_model.proofs.WordLaws.{split_none, word_forth, entity_name_no_blank}
-use Rattle.registry_reading_model.proofs.WritableLaws.{is_good_constructor, is_good_body}
+use Rattle.registry_reading_model.proofs.GoodParts.{is_good_constructor, is_good_body}
 
 not_published : (name : List ℕ) (b : Body) → behind (codes "published ") (header_words name b) ≡ None
 unfolding behind spaced

@@ -18,7 +18,7 @@ use Rattle.registry_reading_model.proofs.KindLaws.{kind_forth}
 use Rattle.registry_reading_model.proofs.PartForth.{param_forth}
 use Rattle.registry_reading_model.proofs.RunLaws.{run_body, run_one, run_on, run_lines, run_flat, run_unchanged, last_forth, behind_word_forth}
 use Rattle.registry_reading_model.proofs.WordLaws.{lacks, word_forth, identifier_forth, access_forth}
-use Rattle.registry_reading_model.proofs.WritableLaws.{is_good_param, is_good_member}
+use Rattle.registry_reading_model.proofs.GoodParts.{is_good_param, is_good_member}
 
 base_forth : (done : List Base) (b : Base) → is_entity_name b.name ≡ true
     → body_line same (interface done []) (base_line b) ≡ Some (interface (done ++ b ∷ []) [])

@@ -1,4 +1,5 @@
 pub mod FlagLaws
+pub mod GoodParts
 pub mod GrowthLaws
 pub mod HeaderBack
 pub mod HeaderForth
@@ -7,9 +8,11 @@ pub mod InterfaceForth
 pub mod KindLaws
 pub mod LineBack
 pub mod LineForth
+pub mod MemberBack
 pub mod NumberLaws
 pub mod PartBack
 pub mod PartForth
+pub mod PartTests
 pub mod PrintedLaws
 pub mod RunLaws
 pub mod ServiceBack

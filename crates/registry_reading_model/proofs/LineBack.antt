@@ -23,7 +23,8 @@ use Rattle.registry_reading_model.proofs.InterfaceBack.{Adds, interface_back}
 use Rattle.registry_reading_model.proofs.PartBack.{member_made, item_made, constant_made, part_made}
 use Rattle.registry_reading_model.proofs.ServiceBack.{constructors_back}
 use Rattle.registry_reading_model.proofs.WordLaws.{given, word_back}
-use Rattle.registry_reading_model.proofs.WritableLaws.{is_good_field, is_good_constant, is_good_constructor, is_good_part, good_of_writable}
+use Rattle.registry_reading_model.proofs.GoodParts.{is_good_field, is_good_constant, is_good_constructor, is_good_part}
+use Rattle.registry_reading_model.proofs.WritableLaws.{good_of_writable}
 use Rattle.registry_reading_model.proofs.WritableLaws.{writable_of_good}
 
 fields_back : (fs gs : List Field) (line : List ℕ) → fields_line same fs line ≡ Some gs → Grown (map field_line) (list_all is_good_field) fs gs line

@@ -21,7 +21,7 @@ use Rattle.registry_reading_model.proofs.NumberLaws.{number_back}
 use Rattle.registry_reading_model.proofs.PrintedLaws.{is_text, identifier_text, entity_name_text, numeral_text, flags_text, spaced_text, kind_text}
 use Rattle.registry_reading_model.proofs.PrintedLaws.{way_text}
 use Rattle.registry_reading_model.proofs.WordLaws.{given, chosen, same_word, word_back, behind_back, identifier_back, entity_name_back, way_back}
-use Rattle.registry_reading_model.proofs.WritableLaws.{is_good_field, is_good_param, is_good_constant, is_good_part}
+use Rattle.registry_reading_model.proofs.GoodParts.{is_good_field, is_good_param, is_good_constant, is_good_part}
 
 -- the text is printed of a type
 pub record Spells (text : List ℕ) (k : Kind) : Type 0 where

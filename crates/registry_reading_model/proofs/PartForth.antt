@@ -20,7 +20,7 @@ use Rattle.registry_reading_model.proofs.KindLaws.{kind_forth}
 use Rattle.registry_reading_model.proofs.NumberLaws.{number_forth, numeral_no_blank}
 use Rattle.registry_reading_model.proofs.RunLaws.{behind_word_forth, behind_spaced}
 use Rattle.registry_reading_model.proofs.WordLaws.{lacks, word_forth, identifier_forth, way_forth}
-use Rattle.registry_reading_model.proofs.WritableLaws.{is_good_field, is_good_param, is_good_constant, is_good_part}
+use Rattle.registry_reading_model.proofs.GoodParts.{is_good_field, is_good_param, is_good_constant, is_good_part}
 
 pub changed_kind_forth : (k : Kind) → is_spelled k ≡ true → changed_kind same (name_of k) ≡ Some (resolved kd.struct k)
 changed_kind_forth k spelled = rw (kind_forth k spelled) refl

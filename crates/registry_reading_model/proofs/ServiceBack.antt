@@ -16,11 +16,11 @@ use Rattle.registry_reading_model.specs.Bodies.{constructor_line}
 use Rattle.registry_reading_model.specs.Changes.{same}
 use Rattle.registry_reading_model.specs.Words.{on_some, behind, entity_name_of, identifier_alone}
 use Rattle.registry_reading_model.proofs.GrowthLaws.{Made, Grown, no_list, pushed_passes, pushed_is, grown_by_push, grown_by_change}
-use Rattle.registry_reading_model.proofs.InterfaceBack.{first_run, names_grow}
+use Rattle.registry_reading_model.proofs.MemberBack.{first_run, names_grow}
 use Rattle.registry_reading_model.proofs.PartBack.{field_back, behind_word_back}
 use Rattle.registry_reading_model.proofs.PrintedLaws.{is_text, identifier_text, spaced_text}
 use Rattle.registry_reading_model.proofs.WordLaws.{given, allowed, chosen, same_word, identifier_alone_back}
-use Rattle.registry_reading_model.proofs.WritableLaws.{is_good_field, is_good_constructor}
+use Rattle.registry_reading_model.proofs.GoodParts.{is_good_field, is_good_constructor}
 
 abbrev IsGrown : Constructor → Constructor → List ℕ → Type 0
 IsGrown j k line = Grown constructor_lines is_good_constructor j k line

@@ -14,7 +14,7 @@ use Rattle.registry_reading_model.proofs.PartForth.{field_forth}
 use Rattle.registry_reading_model.proofs.RunLaws.{run_body, run_one, run_on, run_lines, run_flat, run_unchanged, last_forth, behind_word_forth}
 use Rattle.registry_reading_model.proofs.RunLaws.{behind_spaced}
 use Rattle.registry_reading_model.proofs.WordLaws.{lacks}
-use Rattle.registry_reading_model.proofs.WritableLaws.{is_good_field, is_good_constructor}
+use Rattle.registry_reading_model.proofs.GoodParts.{is_good_field, is_good_constructor}
 
 module _ (base : List ℕ) (done : List Constructor) where
   -- with this constructor behind the others
