@@ -1,5 +1,6 @@
 -- The flags of a property, both ways: each stands in its place, with a comma between any two.
-use Rattle.std.proofs.Common.{◌≡◌, ℕ, zero, suc, ◌+◌, Bool, true, false, not, ◌&&◌, ◌||◌, ◌==◌, List, [], ◌∷◌, ◌++◌, length, Option, None, Some, refl, sym, ap, subst, ◌∙◌, codes, if◌then◌else◌, arith}
+use Rattle.std.proofs.Common.{◌≡◌, ℕ, zero, suc, Bool, true, false, not, ◌==◌, List, [], ◌∷◌, ◌++◌, length, Option, None, Some, refl, sym, ap, subst}
+use Rattle.std.proofs.Common.{◌∙◌, codes, arith}
 use Rattle.std.specs.List.{list_all, list_any, flat_map}
 use Rattle.std.specs.Str.{bytes_eq}
 use Rattle.std.proofs.lemmas.Bool.{and_parts, and_from, and_left, both_ways, not-true, not_from_false, false_from_ne_true, or_parts}
@@ -37,15 +38,18 @@ begins_otherwise n (w ∷ ws) = not (bytes_eq w n)
 -- ---- one flag
 
 -- what is split off the front of joined words is the first of them
-first_of_joined : (w : List ℕ) (ws : List (List ℕ)) → lacks 44 w ≡ true → (left : List ℕ) → joined (w ∷ ws) ≡ Some left → first_flag (split_at 44 left) left ≡ (w, joined ws)
+first_of_joined : (w : List ℕ) (ws : List (List ℕ)) → lacks 44 w ≡ true → (left : List ℕ) → joined (w ∷ ws) ≡ Some left
+    → first_flag (split_at 44 left) left ≡ (w, joined ws)
 first_of_joined w [] none left is =
     let e : w ≡ left = sym (append-nil w) ∙ same_some is in
     subst (λ l. first_flag (split_at 44 l) l ≡ (w, None)) e (rw (split_none 44 w none) refl)
 first_of_joined w (v ∷ vs) none left is =
     let e : w ++ 44 ∷ (v ++ flat_map (λ u. 44 ∷ u) vs) ≡ left = same_some is in
-    subst (λ l. first_flag (split_at 44 l) l ≡ (w, Some (v ++ flat_map (λ u. 44 ∷ u) vs))) e (rw (split_forth 44 w (v ++ flat_map (λ u. 44 ∷ u) vs) none) refl)
+    subst (λ l. first_flag (split_at 44 l) l ≡ (w, Some (v ++ flat_map (λ u. 44 ∷ u) vs))) e
+    (rw (split_forth 44 w (v ++ flat_map (λ u. 44 ∷ u) vs) none) refl)
 
-not_taken : (n : List ℕ) (ws : List (List ℕ)) → list_all (lacks 44) ws ≡ true → begins_otherwise n ws ≡ true → take_flag n (joined ws) ≡ (false, joined ws)
+not_taken : (n : List ℕ) (ws : List (List ℕ)) → list_all (lacks 44) ws ≡ true → begins_otherwise n ws ≡ true
+    → take_flag n (joined ws) ≡ (false, joined ws)
 not_taken n [] none other = refl
 not_taken n (w ∷ ws) none other =
     let first = first_of_joined w ws (and_parts (lacks 44 w) (list_all (lacks 44) ws) none).0 (w ++ flat_map (λ v. 44 ∷ v) ws) refl in
@@ -61,7 +65,8 @@ taken n ws none =
 all_chosen : (P : List ℕ → Bool) (ns : List (List ℕ)) (bs : List Bool) → list_all P ns ≡ true → list_all P (of_names ns bs) ≡ true
 all_chosen P [] bs all = refl
 all_chosen P (n ∷ ns) [] all = refl
-all_chosen P (n ∷ ns) (true ∷ bs) all = let parts = and_parts (P n) (list_all P ns) all in and_from (P n) (list_all P (of_names ns bs)) parts.0 (all_chosen P ns bs parts.1)
+all_chosen P (n ∷ ns) (true ∷ bs) all = let parts = and_parts (P n) (list_all P ns) all in and_from (P n) (list_all P (of_names ns bs)) parts.0
+    (all_chosen P ns bs parts.1)
 all_chosen P (n ∷ ns) (false ∷ bs) all = let parts = and_parts (P n) (list_all P ns) all in all_chosen P ns bs parts.1
 
 others : (n : List ℕ) (ns : List (List ℕ)) (bs : List Bool) → list_any (bytes_eq n) ns ≡ false → begins_otherwise n (of_names ns bs) ≡ true
@@ -69,7 +74,8 @@ others n [] bs none = refl
 others n (m ∷ ns) [] none = refl
 others n (m ∷ ns) (true ∷ bs) none =
     let other = (or_parts (bytes_eq n m) (list_any (bytes_eq n) ns) none).0 in
-    not_from_false (bytes_eq m n) (false_from_ne_true (bytes_eq m n) (λ e. both_ways (bytes_eq n m) other ((bytes_eq-Decides n m).1 (sym (same_word m n e)))))
+    not_from_false (bytes_eq m n) (false_from_ne_true (bytes_eq m n)
+    (λ e. both_ways (bytes_eq n m) other ((bytes_eq-Decides n m).1 (sym (same_word m n e)))))
 others n (m ∷ ns) (false ∷ bs) none = others n ns bs (or_parts (bytes_eq n m) (list_any (bytes_eq n) ns) none).1
 
 names_forth : (ns : List (List ℕ)) (bs : List Bool) → list_all (lacks 44) ns ≡ true → all_differ ns ≡ true → length bs ≡ length ns
@@ -85,7 +91,11 @@ names_forth (n ∷ ns) (true ∷ bs) none differ long =
 names_forth (n ∷ ns) (false ∷ bs) none differ long =
     let lack = and_parts (lacks 44 n) (list_all (lacks 44) ns) none in
     let apart = and_parts (not (list_any (bytes_eq n) ns)) (all_differ ns) differ in
-    rw (not_taken n (of_names ns bs) (all_chosen (lacks 44) ns bs lack.1) (others n ns bs (not-true (list_any (bytes_eq n) ns) apart.0)), names_forth ns bs lack.1 apart.1 (omega (arith, long))) refl
+    rw (
+      not_taken n (of_names ns bs) (all_chosen (lacks 44) ns bs lack.1)
+          (others n ns bs (not-true (list_any (bytes_eq n) ns) apart.0)),
+      names_forth ns bs lack.1 apart.1 (omega (arith, long)),
+    ) refl
 
 last_one : (n left : List ℕ) (ws : List (List ℕ)) → left ≡ n → None ≡ joined ws → Some left ≡ joined (n ∷ ws)
 last_one n left [] e rest = ap Some (e ∙ sym (append-nil n))
@@ -95,7 +105,8 @@ more_behind : (n left r : List ℕ) (ws : List (List ℕ)) → left ≡ n ++ 44 
 more_behind n left r [] e rest = absurd (none_some (sym rest))
 more_behind n left r (w ∷ ws) e rest = ap Some (e ∙ ap (λ t. n ++ 44 ∷ t) (same_some rest))
 
-one_back : (n : List ℕ) (left : Option (List ℕ)) (ws : List (List ℕ)) → (take_flag n left).1 ≡ joined ws → left ≡ joined (flag_word (take_flag n left).0 n ++ ws)
+one_back : (n : List ℕ) (left : Option (List ℕ)) (ws : List (List ℕ)) → (take_flag n left).1 ≡ joined ws
+    → left ≡ joined (flag_word (take_flag n left).0 n ++ ws)
 one_back n None ws rest = rest
 one_back n (Some left) ws rest = by_split (split_at 44 left) refl rest
   where
@@ -123,11 +134,13 @@ names_back (n ∷ ns) left rest = one_back n left (of_names ns (take_flags ns (t
 
 abbrev pub flag_names : List (List ℕ)
 flag_names =
-    codes "bound" ∷ (codes "constrained" ∷ (codes "maybeambiguous" ∷ (codes "maybedefault" ∷ (codes "maybevoid" ∷ (codes "optional" ∷ (codes "readonly" ∷ (codes "removable" ∷ (codes "transient" ∷ []))))))))
+    codes "bound" ∷ (codes "constrained" ∷ (codes "maybeambiguous" ∷
+    (codes "maybedefault" ∷ (codes "maybevoid" ∷ (codes "optional" ∷ (codes "readonly" ∷ (codes "removable" ∷ (codes "transient" ∷ []))))))))
 
 abbrev pub bits : Flags → List Bool
 bits f =
-    f.bound ∷ (f.constrained ∷ (f.maybeambiguous ∷ (f.maybedefault ∷ (f.maybevoid ∷ (f.optional ∷ (f.readonly ∷ (f.removable ∷ (f.transient ∷ []))))))))
+    f.bound ∷ (f.constrained ∷ (f.maybeambiguous ∷
+    (f.maybedefault ∷ (f.maybevoid ∷ (f.optional ∷ (f.readonly ∷ (f.removable ∷ (f.transient ∷ []))))))))
 
 abbrev bit : ℕ → List Bool → Bool
 bit n [] = false
@@ -162,7 +175,8 @@ names_differ = refl
 
 left_forth : (f : Flags) → flags_left (joined (flag_words f)) ≡ (f, None)
 left_forth f =
-    let read : take_flags flag_names (joined (flag_words f)) ≡ (bits f, None) = ap (λ ws. take_flags flag_names (joined ws)) (sym (words_are f)) ∙ names_forth flag_names (bits f) refl names_differ refl in
+    let read : take_flags flag_names (joined (flag_words f)) ≡ (bits f, None) = ap (λ ws. take_flags flag_names (joined ws)) (sym (words_are f))
+    ∙ names_forth flag_names (bits f) refl names_differ refl in
     ap (λ x. (of_bits x.0, x.1)) (sym (left_are (joined (flag_words f))) ∙ read)
 
 left_back : (left : Option (List ℕ)) (f : Flags) → flags_left left ≡ (f, None) → left ≡ joined (flag_words f)
@@ -227,7 +241,8 @@ module _ (P : ℕ → Bool) where
   all_behind_commas [] comma all = refl
   all_behind_commas (w ∷ ws) comma all =
       let parts = and_parts (list_all P w) (list_all (list_all P) ws) all in
-      and_from (P 44) (list_all P (w ++ flat_map (λ v. 44 ∷ v) ws)) comma (all_append P w (flat_map (λ v. 44 ∷ v) ws) parts.0 (all_behind_commas ws comma parts.1))
+      and_from (P 44) (list_all P (w ++ flat_map (λ v. 44 ∷ v) ws)) comma
+      (all_append P w (flat_map (λ v. 44 ∷ v) ws) parts.0 (all_behind_commas ws comma parts.1))
 
   all_joined : (ws : List (List ℕ)) → P 44 ≡ true → P 45 ≡ true → list_all (list_all P) ws ≡ true → list_all P (joined_by_commas ws) ≡ true
   unfolding joined_by_commas
@@ -236,5 +251,6 @@ module _ (P : ℕ → Bool) where
       let parts = and_parts (list_all P w) (list_all (list_all P) ws) all in
       all_append P w (flat_map (λ v. 44 ∷ v) ws) parts.0 (all_behind_commas ws comma parts.1)
 
-  pub flags_all : (f : Flags) → P 44 ≡ true → P 45 ≡ true → list_all (list_all P) flag_names ≡ true → list_all P (joined_by_commas (flag_words f)) ≡ true
+  pub flags_all : (f : Flags) → P 44 ≡ true → P 45 ≡ true → list_all (list_all P) flag_names ≡ true
+      → list_all P (joined_by_commas (flag_words f)) ≡ true
   flags_all f comma dash all = all_joined (flag_words f) comma dash (all_words (list_all P) f all)

@@ -1,5 +1,5 @@
 -- Lists to which a line adds one more, or whose last it changes.
-use Rattle.std.proofs.Common.{◌≡◌, ℕ, Bool, true, false, not, ◌&&◌, List, [], ◌∷◌, ◌++◌, map, Option, None, Some, refl, sym, ap, subst, ◌∙◌, append_assoc, append-nil}
+use Rattle.std.proofs.Common.{◌≡◌, ℕ, Bool, true, not, List, [], ◌∷◌, ◌++◌, map, Option, Some, refl, sym, ap, subst, ◌∙◌, append_assoc, append-nil}
 use Rattle.std.specs.List.{list_all, flat_map}
 use Rattle.std.proofs.lemmas.Bool.{and_parts, and_from}
 use Rattle.std.proofs.lemmas.List.{map-append}
@@ -8,7 +8,6 @@ use Rattle.uno_model.proofs.AllLaws.{all_append, of_append}
 use Rattle.uno_model.proofs.Options.{same_some, none_some}
 use Rattle.uno_model.specs.Sound.{is_some_list}
 use Rattle.registry_reading_model.specs.Bodies.{pushed, all_but_last, last_of, last_changed}
-use Rattle.registry_reading_model.specs.Words.{on_some}
 use Rattle.registry_reading_model.proofs.PrintedLaws.{is_text}
 use Rattle.registry_reading_model.proofs.WordLaws.{given}
 
@@ -38,7 +37,8 @@ pushed_is xs ys o read =
     (x.0, x.1, sym (same_some x.2))
 
 module _ {X : Type 0} (good : X → Bool) (line : List ℕ) where
-  pub grown_by_push : (lines : X → List (List ℕ)) (xs ys : List X) (o : Option X) → pushed xs o ≡ Some ys → ((x : X) → o ≡ Some x → Made lines good x line)
+  pub grown_by_push : (lines : X → List (List ℕ)) (xs ys : List X) (o : Option X) → pushed xs o ≡ Some ys
+      → ((x : X) → o ≡ Some x → Made lines good x line)
       → Grown (flat_map lines) (list_all good) xs ys line
   grown_by_push lines xs ys o read made =
       let x = pushed_is xs ys o read in
@@ -47,7 +47,8 @@ module _ {X : Type 0} (good : X → Bool) (line : List ℕ) where
       flat_map-append lines xs (x.0 ∷ []) ∙ ap (λ t. flat_map lines xs ++ t) (append-nil (lines x.0) ∙ is.printed) in
       record { printed = ap (flat_map lines) x.2 ∙ whole; passes = λ all. rw (x.2) (pushed_passes good xs x.0 all is.passes); text = is.text }
 
-  pub grown_line : (print : X → List ℕ) (xs ys : List X) (o : Option X) → pushed xs o ≡ Some ys → ((x : X) → o ≡ Some x → Made (λ x. print x ∷ []) good x line)
+  pub grown_line : (print : X → List ℕ) (xs ys : List X) (o : Option X) → pushed xs o ≡ Some ys
+      → ((x : X) → o ≡ Some x → Made (λ x. print x ∷ []) good x line)
       → Grown (map print) (list_all good) xs ys line
   grown_line print xs ys o read made =
       let x = pushed_is xs ys o read in
@@ -64,12 +65,15 @@ last_is x [] = refl
 last_is x (y ∷ ys) = ap (λ t. x ∷ t) (last_is y ys)
 
 module _ {X : Type 0} (lines : X → List (List ℕ)) (good : X → Bool) (line : List ℕ) where
-  grown_last : (front : List X) (x y : X) → Grown lines good x y line → Grown (flat_map lines) (list_all good) (front ++ x ∷ []) (front ++ y ∷ []) line
+  grown_last : (front : List X) (x y : X) → Grown lines good x y line
+      → Grown (flat_map lines) (list_all good) (front ++ x ∷ []) (front ++ y ∷ []) line
   grown_last front x y is =
       record {
         printed =
-            flat_map-append lines front (y ∷ []) ∙ ap (λ t. flat_map lines front ++ t) (append-nil (lines y) ∙ is.printed ∙ ap (λ t. t ++ line ∷ []) (sym (append-nil (lines x))))
-            ∙ sym (append_assoc (flat_map lines front) (lines x ++ []) (line ∷ [])) ∙ ap (λ t. t ++ line ∷ []) (sym (flat_map-append lines front (x ∷ [])));
+            flat_map-append lines front (y ∷ []) ∙ ap (λ t. flat_map lines front ++ t)
+            (append-nil (lines y) ∙ is.printed ∙ ap (λ t. t ++ line ∷ []) (sym (append-nil (lines x))))
+            ∙ sym (append_assoc (flat_map lines front) (lines x ++ []) (line ∷ []))
+            ∙ ap (λ t. t ++ line ∷ []) (sym (flat_map-append lines front (x ∷ [])));
         passes = λ all.
             let parts = of_append good front (x ∷ []) all in
             pushed_passes good front y parts.0 (is.passes (and_parts (good x) true parts.1).0);

@@ -1,15 +1,16 @@
 -- Whole numbers in decimal digits, both ways.
-use Rattle.std.proofs.Common.{◌≡◌, ℕ, zero, suc, ◌+◌, ◌-◌, ◌*◌, ◌<◌, ◌≤◌, ◌/◌, ◌%◌, ℤ, pos, negsuc, Bool, true, false, not, ◌&&◌, ◌||◌, ◌==◌, nat_le, List, [], ◌∷◌, ◌++◌, map, get_or, length, Option, None, Some, refl, sym, ap, subst, ◌∙◌, append_assoc, append-nil, codes, arith}
+use Rattle.std.proofs.Common.{◌≡◌, ℕ, zero, suc, ◌+◌, ◌-◌, ◌*◌, ◌<◌, ◌≤◌, ◌/◌, ◌%◌, ℤ, pos, negsuc, Bool, true, false, not, ◌&&◌, ◌==◌, nat_le, List}
+use Rattle.std.proofs.Common.{[], ◌∷◌, ◌++◌, map, get_or, Some, refl, sym, ap, ◌∙◌, append_assoc, append-nil, codes, arith}
 use Rattle.std.specs.Int.Digits.{digits_of, number_from_digits_after, AllBelowBase}
 use Rattle.std.specs.List.{list_all}
 use Rattle.std.specs.Str.{bytes_eq}
-use Rattle.std.proofs.lemmas.Bool.{and_parts, and_from, and_left, both_ways, leb-true, le-leb, eqb-true, eq-eqb, ne_eqb, not-true, not_from_false}
+use Rattle.std.proofs.lemmas.Bool.{and_parts, and_from, and_left, leb-true, le-leb, eqb-true, ne_eqb}
 use Rattle.std.proofs.lemmas.Int.Digits.{all_below_base_digits_of, first_digits_of, number_digits_of}
 use Rattle.uno_model.proofs.Options.{same_some, none_some}
 use Rattle.registry_text_model.proofs.NumeralLaws.{digits_are, one_digit, more_digits}
 use Rattle.registry_text_model.specs.Lines.{digits_text, numeral}
 use Rattle.registry_reading_model.specs.Numbers.{is_digit, read_on, magnitude_of, negated, number_of}
-use Rattle.registry_reading_model.specs.Words.{on_some, where_}
+use Rattle.registry_reading_model.specs.Words.{on_some}
 use Rattle.registry_reading_model.proofs.WordLaws.{lacks, same_word, given, allowed}
 
 -- ---- what is written is read
@@ -26,13 +27,16 @@ are_digits [] below = refl
 are_digits (d ∷ ds) below =
     let low = le-leb 48 (48 + d) (omega arith) in
     let high = le-leb (48 + d) 57 (omega (arith, below.0)) in
-    and_from (is_digit (48 + d)) (list_all is_digit (map (λ d. 48 + d) ds)) (and_from (nat_le 48 (48 + d)) (nat_le (48 + d) 57) low high) (are_digits ds below.1)
+    and_from (is_digit (48 + d)) (list_all is_digit (map (λ d. 48 + d) ds)) (and_from (nat_le 48 (48 + d)) (nat_le (48 + d) 57) low high)
+    (are_digits ds below.1)
 
 magnitude_forth : (n : ℕ) → 0 < n → magnitude_of (digits_text n) ≡ Some n
 unfolding magnitude_of
-magnitude_forth n some = rw (digits_are n some) (by_digits (digits_of 10 n) (all_below_base_digits_of 10 n (omega arith)) (first_digits_of 10 n (omega arith) some) (number_digits_of 10 n (omega arith)))
+magnitude_forth n some = rw (digits_are n some) (by_digits (digits_of 10 n) (all_below_base_digits_of 10 n (omega arith))
+    (first_digits_of 10 n (omega arith) some) (number_digits_of 10 n (omega arith)))
   where
-    by_digits : (ds : List ℕ) → AllBelowBase 10 ds → 0 < get_or ds 0 0 → number_from_digits_after 10 0 ds ≡ n → magnitude_of (map (λ d. 48 + d) ds) ≡ Some n
+    by_digits : (ds : List ℕ) → AllBelowBase 10 ds → 0 < get_or ds 0 0 → number_from_digits_after 10 0 ds ≡ n
+        → magnitude_of (map (λ d. 48 + d) ds) ≡ Some n
     by_digits [] below first is = let bad : ⊥ = omega (arith, first) in absurd bad
     by_digits (d ∷ ds) below first is =
         let digits = are_digits (d ∷ ds) below in
@@ -54,7 +58,8 @@ read_back m (c ∷ cs) some digits =
     let more = more_digits (m * 10 + (c - 48)) (omega (arith, some)) in
     let front : (m * 10 + (c - 48)) / 10 ≡ m = omega (arith, low, high) in
     let last : 48 + (m * 10 + (c - 48)) % 10 ≡ c = omega (arith, low, high) in
-    let written : digits_text (m * 10 + (c - 48)) ≡ digits_text m ++ c ∷ [] = more ∙ ap (λ k. digits_text k ++ (48 + (m * 10 + (c - 48)) % 10) ∷ []) front ∙ ap (λ k. digits_text m ++ k ∷ []) last in
+    let written : digits_text (m * 10 + (c - 48)) ≡ digits_text m ++ c ∷ [] = more
+    ∙ ap (λ k. digits_text k ++ (48 + (m * 10 + (c - 48)) % 10) ∷ []) front ∙ ap (λ k. digits_text m ++ k ∷ []) last in
     behind ∙ ap (λ t. t ++ cs) written ∙ append_assoc (digits_text m) (c ∷ []) cs
 
 -- digits only make a number larger
@@ -160,7 +165,8 @@ module _ (P : ℕ → Bool) (each : (c : ℕ) → is_digit c ≡ true → P c �
   digits_pass : (n : ℕ) → list_all P (digits_text n) ≡ true
   digits_pass zero = rw no_digits (and_from (P 48) true (each 48 refl) refl)
   digits_pass (suc n) =
-      rw (digits_are (suc n) (omega arith)) (each_passes (map (λ d. 48 + d) (digits_of 10 (suc n))) (are_digits (digits_of 10 (suc n)) (all_below_base_digits_of 10 (suc n) (omega arith))))
+      rw (digits_are (suc n) (omega arith)) (each_passes (map (λ d. 48 + d) (digits_of 10 (suc n)))
+      (are_digits (digits_of 10 (suc n)) (all_below_base_digits_of 10 (suc n) (omega arith))))
 
   pub numeral_all : (z : ℤ) → P 45 ≡ true → list_all P (numeral z) ≡ true
   unfolding numeral

@@ -1,25 +1,27 @@
 -- Parts that are read are printed as they were read: members of structs, items, constants, and the parts of old services.
-use Rattle.std.proofs.Common.{◌≡◌, ℕ, ℤ, Bool, true, false, not, ◌&&◌, List, [], ◌∷◌, ◌++◌, map, Option, None, Some, refl, sym, ap, subst, ◌∙◌, append_assoc, codes}
+use Rattle.std.proofs.Common.{◌≡◌, ℕ, Bool, true, false, List, [], ◌∷◌, ◌++◌, Some, refl, sym, ap, subst, ◌∙◌, append_assoc, codes}
 use Rattle.std.specs.Str.{bytes_eq}
-use Rattle.std.proofs.lemmas.Bool.{and_parts, and_from}
+use Rattle.std.proofs.lemmas.Bool.{and_from}
 use Rattle.uno_model.proofs.Options.{same_some, none_some}
 use Rattle.uno_model.specs.Entities.{Field, Param, Item, Constant, Part, face, subservice, property}
 use Rattle.uno_model.specs.Kinds.{Kind, name_of}
-use Rattle.uno_model.specs.Names.{is_identifier, is_entity_name}
-use Rattle.registry_text_model.specs.Lines.{spaced, numeral, way_word, field_line, item_line, constant_line, given_line, param_line, part_line, face_word, subservice_word, flag_words, joined_by_commas}
+use Rattle.uno_model.specs.Names.{is_identifier}
+use Rattle.registry_text_model.specs.Lines.{spaced, numeral, way_word, field_line, item_line, constant_line, part_line, face_word, subservice_word}
+use Rattle.registry_text_model.specs.Lines.{flag_words, joined_by_commas}
 use Rattle.registry_text_model.specs.Reading.{is_spelled}
 use Rattle.registry_reading_model.specs.Bodies.{changed_kind, field_of, param_of, item_of, constant_of, property_of, part_of}
 use Rattle.registry_reading_model.specs.Changes.{same}
 use Rattle.registry_reading_model.specs.Kinds.{kind_of_text}
 use Rattle.registry_reading_model.specs.Numbers.{number_of}
-use Rattle.registry_reading_model.specs.Words.{on_some, where_, word_of, identifier_of, entity_name_of, behind, way_of, flags_of}
+use Rattle.registry_reading_model.specs.Words.{on_some, word_of, identifier_of, entity_name_of, behind, way_of, flags_of}
 use Rattle.registry_reading_model.proofs.FlagLaws.{flags_back}
 use Rattle.registry_reading_model.proofs.GrowthLaws.{Made}
 use Rattle.registry_reading_model.proofs.KindLaws.{kind_back}
 use Rattle.registry_reading_model.proofs.NumberLaws.{number_back}
-use Rattle.registry_reading_model.proofs.PrintedLaws.{is_text, identifier_text, entity_name_text, numeral_text, flags_text, spaced_text, kind_text, way_text}
+use Rattle.registry_reading_model.proofs.PrintedLaws.{is_text, identifier_text, entity_name_text, numeral_text, flags_text, spaced_text, kind_text}
+use Rattle.registry_reading_model.proofs.PrintedLaws.{way_text}
 use Rattle.registry_reading_model.proofs.WordLaws.{given, chosen, same_word, word_back, behind_back, identifier_back, entity_name_back, way_back}
-use Rattle.registry_reading_model.proofs.WritableLaws.{is_good_field, is_good_param, is_good_constant, is_good_part}
+use Rattle.registry_reading_model.proofs.GoodParts.{is_good_field, is_good_param, is_good_constant, is_good_part}
 
 -- the text is printed of a type
 pub record Spells (text : List ℕ) (k : Kind) : Type 0 where
@@ -48,9 +50,15 @@ field_back text f read =
     let name = identifier_back text x.0 x.1 in
     let type = changed_kind_back x.0.1 k.0 k.1 in
     let split : text ≡ spaced x.0.0 (name_of k.0) = name.0 ∙ ap (λ t. spaced x.0.0 t) type.named in
-    let bytes : is_text (spaced x.0.0 (name_of k.0)) ≡ true = spaced_text x.0.0 (name_of k.0) (identifier_text x.0.0 name.1) (kind_text k.0 type.spelled) in
+    let bytes : is_text (spaced x.0.0 (name_of k.0)) ≡ true = spaced_text x.0.0 (name_of k.0) (identifier_text x.0.0 name.1)
+    (kind_text k.0 type.spelled) in
     let whole : IsField text (record { name = x.0.0; kind = k.0 }) =
-    record { split = split; good = and_from (is_identifier x.0.0) (is_spelled k.0) name.1 type.spelled; bytes = subst (λ t. is_text t ≡ true) (sym split) bytes } in
+    record {
+      split = split;
+      good = and_from (is_identifier x.0.0) (is_spelled k.0) name.1 type.spelled;
+      bytes = subst (λ t. is_text t ≡ true)
+          (sym split) bytes;
+    } in
     subst (λ g. IsField text g) (same_some k.2) whole
 
 -- `WAY NAME TYPE`
@@ -71,9 +79,15 @@ param_back text p read =
     let behind_way : x.0.1 ≡ spaced y.0.0 (name_of k.0) = name.0 ∙ ap (λ t. spaced y.0.0 t) type.named in
     let split : text ≡ spaced (way_word w.0) (spaced y.0.0 (name_of k.0)) =
     word_back text x.0 x.1 ∙ ap (λ t. spaced t x.0.1) (way_back x.0.0 w.0 w.1) ∙ ap (λ t. spaced (way_word w.0) t) behind_way in
-    let bytes = spaced_text (way_word w.0) (spaced y.0.0 (name_of k.0)) (way_text w.0) (spaced_text y.0.0 (name_of k.0) (identifier_text y.0.0 name.1) (kind_text k.0 type.spelled)) in
+    let bytes = spaced_text (way_word w.0) (spaced y.0.0 (name_of k.0)) (way_text w.0)
+    (spaced_text y.0.0 (name_of k.0) (identifier_text y.0.0 name.1) (kind_text k.0 type.spelled)) in
     let whole : IsParam text (record { way = w.0; name = y.0.0; kind = k.0 }) =
-    record { split = split; good = and_from (is_identifier y.0.0) (is_spelled k.0) name.1 type.spelled; bytes = subst (λ t. is_text t ≡ true) (sym split) bytes } in
+    record {
+      split = split;
+      good = and_from (is_identifier y.0.0) (is_spelled k.0) name.1 type.spelled;
+      bytes = subst (λ t. is_text t ≡ true)
+          (sym split) bytes;
+    } in
     subst (λ q. IsParam text q) (same_some k.2) whole
 
 -- ---- lines that begin with a word of their own
@@ -83,7 +97,8 @@ unfolding spaced
 behind_word_back word line rest read = behind_back (word ++ 32 ∷ []) line rest read ∙ append_assoc word (32 ∷ []) rest
 
 -- `member NAME TYPE`
-pub member_made : (line : List ℕ) (f : Field) → on_some (behind (codes "member ") line) (field_of same) ≡ Some f → Made (λ g. field_line g ∷ []) is_good_field f line
+pub member_made : (line : List ℕ) (f : Field) → on_some (behind (codes "member ") line) (field_of same) ≡ Some f
+    → Made (λ g. field_line g ∷ []) is_good_field f line
 member_made line f read =
     let rest = given (behind (codes "member ") line) (field_of same) f read in
     let is = field_back rest.0 f rest.2 in
@@ -95,7 +110,8 @@ member_made line f read =
     }
 
 -- `value NAME NUMBER`
-pub item_made : (line : List ℕ) (i : Item) → on_some (behind (codes "value ") line) (item_of same) ≡ Some i → Made (λ j. item_line j ∷ []) (λ j. is_identifier j.name) i line
+pub item_made : (line : List ℕ) (i : Item) → on_some (behind (codes "value ") line) (item_of same) ≡ Some i
+    → Made (λ j. item_line j ∷ []) (λ j. is_identifier j.name) i line
 unfolding item_of
 item_made line i read =
     let rest = given (behind (codes "value ") line) (item_of same) i read in
@@ -105,13 +121,15 @@ item_made line i read =
     let number = number_back x.0.1 n.0 n.1 in
     let split : line ≡ spaced (codes "value") (spaced x.0.0 (numeral n.0)) =
     behind_word_back (codes "value") line rest.0 rest.1 ∙ ap (λ t. spaced (codes "value") t) (name.0 ∙ ap (λ t. spaced x.0.0 t) number) in
-    let bytes = spaced_text (codes "value") (spaced x.0.0 (numeral n.0)) refl (spaced_text x.0.0 (numeral n.0) (identifier_text x.0.0 name.1) (numeral_text n.0)) in
+    let bytes = spaced_text (codes "value") (spaced x.0.0 (numeral n.0)) refl
+    (spaced_text x.0.0 (numeral n.0) (identifier_text x.0.0 name.1) (numeral_text n.0)) in
     let whole : Made (λ j. item_line j ∷ []) (λ j. is_identifier j.name) (record { name = x.0.0; number = n.0 }) line =
     record { printed = ap (λ t. t ∷ []) (sym split); passes = name.1; text = subst (λ t. is_text t ≡ true) (sym split) bytes } in
     subst (λ j. Made (λ j. item_line j ∷ []) (λ j. is_identifier j.name) j line) (same_some n.2) whole
 
 -- `const NAME NUMBER TYPE`
-pub constant_made : (line : List ℕ) (k : Constant) → on_some (behind (codes "const ") line) (constant_of same) ≡ Some k → Made (λ j. constant_line j ∷ []) is_good_constant k line
+pub constant_made : (line : List ℕ) (k : Constant) → on_some (behind (codes "const ") line) (constant_of same) ≡ Some k
+    → Made (λ j. constant_line j ∷ []) is_good_constant k line
 unfolding constant_of
 constant_made line c read =
     let rest = given (behind (codes "const ") line) (constant_of same) c read in
@@ -128,7 +146,8 @@ constant_made line c read =
     behind_word_back (codes "const") line rest.0 rest.1 ∙ ap (λ t. spaced (codes "const") t) (name.0 ∙ ap (λ t. spaced x.0.0 t) behind_name) in
     let bytes =
     spaced_text (codes "const") (spaced x.0.0 (spaced (numeral n.0) (name_of k.0))) refl
-    (spaced_text x.0.0 (spaced (numeral n.0) (name_of k.0)) (identifier_text x.0.0 name.1) (spaced_text (numeral n.0) (name_of k.0) (numeral_text n.0) (kind_text k.0 type.spelled))) in
+    (spaced_text x.0.0 (spaced (numeral n.0) (name_of k.0)) (identifier_text x.0.0 name.1)
+    (spaced_text (numeral n.0) (name_of k.0) (numeral_text n.0) (kind_text k.0 type.spelled))) in
     let whole : Made (λ j. constant_line j ∷ []) is_good_constant (record { name = x.0.0; number = n.0; kind = k.0 }) line =
     record {
       printed = ap (λ t. t ∷ []) (sym split);
@@ -152,21 +171,25 @@ unfolding subservice_word
 subservice_bytes true = refl
 subservice_bytes false = refl
 
-face_made : (word text : List ℕ) (optional : Bool) (p : Part) → word ≡ face_word optional → on_some (entity_name_of text) (λ name. Some (face optional name)) ≡ Some p → IsPart p (spaced word text)
+face_made : (word text : List ℕ) (optional : Bool) (p : Part) → word ≡ face_word optional
+    → on_some (entity_name_of text) (λ name. Some (face optional name)) ≡ Some p → IsPart p (spaced word text)
 face_made word text optional p is read =
     let name = given (entity_name_of text) (λ name. Some (face optional name)) p read in
     let named = entity_name_back text name.0 name.1 in
-    let split : spaced word text ≡ spaced (face_word optional) name.0 = ap (λ t. spaced t text) is ∙ ap (λ t. spaced (face_word optional) t) named.0 in
+    let split : spaced word text ≡ spaced (face_word optional) name.0 = ap (λ t. spaced t text) is
+    ∙ ap (λ t. spaced (face_word optional) t) named.0 in
     let bytes = spaced_text (face_word optional) name.0 (face_bytes optional) (entity_name_text name.0 named.1) in
     let whole : IsPart (face optional name.0) (spaced word text) =
     record { printed = ap (λ t. t ∷ []) (sym split); passes = named.1; text = subst (λ t. is_text t ≡ true) (sym split) bytes } in
     subst (λ q. IsPart q (spaced word text)) (same_some name.2) whole
 
-service_made : (word text : List ℕ) (optional : Bool) (p : Part) → word ≡ subservice_word optional → on_some (entity_name_of text) (λ name. Some (subservice optional name)) ≡ Some p → IsPart p (spaced word text)
+service_made : (word text : List ℕ) (optional : Bool) (p : Part) → word ≡ subservice_word optional
+    → on_some (entity_name_of text) (λ name. Some (subservice optional name)) ≡ Some p → IsPart p (spaced word text)
 service_made word text optional p is read =
     let name = given (entity_name_of text) (λ name. Some (subservice optional name)) p read in
     let named = entity_name_back text name.0 name.1 in
-    let split : spaced word text ≡ spaced (subservice_word optional) name.0 = ap (λ t. spaced t text) is ∙ ap (λ t. spaced (subservice_word optional) t) named.0 in
+    let split : spaced word text ≡ spaced (subservice_word optional) name.0 = ap (λ t. spaced t text) is
+    ∙ ap (λ t. spaced (subservice_word optional) t) named.0 in
     let bytes = spaced_text (subservice_word optional) name.0 (subservice_bytes optional) (entity_name_text name.0 named.1) in
     let whole : IsPart (subservice optional name.0) (spaced word text) =
     record { printed = ap (λ t. t ∷ []) (sym split); passes = named.1; text = subst (λ t. is_text t ≡ true) (sym split) bytes } in
@@ -184,12 +207,14 @@ property_made text p read =
     let flags = flags_back y.0.0 f.0 f.1 in
     let type = changed_kind_back y.0.1 k.0 k.1 in
     let written = joined_by_commas (flag_words f.0) in
-    let behind_name : x.0.1 ≡ spaced written (name_of k.0) = word_back x.0.1 y.0 y.1 ∙ ap (λ t. spaced t y.0.1) flags ∙ ap (λ t. spaced written t) type.named in
+    let behind_name : x.0.1 ≡ spaced written (name_of k.0) = word_back x.0.1 y.0 y.1 ∙ ap (λ t. spaced t y.0.1) flags
+    ∙ ap (λ t. spaced written t) type.named in
     let split : spaced (codes "property") text ≡ spaced (codes "property") (spaced x.0.0 (spaced written (name_of k.0))) =
     ap (λ t. spaced (codes "property") t) (name.0 ∙ ap (λ t. spaced x.0.0 t) behind_name) in
     let bytes =
     spaced_text (codes "property") (spaced x.0.0 (spaced written (name_of k.0))) refl
-    (spaced_text x.0.0 (spaced written (name_of k.0)) (identifier_text x.0.0 name.1) (spaced_text written (name_of k.0) (flags_text f.0) (kind_text k.0 type.spelled))) in
+    (spaced_text x.0.0 (spaced written (name_of k.0)) (identifier_text x.0.0 name.1)
+    (spaced_text written (name_of k.0) (flags_text f.0) (kind_text k.0 type.spelled))) in
     let whole : IsPart (property x.0.0 f.0 k.0) (spaced (codes "property") text) =
     record {
       printed = ap (λ t. t ∷ []) (sym split);
@@ -205,4 +230,5 @@ part_made word text p read =
     chosen (bytes_eq word (codes "optinterface")) _ _ p read (λ e r. face_made word text true p (same_word word (codes "optinterface") e) r) (λ read.
     chosen (bytes_eq word (codes "service")) _ _ p read (λ e r. service_made word text false p (same_word word (codes "service") e) r) (λ read.
     chosen (bytes_eq word (codes "optservice")) _ _ p read (λ e r. service_made word text true p (same_word word (codes "optservice") e) r) (λ read.
-    chosen (bytes_eq word (codes "property")) _ _ p read (λ e r. subst (λ w. IsPart p (spaced w text)) (sym (same_word word (codes "property") e)) (property_made text p r)) (λ read. absurd (none_some read))))))
+    chosen (bytes_eq word (codes "property")) _ _ p read (λ e r. subst (λ w. IsPart p (spaced w text)) (sym (same_word word (codes "property") e))
+    (property_made text p r)) (λ read. absurd (none_some read))))))

@@ -1,8 +1,7 @@
 -- What is printed is ASCII without line feeds.
-use Rattle.std.proofs.Common.{◌≡◌, ℕ, ℤ, ◌+◌, ◌<◌, ◌≤◌, Bool, true, false, not, ◌&&◌, ◌||◌, ◌==◌, List, [], ◌∷◌, ◌++◌, refl, codes, arith}
+use Rattle.std.proofs.Common.{◌≡◌, ℕ, ℤ, Bool, true, false, not, ◌&&◌, ◌==◌, List, ◌∷◌, refl, arith}
 use Rattle.std.specs.Prelude.{nat_lt}
 use Rattle.std.specs.List.{list_all}
-use Rattle.std.proofs.lemmas.Bool.{and_from}
 use Rattle.uno_model.proofs.AllLaws.{all_append}
 use Rattle.uno_model.specs.Kinds.{Kind, name_of}
 use Rattle.uno_model.specs.Kinds as kd

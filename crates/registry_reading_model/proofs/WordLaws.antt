@@ -1,6 +1,6 @@
 -- The words of a line, both ways.
-use Rattle.std.proofs.Common.{◌≡◌, ℕ, ◌+◌, ◌≤◌, Bool, true, false, not, ◌&&◌, ◌||◌, ◌==◌, List, [], ◌∷◌, ◌++◌, length, take, drop, Option, None, Some, if◌then◌else◌, refl, sym, ap, subst, ◌∙◌, codes, arith}
-use Rattle.std.specs.Prelude.{nat_lt}
+use Rattle.std.proofs.Common.{◌≡◌, ℕ, Bool, true, false, not, ◌&&◌, ◌||◌, ◌==◌, List, [], ◌∷◌, ◌++◌, length, take, drop, Option, None, Some}
+use Rattle.std.proofs.Common.{if◌then◌else◌, refl, sym, ap, subst, ◌∙◌, codes, arith}
 use Rattle.std.specs.List.{list_all, list_any}
 use Rattle.std.specs.Str.{bytes_eq}
 use Rattle.std.proofs.lemmas.Bool.{and_parts, and_from, both_ways, eqb-true, eq-eqb, not-true, not_from_false}
@@ -12,7 +12,8 @@ use Rattle.uno_model.specs.Names.{begins_identifier, goes_on_identifier, is_iden
 use Rattle.uno_model.specs.declared.way.Way.{Way}
 use Rattle.uno_model.specs.declared.way.Way.TheVariants as way
 use Rattle.registry_text_model.specs.Lines.{spaced, way_word, access_word}
-use Rattle.registry_reading_model.specs.Words.{on_some, where_, in_front, split_at, word_of, identifier_of, behind, entity_name_of, identifier_alone, way_of, access_of}
+use Rattle.registry_reading_model.specs.Words.{on_some, where_, split_at, word_of, identifier_of, behind, entity_name_of, identifier_alone, way_of}
+use Rattle.registry_reading_model.specs.Words.{access_of}
 
 -- ---- options and tests that gave something
 
@@ -55,7 +56,8 @@ split_back mark (c ∷ cs) x read = by_test (c == mark) refl (split_at mark cs) 
     Is : List ℕ × List ℕ → List ℕ → Type 0
     Is y text = (text ≡ y.0 ++ mark ∷ y.1) × (lacks mark y.0 ≡ true)
 
-    by_test : (t : Bool) → (c == mark) ≡ t → (o : Option (List ℕ × List ℕ)) → split_at mark cs ≡ o → ((y : List ℕ × List ℕ) → split_at mark cs ≡ Some y → Is y cs)
+    by_test : (t : Bool) → (c == mark) ≡ t → (o : Option (List ℕ × List ℕ)) → split_at mark cs ≡ o
+        → ((y : List ℕ × List ℕ) → split_at mark cs ≡ Some y → Is y cs)
         → split_at mark (c ∷ cs) ≡ Some x → Is x (c ∷ cs)
     by_test true here o is inner read =
         let e : ([], cs) ≡ x = same_some (rw here at read) in
@@ -65,7 +67,11 @@ split_back mark (c ∷ cs) x read = by_test (c == mark) refl (split_at mark cs) 
     by_test false other (Some y) is inner read =
         let e : (c ∷ y.0, y.1) ≡ x = same_some (rw (other, is) at read) in
         let behind = inner y is in
-        subst (λ z. Is z (c ∷ cs)) e (ap (λ t. c ∷ t) behind.0, and_from (not (c == mark)) (lacks mark y.0) (not_from_false (c == mark) other) behind.1)
+        subst (λ z. Is z (c ∷ cs)) e (
+          ap (λ t. c ∷ t) behind.0,
+          and_from (not (c == mark)) (lacks mark y.0)
+              (not_from_false (c == mark) other) behind.1,
+        )
 
 pub none_split : (mark : ℕ) (text : List ℕ) → split_at mark text ≡ None → lacks mark text ≡ true
 unfolding split_at
@@ -103,7 +109,8 @@ behind_back word text b read = by_test (bytes_eq (take (length word) text) word)
     by_test false other read = absurd (none_some (rw other at read))
     by_test true front read =
         let e : drop (length word) text ≡ b = same_some (rw front at read) in
-        sym (take-append-drop (length word) text) ∙ ap (λ t. t ++ drop (length word) text) (same_word (take (length word) text) word front) ∙ ap (λ t. word ++ t) e
+        sym (take-append-drop (length word) text) ∙ ap (λ t. t ++ drop (length word) text) (same_word (take (length word) text) word front)
+        ∙ ap (λ t. word ++ t) e
 
 -- ---- names
 
@@ -139,7 +146,8 @@ module _ (P : ℕ → Bool) (each : (c : ℕ) → goes_on_identifier c ≡ true 
   all_in_parts [] point all = refl
   all_in_parts (c ∷ cs) point all = by_test (c == 46) refl (parts_of cs) refl (all_in_parts cs point) all
     where
-      by_test : (t : Bool) → (c == 46) ≡ t → (parts : List (List ℕ)) → parts_of cs ≡ parts → (list_all (list_all goes_on_identifier) (parts_of cs) ≡ true → list_all P cs ≡ true)
+      by_test : (t : Bool) → (c == 46) ≡ t → (parts : List (List ℕ)) → parts_of cs ≡ parts
+          → (list_all (list_all goes_on_identifier) (parts_of cs) ≡ true → list_all P cs ≡ true)
           → list_all (list_all goes_on_identifier) (parts_of (c ∷ cs)) ≡ true → list_all P (c ∷ cs) ≡ true
       by_test true here parts is inner all =
           let first : P c ≡ true = ap P (eqb-true c 46 here) ∙ point in
@@ -149,10 +157,12 @@ module _ (P : ℕ → Bool) (each : (c : ℕ) → goes_on_identifier c ≡ true 
           let here = and_parts (goes_on_identifier c) true (and_parts (goes_on_identifier c && true) true front).0 in
           and_from (P c) (list_all P cs) (each c here.0) (inner (rw is refl))
       by_test false other (part ∷ parts) is inner all =
-          let front : ((goes_on_identifier c && list_all goes_on_identifier part) && list_all (list_all goes_on_identifier) parts) ≡ true = rw (other, is) at all in
+          let front : ((goes_on_identifier c && list_all goes_on_identifier part) && list_all (list_all goes_on_identifier) parts) ≡ true = rw
+          (other, is) at all in
           let both = and_parts (goes_on_identifier c && list_all goes_on_identifier part) (list_all (list_all goes_on_identifier) parts) front in
           let here = and_parts (goes_on_identifier c) (list_all goes_on_identifier part) both.0 in
-          and_from (P c) (list_all P cs) (each c here.0) (inner (rw is (and_from (list_all goes_on_identifier part) (list_all (list_all goes_on_identifier) parts) here.1 both.1)))
+          and_from (P c) (list_all P cs) (each c here.0) (inner
+          (rw is (and_from (list_all goes_on_identifier part) (list_all (list_all goes_on_identifier) parts) here.1 both.1)))
 
   pub entity_name_all : (w : List ℕ) → P 46 ≡ true → is_entity_name w ≡ true → list_all P w ≡ true
   entity_name_all w point is = all_in_parts w point (parts_go_on (parts_of w) is)
@@ -208,7 +218,8 @@ access_forth true = refl
 access_forth false = refl
 
 -- the first of two that was taken
-pub chosen : {Y : Type 0} (b : Bool) (x y : Option Y) (z : Y) {P : Type 0} → (if b then x else y) ≡ Some z → (b ≡ true → x ≡ Some z → P) → (y ≡ Some z → P) → P
+pub chosen : {Y : Type 0} (b : Bool) (x y : Option Y) (z : Y) {P : Type 0} → (if b then x else y) ≡ Some z → (b ≡ true → x ≡ Some z → P)
+    → (y ≡ Some z → P) → P
 chosen true x y z read here behind = here refl read
 chosen false x y z read here behind = behind read
 
@@ -217,10 +228,12 @@ unfolding way_of way_word
 way_back word w read =
     chosen (bytes_eq word (codes "in")) _ _ w read (λ e r. same_word word (codes "in") e ∙ ap way_word (same_some r)) (λ read.
     chosen (bytes_eq word (codes "out")) _ _ w read (λ e r. same_word word (codes "out") e ∙ ap way_word (same_some r)) (λ read.
-    chosen (bytes_eq word (codes "inout")) _ _ w read (λ e r. same_word word (codes "inout") e ∙ ap way_word (same_some r)) (λ read. absurd (none_some read))))
+    chosen (bytes_eq word (codes "inout")) _ _ w read (λ e r. same_word word (codes "inout") e ∙ ap way_word (same_some r))
+    (λ read. absurd (none_some read))))
 
 pub access_back : (word : List ℕ) (read_only : Bool) → access_of word ≡ Some read_only → word ≡ access_word read_only
 unfolding access_of access_word
 access_back word read_only read =
     chosen (bytes_eq word (codes "ro")) _ _ read_only read (λ e r. same_word word (codes "ro") e ∙ ap access_word (same_some r)) (λ read.
-    chosen (bytes_eq word (codes "rw")) _ _ read_only read (λ e r. same_word word (codes "rw") e ∙ ap access_word (same_some r)) (λ read. absurd (none_some read)))
+    chosen (bytes_eq word (codes "rw")) _ _ read_only read (λ e r. same_word word (codes "rw") e ∙ ap access_word (same_some r))
+    (λ read. absurd (none_some read)))
