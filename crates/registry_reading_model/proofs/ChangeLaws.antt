@@ -3,7 +3,7 @@ use Rattle.std.proofs.Common.{◌≡◌, ℕ, Bool, true, false, not, ◌||◌, 
 use Rattle.std.proofs.Common.{if◌then◌else◌, refl, sym, ap, codes}
 use Rattle.std.proofs.lemmas.List.{map_push}
 use Rattle.std.specs.Str.{bytes_eq}
-use Rattle.uno_model.specs.Entities.{Field, Base, Member, attribute, method, Constructor}
+use Rattle.uno_model.specs.Entities.{Field, Base, Member, Constructor}
 use Rattle.uno_model.specs.Entities.{Body, interface, struct, exception, enum, constants, typedef, new_service, old_service, new_singleton}
 use Rattle.uno_model.specs.Entities.{old_singleton, Entity}
 use Rattle.registry_reading_model.proofs.OptionMaps.{on_some_changed, on_changed, where_changed, choice_changed, pushed_changed, last_changed_changed}
