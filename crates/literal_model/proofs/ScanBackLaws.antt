@@ -8,7 +8,7 @@ use Rattle.std.specs.Char.{is_ascii_digit}
 use Rattle.std.specs.Fmt.{decimal, signed_decimal}
 use Rattle.std.specs.List.{list_all, flat_map}
 use Rattle.std.specs.Str.{all_ascii_digits}
-use Rattle.literal_model.proofs.TypeTextLaws.{read_name}
+use Rattle.uno_model.proofs.TypeTextLaws.{read_name}
 use Rattle.uno_model.specs.Entities.{Entity}
 use Rattle.uno_model.specs.Kinds.{Kind, name_of}
 use Rattle.literal_model.specs.Literals.{escaped, number, word}

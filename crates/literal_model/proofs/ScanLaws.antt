@@ -6,7 +6,7 @@ use Rattle.std.proofs.lemmas.Fmt.{decimal_digit, decimal_step}
 use Rattle.std.proofs.lemmas.List.{append_assoc}
 use Rattle.std.specs.Fmt.{decimal, signed_decimal}
 use Rattle.std.specs.List.{list_all, flat_map}
-use Rattle.literal_model.proofs.TypeTextLaws.{text_finds}
+use Rattle.uno_model.proofs.TypeTextLaws.{text_finds}
 use Rattle.literal_model.proofs.TypedLaws.{HasType, Typed, bare, ok_holds, ok_step}
 use Rattle.uno_model.specs.Entities.{Entity}
 use Rattle.uno_model.specs.Kinds.{Kind, name_of}

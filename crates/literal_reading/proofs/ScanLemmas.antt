@@ -7,7 +7,7 @@ use Rattle.std.proofs.lemmas.Str.{IsUtf8-from_ascii}
 use Rattle.std.specs.List.{list_all}
 use Rattle.std.specs.Str.{IsUtf8}
 use Rattle.uno_base.specs.declared.no_memory.NoMemory.{NoMemory}
-use Rattle.literal_model.proofs.TypeTextLaws.{same_found}
+use Rattle.uno_model.proofs.TypeTextLaws.{same_found}
 use Rattle.uno_model.specs.Entities.{Entity}
 use Rattle.uno_model.specs.Kinds.{Kind}
 use Rattle.uno_model.specs.NamedTypes.{IsNamed, type_of_text}

@@ -4,13 +4,13 @@ use Rattle.uno_model.specs.Reaches.{is_base_of}
 use Rattle.uno_model.specs.Entities.{Entity, Method, method, interface, exception}
 use Rattle.uno_model.specs.Functions.{Function, call, is_met, visit_all, met_within}
 use Rattle.uno_model.specs.Kinds as kd
-use Rattle.uno_model.specs.NamedTypes.{simple_of}
+use Rattle.uno_model.specs.NamedTypes.{simple_of, kind_within, type_of_text}
 use Rattle.uno_model.specs.Reaches.{reaches_within}
 use Rattle.uno_model.specs.Registry.{find_entity, members_within}
 use Rattle.uno_model.specs.Values.{none, more}
 use Rattle.uno_model.specs.Values as plain
 use Rattle.uno_model.specs.declared.way.Way.TheVariants.{Into, Out, Both}
-use Rattle.urp_model.specs.NamedKinds.{class_among, formed_named, kind_named}
+use Rattle.urp_model.specs.NamedKinds.{class_among, kind_named}
 use Rattle.urp_model.specs.Parts.{byte_at, number_at, slot_at}
 use Rattle.urp_model.specs.Reading.{members_at, tuple_at, value_step, value_at}
 use Rattle.urp_model.specs.ReadingNames.{held_kind_at, kind_behind, kind_at}
@@ -150,11 +150,11 @@ f_may_raise_d = refl
 
 -- types in slots
 x_in_a_slot : kind_at tiny (hears x).tables.types (22 ∷ 0 ∷ 1 ∷ []) ≡ Ok (x, (hears x).tables.types, [])
-unfolding kind_at byte_at class_among kind_behind held_kind_at slot_at number_at meaning kind_named formed_named simple_of find_entity
+unfolding kind_at byte_at class_among kind_behind held_kind_at slot_at number_at meaning kind_named type_of_text kind_within simple_of find_entity
 x_in_a_slot = refl
 
 d_in_a_slot : kind_at tiny (hears x).tables.types (19 ∷ 0 ∷ 0 ∷ 1 ∷ []) ≡ Ok (d, (hears x).tables.types, 1 ∷ [])
-unfolding kind_at byte_at class_among kind_behind held_kind_at slot_at number_at meaning kind_named formed_named simple_of find_entity
+unfolding kind_at byte_at class_among kind_behind held_kind_at slot_at number_at meaning kind_named type_of_text kind_within simple_of find_entity
 d_in_a_slot = refl
 
 -- ---- requests

@@ -28,25 +28,25 @@ hearing heard s = record { tables = s; last = heard.last }
 abbrev pub has : ℕ → ℕ → Bool
 has flag flags = not (bit_and flags flag == 0)
 
--- the flags of a request: its type, object or thread is new; its function has two bytes; more flags follow
+-- the flags of a request: its type (NEWTYPE), object (NEWOID) or thread (NEWTID) is new; its function has two bytes (FUNCTIONID16); more flags follow (MOREFLAGS)
 abbrev pub new_type_flag : ℕ
-new_type_flag = 32
+new_type_flag = 0x20
 
 abbrev pub new_oid_flag : ℕ
-new_oid_flag = 16
+new_oid_flag = 0x10
 
 abbrev pub new_tid_flag : ℕ
-new_tid_flag = 8
+new_tid_flag = 0x08
 
 abbrev pub wide_flag : ℕ
-wide_flag = 4
+wide_flag = 0x04
 
 abbrev pub more_flag : ℕ
-more_flag = 1
+more_flag = 0x01
 
--- the flag of a reply that says that it is an exception
+-- the flag of a reply that says that it is an exception (EXCEPTION)
 abbrev pub exception_flag : ℕ
-exception_flag = 32
+exception_flag = 0x20
 
 -- how a request begins: its function, whether it is sent as one that has an answer though it is one-way, and which parts of its header are new
 pub record Opening : Type 0 where

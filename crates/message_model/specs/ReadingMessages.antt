@@ -26,12 +26,12 @@ unfoldable pub function_at : Bool → List ℕ → Result (ℕ × List ℕ) Faul
 function_at true bytes = number_at w16 bytes
 function_at false bytes = byte_at bytes
 
--- the second byte of flags, of which the two high bits say together that an answer comes; no such byte says that none does
+-- the second byte of flags, of which the two high bits (MUSTREPLY, SYNCHRONOUS) say together that an answer comes; no such byte says that none does
 unfoldable pub answered_at : Bool → List ℕ → Result (Bool × List ℕ) Fault
 answered_at false bytes = Ok (false, bytes)
 answered_at true bytes = do
   flags ← byte_at bytes
-  if nat_lt flags.0 64 then Ok (false, flags.1) else (if nat_lt flags.0 192 then Err (Bad BadFlags) else Ok (true, flags.1))
+  if nat_lt flags.0 0x40 then Ok (false, flags.1) else (if nat_lt flags.0 0xC0 then Err (Bad BadFlags) else Ok (true, flags.1))
 
 -- behind the flags of a long header: whether an answer comes, and the function
 unfoldable pub long_opening_at : ℕ → List ℕ → Result (Opening × List ℕ) Fault
@@ -53,16 +53,17 @@ long_opening_at flags bytes = do
 abbrev pub short_opening : ℕ → Opening
 short_opening function = record { function = function; answered = false; new_type = false; new_oid = false; new_tid = false }
 
--- a short header of two bytes, which are 16,384 and the function
+-- a short header of two bytes, which are 0x4000 and the function
 unfoldable pub two_byte_opening_at : ℕ → List ℕ → Result (Opening × List ℕ) Fault
 two_byte_opening_at first bytes = do
   second ← byte_at bytes
-  Ok (short_opening (from_be_bytes w16 (first ∷ second.0 ∷ []) - 16384), second.1)
+  Ok (short_opening (from_be_bytes w16 (first ∷ second.0 ∷ []) - 0x4000), second.1)
 
--- a request begins with its function, where the byte is below 64; with two bytes, where it is below 128; with flags, where its two high bits are set
+-- a request begins with its function, where the byte is below 0x40; with two bytes, where it is below 0x80; with flags, where its two high bits (LONGHEADER, REQUEST)
+-- are set
 unfoldable pub opening_at : ℕ → List ℕ → Result (Opening × List ℕ) Fault
 opening_at first bytes =
-    if nat_lt first 64 then Ok (short_opening first, bytes) else (if nat_lt first 128 then two_byte_opening_at first bytes else long_opening_at first bytes)
+    if nat_lt first 0x40 then Ok (short_opening first, bytes) else (if nat_lt first 0x80 then two_byte_opening_at first bytes else long_opening_at first bytes)
 
 -- ---- targets
 
@@ -183,9 +184,9 @@ reply_at reg waits heard flags bytes = do
 
 -- ---- messages
 
--- whether a first byte is that of a reply: its highest bit is set, and the next one is not
+-- whether a first byte is that of a reply: its highest bit (LONGHEADER) is set, and the next one (REQUEST) is not
 abbrev pub opens_reply : ℕ → Bool
-opens_reply first = not (nat_lt first 128) && nat_lt first 192
+opens_reply first = not (nat_lt first 0x80) && nat_lt first 0xC0
 
 -- a message
 unfoldable pub message_at : List Entity → Waits → Heard → List ℕ → Result (Message × Heard × List ℕ) Fault

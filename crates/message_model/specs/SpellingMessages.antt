@@ -23,18 +23,18 @@ SpellsFunction false function b = b ≡ function ∷ []
 
 -- the second byte of flags has both of its two high bits where an answer comes, and none where not; where there is no such byte, none comes
 abbrev pub SpellsAnswered : Bool → Bool → List ℕ → Type 0
-SpellsAnswered true answered b = (flags : ℕ) × (b ≡ flags ∷ []) × (((flags < 64) × (answered ≡ false)) ⊎ ((192 ≤ flags) × (answered ≡ true)))
+SpellsAnswered true answered b = (flags : ℕ) × (b ≡ flags ∷ []) × (((flags < 0x40) × (answered ≡ false)) ⊎ ((0xC0 ≤ flags) × (answered ≡ true)))
 SpellsAnswered false answered b = (b ≡ []) × (answered ≡ false)
 
 -- how a request begins
 pub data SpellsOpening (o : Opening) (b : List ℕ) : Type 0 where
   -- the function in one byte below 64
   short : (function : ℕ) → function < 64 → o ≡ short_opening function → b ≡ function ∷ [] → SpellsOpening o b
-  -- two bytes, which are 16,384 and the function
-  two_bytes : (first second function : ℕ) → 64 ≤ first → first < 128 → function + 16384 ≡ from_be_bytes w16 (first ∷ second ∷ []) → o ≡ short_opening function
+  -- two bytes, which are 0x4000 and the function
+  two_bytes : (first second function : ℕ) → 0x40 ≤ first → first < 0x80 → function + 0x4000 ≡ from_be_bytes w16 (first ∷ second ∷ []) → o ≡ short_opening function
       → b ≡ first ∷ second ∷ [] → SpellsOpening o b
   -- flags, of which the two highest are set and say what is new, and the function
-  long : (flags : ℕ) (p q : List ℕ) → 192 ≤ flags → b ≡ flags ∷ (p ++ q) → SpellsAnswered (has more_flag flags) o.answered p → SpellsFunction (has wide_flag flags) o.function q
+  long : (flags : ℕ) (p q : List ℕ) → 0xC0 ≤ flags → b ≡ flags ∷ (p ++ q) → SpellsAnswered (has more_flag flags) o.answered p → SpellsFunction (has wide_flag flags) o.function q
       → o.new_type ≡ has new_type_flag flags → o.new_oid ≡ has new_oid_flag flags → o.new_tid ≡ has new_tid_flag flags → SpellsOpening o b
 
 -- a part of a header stands in the bytes where it is new, and is the last one of its kind where not
@@ -102,7 +102,7 @@ pub record SpellsReply (reg : List Entity) (waits : Waits) (heard : Heard) (m : 
   pub p : List ℕ
   pub q : List ℕ
   pub whole : b ≡ flags ∷ (p ++ q)
-  pub marked : (128 ≤ flags) × (flags < 192)
+  pub marked : (0x80 ≤ flags) × (flags < 0xC0)
   pub thread : SpellsNewOrLast (has new_tid_flag flags) heard.last.tid SpellsTid heard.tables.tids tid p tids
   pub waited : waiting tid waits ≡ Some call
   pub called : numbered reg call.face call.function ≡ Some function

@@ -61,21 +61,21 @@ is_long h last = is_new_face h.face last.kind || (is_new h.oid last.oid || (is_n
 -- the flags of a long header
 abbrev pub long_flags : Heading → Last → ℕ
 long_flags h last =
-    192 + (from_bool (is_new_face h.face last.kind) * new_type_flag + (from_bool (is_new h.oid last.oid) * new_oid_flag + (from_bool (is_new h.tid last.tid) * new_tid_flag
+    0xC0 + (from_bool (is_new_face h.face last.kind) * new_type_flag + (from_bool (is_new h.oid last.oid) * new_oid_flag + (from_bool (is_new h.tid last.tid) * new_tid_flag
     + (from_bool (nat_lt 255 h.function) * wide_flag + from_bool h.answered * more_flag))))
 
 -- a function in two bytes where it is above 255, and else in one
 abbrev pub function_bytes : ℕ → List ℕ
 function_bytes function = if nat_lt 255 function then to_be_bytes w16 function else function ∷ []
 
--- a short header: the function in one byte where it is below 64, and else 16,384 and the function in two
+-- a short header: the function in one byte where it is below 64, and else 0x4000 and the function in two
 abbrev pub short_bytes : ℕ → List ℕ
-short_bytes function = if nat_lt function 64 then function ∷ [] else to_be_bytes w16 (16384 + function)
+short_bytes function = if nat_lt function 64 then function ∷ [] else to_be_bytes w16 (0x4000 + function)
 
 -- how a request begins: flags, the two high bits where an answer comes to a one-way call, and the function; or a short header
 unfoldable pub opening_spelling : Heading → Last → List ℕ
 opening_spelling h last =
-    if is_long h last then long_flags h last ∷ (if_new h.answered (192 ∷ []) ++ function_bytes h.function) else short_bytes h.function
+    if is_long h last then long_flags h last ∷ (if_new h.answered (0xC0 ∷ []) ++ function_bytes h.function) else short_bytes h.function
 
 -- the type, the object and the thread of a request, where they are new
 unfoldable pub target_spelling : Heading → Spoken → List ℕ
@@ -119,7 +119,7 @@ is_raised (raised k v) = true
 
 -- the flags of a reply
 abbrev pub reply_flags : Bool → Bool → ℕ
-reply_flags with_exception new_tid = 128 + (from_bool with_exception * exception_flag + from_bool new_tid * new_tid_flag)
+reply_flags with_exception new_tid = 0x80 + (from_bool with_exception * exception_flag + from_bool new_tid * new_tid_flag)
 
 -- what is held after the thread of a reply
 abbrev pub after_thread : List ℕ → Spoken → HeldNames

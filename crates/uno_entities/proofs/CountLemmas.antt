@@ -49,7 +49,7 @@ own_counted owner body = refl
 -- ---- marks at the names of a list
 
 -- each entity whose name was met
-abbrev met_marks : List (List ℕ) → List Entity → List Bool
+abbrev pub met_marks : List (List ℕ) → List Entity → List Bool
 met_marks met reg = map (λ e. is_met e.name met) reg
 
 none_marked : (es : List Entity) → marked_functions (met_marks [] es) es ≡ 0
@@ -65,12 +65,12 @@ first_mark true marks e es = refl
 first_mark false marks e es = omega arith
 
 -- the name behind others is met too
-met_last : (n name : List ℕ) (met : List (List ℕ)) → is_met n (met ++ name ∷ []) ≡ (is_met n met || (bytes_eq n name || false))
+pub met_last : (n name : List ℕ) (met : List (List ℕ)) → is_met n (met ++ name ∷ []) ≡ (is_met n met || (bytes_eq n name || false))
 unfolding is_met
 met_last n name met = list_any-append (bytes_eq n) met (name ∷ [])
 
 -- no other entity has the first one's name
-no_twin : (e : Entity) (es : List Entity) → IsRising (e ∷ es) → find_entity e.name es ≡ None
+pub no_twin : (e : Entity) (es : List Entity) → IsRising (e ∷ es) → find_entity e.name es ≡ None
 no_twin e es rising = by_found (find_entity e.name es) refl
   where
     by_found : (o : Option Entity) → find_entity e.name es ≡ o → find_entity e.name es ≡ None
@@ -150,7 +150,7 @@ same_mark false false both = refl
 same_mark true false both = let bad : Some false ≡ Some true = both.0 refl in cc
 same_mark false true both = let bad : Some false ≡ Some true = both.1 refl in cc
 
-same_marks : (a b : List Bool) → length a ≡ length b → ((i : ℕ) → i < length a → Marked a i ↔ Marked b i) → a ≡ b
+pub same_marks : (a b : List Bool) → length a ≡ length b → ((i : ℕ) → i < length a → Marked a i ↔ Marked b i) → a ≡ b
 same_marks [] [] long each = refl
 same_marks [] (y ∷ ys) long each = absurd (omega (arith, long))
 same_marks (x ∷ xs) [] long each = absurd (omega (arith, long))
@@ -160,7 +160,7 @@ same_marks (x ∷ xs) (y ∷ ys) long each =
     ap (λ b. b ∷ xs) first ∙ ap (λ l. y ∷ l) others
 
 -- a place is marked by the names exactly where they have its entity's
-met_mark_at : (reg : List Entity) (met : List (List ℕ)) (i : ℕ) (e : Entity) → slice_get reg i ≡ Some e → Marked (met_marks met reg) i ↔ (is_met e.name met ≡ true)
+pub met_mark_at : (reg : List Entity) (met : List (List ℕ)) (i : ℕ) (e : Entity) → slice_get reg i ≡ Some e → Marked (met_marks met reg) i ↔ (is_met e.name met ≡ true)
 met_mark_at reg met i e at =
     let here : slice_get (met_marks met reg) i ≡ Some (is_met e.name met) = slice_get-map (λ (d : Entity). is_met d.name met) reg i ∙ ap (option_map (λ (d : Entity). is_met d.name met)) at in
     (λ m. of_some (is_met e.name met) true (sym here ∙ m), λ is. here ∙ ap (λ b. Some b) is)
@@ -219,7 +219,7 @@ fewer_met met more (e ∷ es) each =
     low true true so = omega arith
     low true false so = let bad : false ≡ true = so refl in cc
 
-led_on : (reg : List Entity) (a b c : List ℕ) → Leads (stands_on reg) a b → Leads (stands_on reg) b c → Leads (stands_on reg) a c
+pub led_on : (reg : List Entity) (a b c : List ℕ) → Leads (stands_on reg) a b → Leads (stands_on reg) b c → Leads (stands_on reg) a c
 led_on reg a b c (step from to has) more = on from to c has more
 led_on reg a b c (on from next to has further) more = on from next c has (led_on reg next to c further more)
 

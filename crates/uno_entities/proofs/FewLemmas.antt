@@ -53,7 +53,7 @@ few_everywhere reg count all each e has =
     each there.0 (omega (arith, all, slice_get_within reg there.0 e there.1)) e there.1
 
 -- where each entity has few, each place has
-few_at_each : (reg : List plain.Entity) → HasFewFunctions reg → (place : ℕ) → FewAt reg place
+pub few_at_each : (reg : List plain.Entity) → HasFewFunctions reg → (place : ℕ) → FewAt reg place
 few_at_each reg all place e at = all e (at_contained reg place e at)
 
 -- where one that is not put off has many, not each has few
@@ -116,13 +116,13 @@ few_below : (reg : List plain.Entity) (name : List ℕ) (marks : List Bool) → 
 few_below reg name marks rising none of_name low i mark f at = omega (arith, low, fewer_below reg name f.name rising none ((of_name.marked i f at).0 mark))
 
 -- what is joined is as long as the second list, and marks nothing else
-joined_long : (marks known : List Bool) → length (marked_in_either marks known) ≡ length known
+pub joined_long : (marks known : List Bool) → length (marked_in_either marks known) ≡ length known
 unfolding marked_in_either
 joined_long [] known = refl
 joined_long (x ∷ xs) [] = refl
 joined_long (x ∷ xs) (k ∷ ks) = omega (arith, joined_long xs ks)
 
-joined_marked : (marks known : List Bool) (i : ℕ) → Marked (marked_in_either marks known) i → Marked marks i ⊎ Marked known i
+pub joined_marked : (marks known : List Bool) (i : ℕ) → Marked (marked_in_either marks known) i → Marked marks i ⊎ Marked known i
 unfolding marked_in_either
 joined_marked [] known i m = inr m
 joined_marked (x ∷ xs) [] i m = inr m

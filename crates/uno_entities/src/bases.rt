@@ -141,7 +141,7 @@ pub fn bases_of(alloc: Global, entities: &[Entity], place: usize) -> Result<Vec<
 }
 
 /// Marks at all entities on which another one stands. What is marked is a help to choose an order: no promise rests on it.
-pub(crate) fn all_bases(alloc: Global, entities: &[Entity]) -> Result<Vec<bool>, NoMemory>
+pub fn all_bases(alloc: Global, entities: &[Entity]) -> Result<Vec<bool>, NoMemory>
     requires { IsRising (entities_of entities.now) }
     ensures { IfOk result (λ marks. length marks.items ≡ length entities.now) }
 {

@@ -87,7 +87,7 @@ fn waits_or_has_few(
 }
 
 /// Whether the entity at a place has few functions, searched only where it is not known.
-fn has_few_functions(
+pub fn has_few_functions(
     alloc: Global,
     entities: &[Entity],
     place: usize,
@@ -140,7 +140,7 @@ fn few_are_marked(marks: &[bool], entities: &[Entity], known: &mut [bool]) -> bo
 }
 
 /// Marks in the second list what is marked in the first.
-fn mark_all(marks: &[bool], known: &mut [bool])
+pub fn mark_all(marks: &[bool], known: &mut [bool])
     requires { length marks.now ≡ length known.old }
     ensures { known.new ≡ marked_in_either marks.now known.old }
 {

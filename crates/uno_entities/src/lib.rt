@@ -18,14 +18,14 @@ mod type_limits;
 mod type_name;
 mod type_rules;
 
-pub use bases::bases_of;
+pub use bases::{all_bases, bases_of};
 pub use built_in::{X_INTERFACE, built_in_entities};
 pub use copies::{copy_names, copy_params};
 pub use entity::{
     Attribute, Base, Body, Constant, Constructor, Entity, Field, Item, Member, Method, Param, Part,
     Service, Singleton,
 };
-pub use few_functions::all_have_few_functions;
+pub use few_functions::{all_have_few_functions, has_few_functions, mark_all};
 pub use finding::place_in;
 pub use identifier::{
     begins_identifier, few_modules, goes_on_identifier, is_entity_name, is_identifier,

@@ -15,5 +15,6 @@ pub mod Options
 pub mod PlaceLaws
 pub mod ReachLaws
 pub mod ReachesLaws
+pub mod TypeTextLaws
 pub mod UsedKindLaws
 pub mod VisitLaws

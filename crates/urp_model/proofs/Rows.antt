@@ -2,10 +2,10 @@
 use Rattle.std.proofs.Common.{◌≡◌, ℕ, pos, negsuc, List, [], ◌∷◌, ◌++◌, Ok, Err, refl, codes}
 use Rattle.std.proofs.lemmas.Str.{is_utf8-from_IsUtf8, IsUtf8-nil}
 use Rattle.uno_model.specs.Kinds as kd
-use Rattle.uno_model.specs.NamedTypes.{simple_of}
+use Rattle.uno_model.specs.NamedTypes.{simple_of, kind_within, type_of_text}
 use Rattle.uno_model.specs.Values.{Plain, none, more, null, own}
 use Rattle.uno_model.specs.Values as plain
-use Rattle.urp_model.specs.NamedKinds.{class_among, formed_named, kind_named}
+use Rattle.urp_model.specs.NamedKinds.{class_among, kind_named}
 use Rattle.urp_model.specs.Parts.{byte_at, number_at, length_at, raw_at, text_at, name_at, text_name_at, slot_at}
 use Rattle.urp_model.specs.Reading.{elements_at, bytes_at, list_at, content_at, any_at, value_step, value_at}
 use Rattle.urp_model.specs.ReadingNames.{written_kind, written_kind_at, kind_behind, kind_at, oid_at}
@@ -38,7 +38,7 @@ any_row s = refl
 strings_row : (s : Tables) → value_at 3 [] kd.any s ((148 ∷ 0 ∷ 0 ∷ 8 ∷ codes "[]string") ++ (1 ∷ 1 ∷ codes "a"))
     ≡ Ok (plain.any (kd.sequence kd.str) (plain.list kd.str (more (plain.str (codes "a")) none)), with_types s (announced 0 (codes "[]string") s.types), [])
 unfolding value_at value_step any_at content_at kind_at byte_at class_among kind_behind written_kind_at written_kind number_at text_name_at name_at
-    length_at formed_named kind_named simple_of noted list_at elements_at text_at raw_at
+    length_at kind_named type_of_text kind_within simple_of noted list_at elements_at text_at raw_at
 strings_row s = rw (is_utf8_ascii (codes "[]string") refl, is_utf8_ascii (codes "a") refl) refl
 
 -- nothing in an any

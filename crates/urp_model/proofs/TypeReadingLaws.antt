@@ -128,20 +128,20 @@ high_byte b c low is =
     omega arith
 
 -- bytes that are read as a type spell it
-behind_spells : (reg : List Entity) (table : Table) (b : ℕ) (c : TypeClass) (low : Bool) (o : Option Kind) (x : Kind × Table) (used : List ℕ) → nat_lt b 128 ≡ low
-    → class_numbered (unmarked b) ≡ Some c
+behind_spells : (reg : List Entity) (table : Table) (b : ℕ) (c : TypeClass) (low : Bool) (o : Option Kind) (x : Kind × Table) (used : List ℕ) → list_all is_named reg ≡ true
+    → nat_lt b 128 ≡ low → class_numbered (unmarked b) ≡ Some c
     → simple_kind c ≡ o → Behind reg table low c o x used → SpellsKind reg table x.0 (b ∷ used) x.1
-behind_spells reg table b c true (Some k) x used low number is h =
+behind_spells reg table b c true (Some k) x used named low number is h =
     let of_class = simple_of_class c k is in
     let byte : b ≡ class_code (class_of k) = low_byte b c low number ∙ ap class_code (sym of_class.1) in
     subst (λ (y : Kind × Table). SpellsKind reg table y.0 (b ∷ used) y.1) (sym h.0) (simple of_class.0 (rw (byte, h.1) refl) refl)
-behind_spells reg table b c false (Some k) x used low number is h = absurd h
-behind_spells reg table b c true None x used low number is h =
-    let n = kind_named_gives reg c h.name x.0 h.found in
+behind_spells reg table b c false (Some k) x used named low number is h = absurd h
+behind_spells reg table b c true None x used named low number is h =
+    let n = kind_named_gives reg c h.name x.0 named h.found in
     let byte : b ≡ class_code (class_of x.0) = low_byte b c low number ∙ ap class_code (sym n.class_is) in
     spell.held used h.slot (named_of_class x.0 (ap simple_kind n.class_is ∙ is)) n.is (ap (λ z. z ∷ used) byte) h.slot_is (h.meant ∙ ap Some (sym n.name_is)) h.after
-behind_spells reg table b c false None x used low number is h =
-    let n = kind_named_gives reg c h.name x.0 h.found in
+behind_spells reg table b c false None x used named low number is h =
+    let n = kind_named_gives reg c h.name x.0 named h.found in
     let byte : b ≡ class_code (class_of x.0) + 128 = high_byte b c low number ∙ ap (λ d. class_code d + 128) (sym n.class_is) in
     let split : b ∷ used ≡ (class_code (class_of x.0) + 128) ∷ (h.front ++ h.back) = rw (byte, h.split) refl in
     spell.written h.front h.back h.slot (named_of_class x.0 (ap simple_kind n.class_is ∙ is)) n.is split h.slot_is
@@ -200,5 +200,5 @@ kind_agrees reg table named =
     (λ x used t.
     let behind = t.5 in
     subst (λ b. SpellsKind reg table x.0 b x.1) (sym (t.3 ∙ ap (λ z. z ++ t.2) t.4))
-    (behind_spells reg table t.0 behind.0 (nat_lt t.0 128) (simple_kind behind.0) x t.2 refl behind.1 refl behind.2))
+    (behind_spells reg table t.0 behind.0 (nat_lt t.0 128) (simple_kind behind.0) x t.2 named refl behind.1 refl behind.2))
     (λ x used h. spelled_behind reg table x used named h)

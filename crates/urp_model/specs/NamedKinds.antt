@@ -1,11 +1,10 @@
 -- The class of a number, and the type of a class and a name.
-use Rattle.std.specs.Prelude.{ℕ, ◌==◌, ◌&&◌, Bool, true, false, List, [], ◌∷◌, Option, None, Some, option_map, if◌then◌else◌}
+use Rattle.std.specs.Prelude.{ℕ, ◌==◌, Bool, true, false, List, [], ◌∷◌, Option, None, Some, if◌then◌else◌}
 use Rattle.uno_model.specs.Entities.{Entity}
 use Rattle.uno_model.specs.Kinds.{Kind}
 use Rattle.uno_model.specs.Kinds as kd
-use Rattle.uno_model.specs.NamedTypes.{word_of}
+use Rattle.uno_model.specs.NamedTypes.{type_of_text}
 use Rattle.uno_model.specs.TypeClasses.{class_code, class_of}
-use Rattle.uno_model.specs.Types.{is_type}
 use Rattle.uno_model.specs.declared.type_class.TypeClass.{TypeClass}
 use Rattle.uno_model.specs.declared.type_class.TypeClass.TheVariants as class
 
@@ -64,17 +63,11 @@ abbrev pub is_any : Kind → Bool
 is_any kd.any = true
 is_any _ = false
 
--- the type of a name, whatever its limits: each `[]` in front is a sequence, and behind them stands a simple type's word or an entity's name
-unfoldable pub formed_named : List Entity → List ℕ → Option Kind
-formed_named reg [] = word_of reg []
-formed_named reg (a ∷ []) = word_of reg (a ∷ [])
-formed_named reg (a ∷ b ∷ rest) = if (a == 91) && (b == 93) then option_map kd.sequence (formed_named reg rest) else word_of reg (a ∷ b ∷ rest)
-
--- a type, where it is one of the registry and of that class
-abbrev pub of_class : List Entity → TypeClass → Option Kind → Option Kind
-of_class reg c None = None
-of_class reg c (Some k) = if is_type reg k && (class_code (class_of k) == class_code c) then Some k else None
+-- a type, where it is of that class
+abbrev pub of_class : TypeClass → Option Kind → Option Kind
+of_class c None = None
+of_class c (Some k) = if class_code (class_of k) == class_code c then Some k else None
 
 -- the type of the registry of that class and name
 unfoldable pub kind_named : List Entity → TypeClass → List ℕ → Option Kind
-kind_named reg c name = of_class reg c (formed_named reg name)
+kind_named reg c name = of_class c (type_of_text reg name)

@@ -37,7 +37,7 @@ no_text_named reg c name sound other = by_found (kind_named reg c name) refl
 
     by_found : (o : Option Kind) → kind_named reg c name ≡ o → kind_named reg c name ≡ None
     by_found None found = found
-    by_found (Some k) found = absurd (clash k (kind_named_gives reg c name k found))
+    by_found (Some k) found = absurd (clash k (kind_named_gives reg c name k sound.named found))
 
 -- a name that no type has, one of a type of another class, and one of a type of that class
 pub none_named : (reg : List Entity) (c : TypeClass) (name : List ℕ) → IsSound reg → ((k : Kind) → IsNamed reg name k → ⊥) → None ≡ kind_named reg c name
@@ -47,10 +47,10 @@ pub other_named : (reg : List Entity) (c : TypeClass) (name : List ℕ) (k : Kin
     → (class_code (class_of k) ≡ class_code c → ⊥) → None ≡ kind_named reg c name
 other_named reg c name k sound is other =
     let test : (class_code (class_of k) == class_code c) ≡ false = ne_eqb _ _ other in
-    rw (is.is, test) at (kind_told reg c name sound.named (Some k) is)
+    rw test at (kind_told reg c name sound.named (Some k) is)
 
 pub same_named : (reg : List Entity) (c : TypeClass) (name : List ℕ) (k : Kind) → IsSound reg → IsNamed reg name k
     → class_code (class_of k) ≡ class_code c → Some k ≡ kind_named reg c name
 same_named reg c name k sound is same =
     let test : (class_code (class_of k) == class_code c) ≡ true = eq-eqb _ _ same in
-    rw (is.is, test) at (kind_told reg c name sound.named (Some k) is)
+    rw test at (kind_told reg c name sound.named (Some k) is)

@@ -1,0 +1,111 @@
+-- What a binary search over headers says of a name.
+use Rattle.std.proofs.Common.{◌≡◌, ℕ, zero, suc, ◌+◌, ◌<◌, ◌≤◌, Bool, true, false, List, [], ◌∷◌, length, map, get_or, None, Some, Option, Result, Ok, Err, Bor, option_map, refl, sym, ap, subst, ◌∙◌, ◌⊎◌, inl, inr, arith, slice_get}
+use Rattle.std.proofs.lemmas.Bool.{cases_lt}
+use Rattle.std.specs.List.{AllByRecursion}
+use Rattle.std.specs.List.Sorted.{IsBinarySearchResult, IsSearchInRange, IsSortedBy, IsStrictlySortedBy}
+use Rattle.std.specs.Ordering.{is_lt, ordering_reverse}
+use Rattle.std.specs.declared.cmp.Ordering.{Ordering}
+use Rattle.std.specs.declared.cmp.Ordering.TheVariants.{Less, Equal, Greater}
+use Rattle.std.proofs.lemmas.Cmp.{nat_list_cmp_total}
+use Rattle.std.proofs.lemmas.List.{get_or_default}
+use Rattle.std.proofs.lemmas.List.Sorted.{searchable_from_sorted}
+use Rattle.std.specs.Str.{bytes_eq}
+use Rattle.std.proofs.lemmas.Slice.Eq.{bytes_eq-Decides}
+use Rattle.uno_model.proofs.FindLaws.{name_cmp, equal_names, same_equal}
+use Rattle.registry_reading_model.specs.Heads as plain
+use Rattle.registry_reading_model.specs.Heads.{head_named}
+use Rattle.registry_reading.specs.declared.head.Head.{Head}
+use Rattle.registry_reading.specs.Heads.{plain_head, plain_heads, NamesRise}
+
+abbrev pub order_of : List ℕ → Head → Ordering
+order_of name h = name_cmp h.name.now name
+
+-- a name compares with itself as equal
+itself : (x : List ℕ) (o : Ordering) → name_cmp x x ≡ o → o ≡ Equal
+itself x Less e = let bad : Less ≡ Greater = sym e ∙ nat_list_cmp_total.antisymm x x ∙ ap ordering_reverse e in absurd cc
+itself x Equal e = refl
+itself x Greater e = let bad : Greater ≡ Less = sym e ∙ nat_list_cmp_total.antisymm x x ∙ ap ordering_reverse e in absurd cc
+
+-- what compares otherwise is another
+other_name : (x y : List ℕ) (o : Ordering) → (o ≡ Equal → ⊥) → name_cmp x y ≡ o → bytes_eq y x ≡ false
+other_name x y o not_equal is = by_test (bytes_eq y x) refl
+  where
+    by_test : (b : Bool) → bytes_eq y x ≡ b → bytes_eq y x ≡ false
+    by_test false other = other
+    by_test true same = absurd (not_equal (itself x o (ap (name_cmp x) (sym ((bytes_eq-Decides y x).0 same)) ∙ is)))
+
+below_differs : (x y : List ℕ) → name_cmp x y ≡ Less → bytes_eq y x ≡ false
+below_differs x y is = other_name x y Less (λ e. absurd cc) is
+
+above_differs : (x y : List ℕ) → name_cmp x y ≡ Greater → bytes_eq y x ≡ false
+above_differs x y is = other_name x y Greater (λ e. absurd cc) is
+
+-- the name is found at its place
+found_at : (name : List ℕ) (hs : List Head) (i : ℕ) (d : Head) → NamesRise (plain_heads hs) → i < length hs → (get_or hs i d).name.now ≡ name
+    → head_named name (plain_heads hs) ≡ Some (plain_head (get_or hs i d))
+unfolding head_named IsStrictlySortedBy
+found_at name [] i d rising within is = absurd (omega arith)
+found_at name (h ∷ hs) zero d rising within is = let same : bytes_eq name h.name.now ≡ true = ap (λ n. bytes_eq name n) is ∙ same_equal name in rw same refl
+found_at name (h ∷ hs) (suc i) d rising within is =
+    let below : name_cmp h.name.now (get_or hs i d).name.now ≡ Less = at_place hs i (omega arith) rising.0 in
+    let other : bytes_eq name h.name.now ≡ false = below_differs h.name.now name (subst (λ n. name_cmp h.name.now n ≡ Less) is below) in
+    rw other (found_at name hs i d rising.1 (omega arith) is)
+  where
+    at_place : (xs : List Head) (k : ℕ) → k < length xs → AllByRecursion (λ y. name_cmp h.name.now y ≡ Less) (map (λ x. x.name) (plain_heads xs))
+        → name_cmp h.name.now (get_or xs k d).name.now ≡ Less
+    at_place [] k within all = absurd (omega arith)
+    at_place (x ∷ xs) zero within all = all.0
+    at_place (x ∷ xs) (suc k) within all = at_place xs k (omega arith) all.1
+
+-- a name that is none of theirs is not found
+absent : (name : List ℕ) (hs : List Head) → ((k : ℕ) (d : Head) → k < length hs → bytes_eq name (get_or hs k d).name.now ≡ false) → head_named name (plain_heads hs) ≡ None
+unfolding head_named
+absent name [] others = refl
+absent name (h ∷ hs) others = rw (others 0 h (omega arith)) (absent name hs (λ k d within. others (suc k) d (omega arith)))
+
+-- no name is below the one before it
+names_sorted : (hs : List Head) → NamesRise (plain_heads hs) → IsSortedBy (λ a b. is_lt (name_cmp a.name.now b.name.now)) hs
+unfolding IsStrictlySortedBy
+names_sorted hs rising k d low within = ap is_lt (nat_list_cmp_total.antisymm (get_or hs (k + 1) d).name.now (get_or hs k d).name.now ∙ ap ordering_reverse (step hs k rising within))
+  where
+    next : (x : Head) (xs : List Head) → AllByRecursion (λ y. name_cmp x.name.now y ≡ Less) (map (λ z. z.name) (plain_heads xs)) → 0 < length xs
+        → name_cmp x.name.now (get_or xs 0 d).name.now ≡ Less
+    next x [] all some = absurd (omega arith)
+    next x (y ∷ ys) all some = all.0
+
+    step : (xs : List Head) (j : ℕ) → NamesRise (plain_heads xs) → j + 1 < length xs → name_cmp (get_or xs j d).name.now (get_or xs (j + 1) d).name.now ≡ Less
+    step [] j rise inside = absurd (omega arith)
+    step (x ∷ xs) zero rise inside = next x xs rise.0 (omega arith)
+    step (x ∷ xs) (suc j) rise inside = let on : suc j + 1 ≡ suc (j + 1) = omega arith in rw on (step xs j rise.1 (omega arith))
+
+-- what a search answers where the name is there
+pub placed : (hs : List Head) (name : List ℕ) (i : ℕ) (r : Option (Bor Head)) → NamesRise (plain_heads hs) → IsSearchInRange (Ok i) (length hs)
+    → IsBinarySearchResult (order_of name) hs (Ok i) → option_map (λ (h : Bor Head). h.now) r ≡ slice_get hs i
+    → option_map (λ h. plain_head h.now) r ≡ head_named name (plain_heads hs)
+placed [] name i r rising within holds got = absurd (omega arith)
+placed (h ∷ hs) name i r rising within holds got = by_got r got
+  where
+    is : (get_or (h ∷ hs) i h).name.now ≡ name
+    is = equal_names (get_or (h ∷ hs) i h).name.now name (holds h)
+
+    at : (xs : List Head) (k : ℕ) → k < length xs → slice_get xs k ≡ Some (get_or xs k h)
+    at [] k inside = absurd (omega arith)
+    at (x ∷ xs) zero inside = refl
+    at (x ∷ xs) (suc k) inside = at xs k (omega arith)
+
+    by_got : (o : Option (Bor Head)) → option_map (λ g. g.now) o ≡ slice_get (h ∷ hs) i → option_map (λ g. plain_head g.now) o ≡ head_named name (plain_heads (h ∷ hs))
+    by_got None e = let bad : None ≡ Some (get_or (h ∷ hs) i h) = e ∙ at (h ∷ hs) i within in absurd cc
+    by_got (Some g) e =
+        let there : Some g.now ≡ Some (get_or (h ∷ hs) i h) = e ∙ at (h ∷ hs) i within in
+        ap (option_map plain_head) there ∙ sym (found_at name (h ∷ hs) i h rising within is)
+
+-- and where it is not
+pub parted : (hs : List Head) (name : List ℕ) (i : ℕ) → NamesRise (plain_heads hs) → IsBinarySearchResult (order_of name) hs (Err i) → head_named name (plain_heads hs) ≡ None
+parted hs name i rising holds =
+    let parts = holds (searchable_from_sorted nat_list_cmp_total (λ (h : Head). h.name.now) hs name (names_sorted hs rising)) in
+    absent name hs (λ k d within. elim (cases_lt k i)
+    [ inl low ↦ below_differs (get_or hs k d).name.now name (parts.0 k d within low) | inr high ↦ above_differs (get_or hs k d).name.now name (parts.1 k d high within) ])
+
+pub none_rise : NamesRise []
+unfolding IsStrictlySortedBy
+none_rise = tt

@@ -1,0 +1,8 @@
+//! The registry of a text.
+#![tactic(auto)]
+
+mod head;
+mod heads;
+mod kind;
+mod number;
+mod words;
