@@ -1,9 +1,8 @@
 //! Words and lines, behind those that a text has.
 ghost use Rattle.std.specs.Prelude.{◌≡◌, ◌++◌, ◌∷◌, [], map, OnOk};
-ghost use Rattle.std.specs.Fmt.{signed_decimal};
 ghost use Rattle.uno_model.specs.Kinds.{name_of};
 ghost use Rattle.uno_entities.specs.TypeNames.{kind_of};
-ghost use Rattle.registry_text_model.specs.Lines.{spaced, text_of, name_lines};
+ghost use Rattle.registry_text_model.specs.Lines.{spaced, text_of, name_lines, numeral};
 
 use std::alloc::Global;
 use uno_base::NoMemory;
@@ -37,20 +36,22 @@ pub(crate) fn push_type(text: &mut Vec<u8>, kind: &TypeName) -> Result<(), NoMem
 }
 
 /// A number and a blank.
+#[tactic(auto, using(registry_text_model::proofs::NumeralLaws::numeral_is))]
 pub(crate) fn push_number(alloc: Global, text: &mut Vec<u8>, number: i128) -> Result<(), NoMemory>
-    ensures { OnOk result (text.new.items ≡ text.old.items ++ spaced (signed_decimal number) []) }
+    ensures { OnOk result (text.new.items ≡ text.old.items ++ spaced (numeral number) []) }
 {
     let digits = number.to_string(alloc)?;
     push_word(text, digits.as_str())
 }
 
 /// A number that is last.
+#[tactic(auto, using(registry_text_model::proofs::NumeralLaws::numeral_is))]
 pub(crate) fn push_last_number(
     alloc: Global,
     text: &mut Vec<u8>,
     number: i32,
 ) -> Result<(), NoMemory>
-    ensures { OnOk result (text.new.items ≡ text.old.items ++ text_of (signed_decimal number ∷ [])) }
+    ensures { OnOk result (text.new.items ≡ text.old.items ++ text_of (numeral number ∷ [])) }
 {
     let digits = number.to_string(alloc)?;
     push_last(text, digits.as_str())
