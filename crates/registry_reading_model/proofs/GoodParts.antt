@@ -3,8 +3,7 @@ use Rattle.std.proofs.Common.{◌≡◌, Bool, true, not, ◌&&◌, ◌||◌}
 use Rattle.std.specs.List.{list_all}
 use Rattle.std.proofs.lemmas.Bool.{and_parts, and_from}
 use Rattle.uno_model.specs.Entities.{Field, Param, Attribute, Method, Member, attribute, method, Constant, Constructor, Part, face, subservice}
-use Rattle.uno_model.specs.Entities.{property}
-use Rattle.uno_model.specs.Entities.{Body, interface, struct, exception, enum, constants, typedef, new_service, old_service, new_singleton}
+use Rattle.uno_model.specs.Entities.{property, Body, interface, struct, exception, enum, constants, typedef, new_service, old_service, new_singleton}
 use Rattle.uno_model.specs.Entities.{old_singleton}
 use Rattle.uno_model.specs.Names.{is_identifier, is_entity_name}
 use Rattle.uno_model.specs.Registry.{at_most_one}

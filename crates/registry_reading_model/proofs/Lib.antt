@@ -17,6 +17,7 @@ pub mod PrintedLaws
 pub mod RunLaws
 pub mod ServiceBack
 pub mod ServiceForth
+pub mod ServiceTests
 pub mod TextLaws
 pub mod WordLaws
 pub mod WritableLaws

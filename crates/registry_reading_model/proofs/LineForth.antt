@@ -21,8 +21,7 @@ use Rattle.registry_reading_model.proofs.InterfaceForth.{interface_forth}
 use Rattle.registry_reading_model.proofs.PartForth.{member_forth, item_forth, constant_forth, part_forth}
 use Rattle.registry_reading_model.proofs.RunLaws.{run_lines}
 use Rattle.registry_reading_model.proofs.ServiceForth.{service_forth}
-use Rattle.registry_reading_model.proofs.GoodParts.{is_good_field, is_good_constant, is_good_constructor, is_good_member, is_good_part}
-use Rattle.registry_reading_model.proofs.GoodParts.{is_good_body}
+use Rattle.registry_reading_model.proofs.GoodParts.{is_good_field, is_good_constant, is_good_constructor, is_good_member, is_good_part, is_good_body}
 use Rattle.registry_reading_model.proofs.WritableLaws.{good_of_writable}
 unfoldable pub use Rattle.registry_reading_model.proofs.RunLaws.{emptied, run_body}
 

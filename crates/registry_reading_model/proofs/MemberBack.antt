@@ -1,6 +1,5 @@
 -- A member of an interface that is read is printed as it was read, and so is each line under it.
-use Rattle.std.proofs.Common.{◌≡◌, ℕ, true, false, not, ◌&&◌, List, [], ◌∷◌, ◌++◌, map, Some, refl, sym, ap, subst, ◌∙◌}
-use Rattle.std.proofs.Common.{append_assoc, codes}
+use Rattle.std.proofs.Common.{◌≡◌, ℕ, true, false, not, ◌&&◌, List, [], ◌∷◌, ◌++◌, map, Some, refl, sym, ap, subst, ◌∙◌, append_assoc, codes}
 use Rattle.std.specs.List.{list_all}
 use Rattle.std.proofs.lemmas.Bool.{and_from}
 use Rattle.std.proofs.lemmas.List.{map-append}
@@ -10,8 +9,7 @@ use Rattle.uno_model.specs.Kinds.{name_of}
 use Rattle.uno_model.specs.Kinds as kd
 use Rattle.uno_model.specs.Names.{is_identifier, is_entity_name}
 use Rattle.uno_model.specs.Sound.{is_some_list}
-use Rattle.registry_text_model.specs.Lines.{spaced, access_word, attribute_line, method_line, param_line, name_lines}
-use Rattle.registry_text_model.specs.Lines.{member_lines}
+use Rattle.registry_text_model.specs.Lines.{spaced, access_word, attribute_line, method_line, param_line, name_lines, member_lines}
 use Rattle.registry_text_model.specs.Reading.{is_spelled}
 use Rattle.registry_reading_model.specs.Bodies.{changed_kind, pushed, attribute_of, method_of, oneway_of, param_of, get_raises_added}
 use Rattle.registry_reading_model.specs.Bodies.{set_raises_added, param_added, raises_added}
@@ -20,8 +18,7 @@ use Rattle.registry_reading_model.specs.Words.{on_some, word_of, identifier_of, 
 use Rattle.registry_reading_model.proofs.GrowthLaws.{Made, Grown, no_list, pushed_passes, pushed_is, between_runs}
 use Rattle.registry_reading_model.proofs.PartBack.{changed_kind_back, param_back}
 use Rattle.registry_reading_model.proofs.PrintedLaws.{is_text, identifier_text, entity_name_text, spaced_text, kind_text, access_text}
-use Rattle.registry_reading_model.proofs.WordLaws.{given, allowed, word_back, identifier_back, entity_name_back}
-use Rattle.registry_reading_model.proofs.WordLaws.{identifier_alone_back, access_back}
+use Rattle.registry_reading_model.proofs.WordLaws.{given, allowed, word_back, identifier_back, entity_name_back, identifier_alone_back, access_back}
 use Rattle.registry_reading_model.proofs.GoodParts.{is_good_param, is_good_member, tests_of_attribute, good_attribute, tests_of_method, good_method}
 
 -- ---- first lines
@@ -111,8 +108,8 @@ second_run first xs ys x = ap (λ t. first ∷ t) (sym (append_assoc xs ys (x �
 
 -- one more name
 pub names_grow : (word text : List ℕ) (xs ys : List (List ℕ)) → pushed xs (entity_name_of text) ≡ Some ys
-    → (name_lines word ys ≡ name_lines word xs ++ spaced word text ∷ []) × (list_all is_entity_name xs ≡ true → list_all is_entity_name ys ≡ true) ×
-    (is_text text ≡ true)
+    → (name_lines word ys ≡ name_lines word xs ++ spaced word text ∷ []) × (list_all is_entity_name xs ≡ true → list_all is_entity_name ys ≡ true)
+    × (is_text text ≡ true)
 names_grow word text xs ys read =
     let x = pushed_is xs ys (entity_name_of text) read in
     let named = entity_name_back text x.0 x.1 in (

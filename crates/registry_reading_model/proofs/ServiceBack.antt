@@ -38,8 +38,7 @@ constructor_made text k read =
     record {
       printed = ap (λ t. t ∷ []) (sym split);
       passes = good_constructor made (record { named = name.1; good_params = refl; rest_named = refl; raised = refl });
-      text = subst (λ t. is_text t ≡ true)
-          (sym split) bytes;
+      text = subst (λ t. is_text t ≡ true) (sym split) bytes;
     } in
     subst (λ j. Made constructor_lines is_good_constructor j (spaced (codes "constructor") text)) (same_some x.2) whole
 
@@ -123,14 +122,14 @@ raised_grow text j k read =
     let first = spaced (codes "constructor") j.name in
     let params = map given_line j.params in
     let made : Constructor = record { name = j.name; params = j.params; rest = j.rest; raises = names.0 } in
-    let whole : IsGrown j made (spaced (codes "raises") text) =
+    let line = spaced (codes "raises") text in
+    let old = name_lines (codes "raises") j.raises in
+    let whole : IsGrown j made line =
     record {
       printed =
           ap (λ t. first ∷ (params ++ (rest_lines j.rest ++ t))) grow.0
-          ∙ ap (λ t. first ∷ (params ++ t)) (sym
-          (append_assoc (rest_lines j.rest) (name_lines (codes "raises") j.raises) (spaced (codes "raises") text ∷ [])))
-          ∙ ap (λ t. first ∷ t) (sym
-          (append_assoc params (rest_lines j.rest ++ name_lines (codes "raises") j.raises) (spaced (codes "raises") text ∷ [])));
+          ∙ ap (λ t. first ∷ (params ++ t)) (sym (append_assoc (rest_lines j.rest) old (line ∷ [])))
+          ∙ ap (λ t. first ∷ t) (sym (append_assoc params (rest_lines j.rest ++ old) (line ∷ [])));
       passes = λ good.
           let t = tests_of_constructor j good in
           good_constructor made (record { named = t.named; good_params = t.good_params; rest_named = t.rest_named; raised = grow.1 t.raised });
