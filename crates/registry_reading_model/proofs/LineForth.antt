@@ -75,8 +75,8 @@ body_forth_good (typedef k) good = refl
 body_forth_good (new_singleton base) good = refl
 body_forth_good (old_singleton service) good = refl
 
-pub body_forth : (e : Entity) → is_writable e ≡ true → run_body same (body_changed unresolved (emptied e.body)) (body_lines e.body) ≡ Some
-    (body_changed unresolved e.body)
+pub body_forth : (e : Entity) → is_writable e ≡ true
+    → run_body same (body_changed unresolved (emptied e.body)) (body_lines e.body) ≡ Some (body_changed unresolved e.body)
 body_forth e writable = body_forth_good e.body (good_of_writable e writable).1
 
 pub no_end : (c : Change) (b : Body) → body_line c b (codes "end") ≡ None
