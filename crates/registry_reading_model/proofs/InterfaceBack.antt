@@ -1,6 +1,5 @@
 -- A line of an interface that is read is the next of what is printed of it.
-use Rattle.std.proofs.Common.{◌≡◌, ℕ, Bool, true, false, not, List, [], ◌∷◌, ◌++◌, map, Option, Some, refl, sym, ap, subst, ◌∙◌}
-use Rattle.std.proofs.Common.{append_assoc, codes}
+use Rattle.std.proofs.Common.{◌≡◌, ℕ, Bool, true, false, not, List, [], ◌∷◌, ◌++◌, map, Option, Some, refl, sym, ap, subst, ◌∙◌, append_assoc, codes}
 use Rattle.std.specs.List.{list_all, flat_map}
 use Rattle.std.specs.Str.{bytes_eq}
 use Rattle.std.proofs.lemmas.Bool.{and_parts, and_from}
@@ -9,8 +8,7 @@ use Rattle.uno_model.proofs.Options.{same_some, none_some}
 use Rattle.uno_model.specs.Entities.{Base, Member, attribute, method, Body, interface}
 use Rattle.uno_model.specs.Names.{is_entity_name}
 use Rattle.uno_model.specs.Sound.{is_some_list}
-use Rattle.registry_text_model.specs.Lines.{spaced, base_word, base_line}
-use Rattle.registry_text_model.specs.Lines.{member_lines, header_words, body_lines}
+use Rattle.registry_text_model.specs.Lines.{spaced, base_word, base_line, member_lines, header_words, body_lines}
 use Rattle.registry_reading_model.specs.Bodies.{pushed, last_changed, attribute_of, method_of, oneway_of, get_raises_added}
 use Rattle.registry_reading_model.specs.Bodies.{set_raises_added, param_added, raises_added, base_added, with_members, interface_line}
 use Rattle.registry_reading_model.specs.Changes.{same}
@@ -41,8 +39,8 @@ base_adds optional bases members word text b is bytes read =
     let base : Base = record { optional = optional; name = name.0 } in
     let split : base_line base ≡ spaced word text = ap (λ t. spaced (base_word optional) t) (sym named.0) ∙ ap (λ w. spaced w text) (sym is) in
     let none : flat_map member_lines members ≡ [] = ap (flat_map member_lines) (no_list members free.0) in
-    let lines : map base_line (bases ++ base ∷ []) ++ flat_map member_lines members ≡
-    (map base_line bases ++ flat_map member_lines members) ++ spaced word text ∷ [] =
+    let lines : map base_line (bases ++ base ∷ []) ++ flat_map member_lines members
+    ≡ (map base_line bases ++ flat_map member_lines members) ++ spaced word text ∷ [] =
     ap (λ t. t ++ flat_map member_lines members) (map-append base_line bases (base ∷ []) ∙ ap (λ l. map base_line bases ++ l ∷ []) split)
     ∙ between_runs (map base_line bases) (flat_map member_lines members) (spaced word text) none in
     let whole : Adds (interface bases members) (interface (bases ++ base ∷ []) members) (spaced word text) =

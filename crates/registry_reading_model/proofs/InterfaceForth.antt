@@ -1,7 +1,6 @@
 -- The lines that are printed of an interface are read.
-use Rattle.std.proofs.Common.{◌≡◌, ℕ, Bool, true, false, not, ◌&&◌, ◌||◌, List, [], ◌∷◌, ◌++◌, map, Option, Some, if◌then◌else◌, refl, ◌∙◌, codes}
+use Rattle.std.proofs.Common.{◌≡◌, ℕ, Bool, true, false, not, ◌||◌, List, [], ◌∷◌, ◌++◌, map, Option, Some, if◌then◌else◌, refl, ◌∙◌, codes}
 use Rattle.std.specs.List.{list_all, flat_map}
-use Rattle.std.proofs.lemmas.Bool.{and_parts}
 use Rattle.uno_model.specs.Entities.{Base, Attribute, Method, Member, Param, attribute, method, Body, interface}
 use Rattle.uno_model.specs.Kinds.{Kind, name_of}
 use Rattle.uno_model.specs.Kinds as kd
@@ -18,7 +17,7 @@ use Rattle.registry_reading_model.proofs.KindLaws.{kind_forth}
 use Rattle.registry_reading_model.proofs.PartForth.{param_forth}
 use Rattle.registry_reading_model.proofs.RunLaws.{run_body, run_one, run_on, run_lines, run_flat, run_unchanged, last_forth, behind_word_forth}
 use Rattle.registry_reading_model.proofs.WordLaws.{lacks, word_forth, identifier_forth, access_forth}
-use Rattle.registry_reading_model.proofs.GoodParts.{is_good_param, is_good_member}
+use Rattle.registry_reading_model.proofs.GoodParts.{is_good_param, is_good_member, tests_of_attribute, tests_of_method}
 
 base_forth : (done : List Base) (b : Base) → is_entity_name b.name ≡ true
     → body_line same (interface done []) (base_line b) ≡ Some (interface (done ++ b ∷ []) [])
@@ -101,17 +100,14 @@ module _ (bases : List Base) (done : List Member) where
   attribute_forth : (a : Attribute) → is_good_member (attribute a) ≡ true
       → run_body same (interface bases done) (member_lines (attribute a)) ≡ Some (with_last (member_changed unresolved (attribute a)))
   attribute_forth a good =
-      let both = and_parts (is_identifier a.name && is_spelled a.kind)
-      (list_all is_entity_name a.get_raises && list_all is_entity_name a.set_raises) good in
-      let own = and_parts (is_identifier a.name) (is_spelled a.kind) both.0 in
-      let raises = and_parts (list_all is_entity_name a.get_raises) (list_all is_entity_name a.set_raises) both.1 in
+      let t = tests_of_attribute a good in
       let gets = name_lines (codes "getraises") a.get_raises in
       let sets = name_lines (codes "setraises") a.set_raises in
-      run_one (interface bases done) (raising a [] []) (attribute_line a) (gets ++ sets) (attribute_head a own.0 own.1)
+      run_one (interface bases done) (raising a [] []) (attribute_line a) (gets ++ sets) (attribute_head a t.named t.spelled)
       ∙ run_on (raising a [] []) (raising a a.get_raises []) gets sets
-      (run_unchanged (λ ns. raising a ns []) is_entity_name (spaced (codes "getraises")) (λ ns n named. get_forth a ns n named) a.get_raises raises.0)
+      (run_unchanged (λ ns. raising a ns []) is_entity_name (spaced (codes "getraises")) (λ ns n named. get_forth a ns n named) a.get_raises t.gets)
       ∙ run_unchanged (λ ns. raising a a.get_raises ns) is_entity_name (spaced (codes "setraises"))
-      (λ ns n named. set_forth a a.get_raises ns n named) a.set_raises raises.1
+      (λ ns n named. set_forth a a.get_raises ns n named) a.set_raises t.sets
 
   -- ---- methods
 
@@ -168,21 +164,16 @@ module _ (bases : List Base) (done : List Member) where
   method_forth : (m : Method) → is_good_member (method m) ≡ true
       → run_body same (interface bases done) (member_lines (method m)) ≡ Some (with_last (member_changed unresolved (method m)))
   method_forth m good =
-      let void = not m.oneway || is_void m.result_kind in
-      let both = and_parts ((is_identifier m.name && is_spelled m.result_kind) && void)
-      (list_all is_good_param m.params && list_all is_entity_name m.raises) good in
-      let front = and_parts (is_identifier m.name && is_spelled m.result_kind) void both.0 in
-      let own = and_parts (is_identifier m.name) (is_spelled m.result_kind) front.0 in
-      let rest = and_parts (list_all is_good_param m.params) (list_all is_entity_name m.raises) both.1 in
+      let t = tests_of_method m good in
       let params = map (param_changed unresolved) m.params in
       let raises = name_lines (codes "raises") m.raises in
       run_one (interface bases done) (with_last (taking m [] [])) (method_line m) (map param_line m.params ++ raises)
-      (method_head m own.0 own.1 front.1)
+      (method_head m t.named t.spelled t.void)
       ∙ run_on (with_last (taking m [] [])) (with_last (taking m params [])) (map param_line m.params) raises
       (run_lines (λ ps. with_last (taking m ps [])) (param_changed unresolved) is_good_param param_line
-      (λ ps p is. param_read m ps p is) [] m.params rest.0)
+      (λ ps p is. param_read m ps p is) [] m.params t.good_params)
       ∙ run_unchanged (λ ns. with_last (taking m params ns)) is_entity_name (spaced (codes "raises"))
-      (λ ns n named. raises_read m params ns n named) m.raises rest.1
+      (λ ns n named. raises_read m params ns n named) m.raises t.raised
 
   member_read : (m : Member) → is_good_member m ≡ true → run_body same (interface bases done) (member_lines m) ≡ Some
       (with_last (member_changed unresolved m))

@@ -45,6 +45,7 @@ pub mod SameWithin
 pub mod SaysLaws
 pub mod ServiceBack
 pub mod ServiceForth
+pub mod ServiceTests
 pub mod StateRunLaws
 pub mod TextLaws
 pub mod TextLinesLaws

@@ -24,8 +24,7 @@ use Rattle.registry_reading_model.proofs.PartBack.{member_made, item_made, const
 use Rattle.registry_reading_model.proofs.ServiceBack.{constructors_back}
 use Rattle.registry_reading_model.proofs.WordLaws.{given, word_back}
 use Rattle.registry_reading_model.proofs.GoodParts.{is_good_field, is_good_constant, is_good_constructor, is_good_part}
-use Rattle.registry_reading_model.proofs.WritableLaws.{good_of_writable}
-use Rattle.registry_reading_model.proofs.WritableLaws.{writable_of_good}
+use Rattle.registry_reading_model.proofs.WritableLaws.{good_of_writable, writable_of_good}
 
 fields_back : (fs gs : List Field) (line : List ℕ) → fields_line same fs line ≡ Some gs → Grown (map field_line) (list_all is_good_field) fs gs line
 unfolding fields_line

@@ -21,8 +21,7 @@ use Rattle.registry_reading_model.proofs.InterfaceForth.{interface_forth}
 use Rattle.registry_reading_model.proofs.PartForth.{member_forth, item_forth, constant_forth, part_forth}
 use Rattle.registry_reading_model.proofs.RunLaws.{run_lines}
 use Rattle.registry_reading_model.proofs.ServiceForth.{service_forth}
-use Rattle.registry_reading_model.proofs.GoodParts.{is_good_field, is_good_constant, is_good_constructor, is_good_member, is_good_part}
-use Rattle.registry_reading_model.proofs.GoodParts.{is_good_body}
+use Rattle.registry_reading_model.proofs.GoodParts.{is_good_field, is_good_constant, is_good_constructor, is_good_member, is_good_part, is_good_body}
 use Rattle.registry_reading_model.proofs.WritableLaws.{good_of_writable}
 unfoldable pub use Rattle.registry_reading_model.proofs.RunLaws.{emptied, run_body}
 
@@ -76,8 +75,8 @@ body_forth_good (typedef k) good = refl
 body_forth_good (new_singleton base) good = refl
 body_forth_good (old_singleton service) good = refl
 
-pub body_forth : (e : Entity) → is_writable e ≡ true → run_body same (body_changed unresolved (emptied e.body)) (body_lines e.body) ≡ Some
-    (body_changed unresolved e.body)
+pub body_forth : (e : Entity) → is_writable e ≡ true
+    → run_body same (body_changed unresolved (emptied e.body)) (body_lines e.body) ≡ Some (body_changed unresolved e.body)
 body_forth e writable = body_forth_good e.body (good_of_writable e writable).1
 
 pub no_end : (c : Change) (b : Body) → body_line c b (codes "end") ≡ None

@@ -1,8 +1,7 @@
 -- A member of an interface that is read is printed as it was read, and so is each line under it.
-use Rattle.std.proofs.Common.{◌≡◌, ℕ, Bool, true, false, not, ◌&&◌, ◌||◌, List, [], ◌∷◌, ◌++◌, map, Some, refl, sym, ap, subst, ◌∙◌}
-use Rattle.std.proofs.Common.{append_assoc, codes}
+use Rattle.std.proofs.Common.{◌≡◌, ℕ, true, false, not, ◌&&◌, List, [], ◌∷◌, ◌++◌, map, Some, refl, sym, ap, subst, ◌∙◌, append_assoc, codes}
 use Rattle.std.specs.List.{list_all}
-use Rattle.std.proofs.lemmas.Bool.{and_parts, and_from}
+use Rattle.std.proofs.lemmas.Bool.{and_from}
 use Rattle.std.proofs.lemmas.List.{map-append}
 use Rattle.uno_model.proofs.Options.{same_some, none_some}
 use Rattle.uno_model.specs.Entities.{Attribute, Method, Member, attribute, method}
@@ -10,9 +9,7 @@ use Rattle.uno_model.specs.Kinds.{name_of}
 use Rattle.uno_model.specs.Kinds as kd
 use Rattle.uno_model.specs.Names.{is_identifier, is_entity_name}
 use Rattle.uno_model.specs.Sound.{is_some_list}
-use Rattle.registry_text_model.specs.Lines.{spaced, access_word, attribute_line, method_line, param_line, name_lines}
-use Rattle.registry_text_model.specs.Lines.{member_lines}
-use Rattle.registry_text_model.specs.OneWayMethods.{is_void}
+use Rattle.registry_text_model.specs.Lines.{spaced, access_word, attribute_line, method_line, param_line, name_lines, member_lines}
 use Rattle.registry_text_model.specs.Reading.{is_spelled}
 use Rattle.registry_reading_model.specs.Bodies.{changed_kind, pushed, attribute_of, method_of, oneway_of, param_of, get_raises_added}
 use Rattle.registry_reading_model.specs.Bodies.{set_raises_added, param_added, raises_added}
@@ -21,9 +18,8 @@ use Rattle.registry_reading_model.specs.Words.{on_some, word_of, identifier_of, 
 use Rattle.registry_reading_model.proofs.GrowthLaws.{Made, Grown, no_list, pushed_passes, pushed_is, between_runs}
 use Rattle.registry_reading_model.proofs.PartBack.{changed_kind_back, param_back}
 use Rattle.registry_reading_model.proofs.PrintedLaws.{is_text, identifier_text, entity_name_text, spaced_text, kind_text, access_text}
-use Rattle.registry_reading_model.proofs.WordLaws.{given, allowed, word_back, identifier_back, entity_name_back}
-use Rattle.registry_reading_model.proofs.WordLaws.{identifier_alone_back, access_back}
-use Rattle.registry_reading_model.proofs.GoodParts.{is_good_param, is_good_member}
+use Rattle.registry_reading_model.proofs.WordLaws.{given, allowed, word_back, identifier_back, entity_name_back, identifier_alone_back, access_back}
+use Rattle.registry_reading_model.proofs.GoodParts.{is_good_param, is_good_member, tests_of_attribute, good_attribute, tests_of_method, good_method}
 
 -- ---- first lines
 
@@ -51,7 +47,7 @@ attribute_made text m read =
     let whole : Made member_lines is_good_member (attribute made) (spaced (codes "attribute") text) =
     record {
       printed = ap (λ t. t ∷ []) (sym split);
-      passes = and_from (is_identifier x.0.0 && is_spelled k.0) true (and_from (is_identifier x.0.0) (is_spelled k.0) name.1 type.spelled) refl;
+      passes = good_attribute made (record { named = name.1; spelled = type.spelled; gets = refl; sets = refl });
       text = subst (λ t. is_text t ≡ true) (sym split) bytes;
     } in
     subst (λ n. Made member_lines is_good_member n (spaced (codes "attribute") text)) (ap attribute (same_some k.2) ∙ same_some a.2) whole
@@ -112,8 +108,8 @@ second_run first xs ys x = ap (λ t. first ∷ t) (sym (append_assoc xs ys (x �
 
 -- one more name
 pub names_grow : (word text : List ℕ) (xs ys : List (List ℕ)) → pushed xs (entity_name_of text) ≡ Some ys
-    → (name_lines word ys ≡ name_lines word xs ++ spaced word text ∷ []) × (list_all is_entity_name xs ≡ true → list_all is_entity_name ys ≡ true) ×
-    (is_text text ≡ true)
+    → (name_lines word ys ≡ name_lines word xs ++ spaced word text ∷ []) × (list_all is_entity_name xs ≡ true → list_all is_entity_name ys ≡ true)
+    × (is_text text ≡ true)
 names_grow word text xs ys read =
     let x = pushed_is xs ys (entity_name_of text) read in
     let named = entity_name_back text x.0 x.1 in (
@@ -140,11 +136,8 @@ get_raises_grow text (attribute a) n read =
           ∙ first_run (attribute_line a) (name_lines (codes "getraises") a.get_raises) (name_lines (codes "setraises") a.set_raises)
           (spaced (codes "getraises") text) none;
       passes = λ good.
-          let both = and_parts (is_identifier a.name && is_spelled a.kind)
-          (list_all is_entity_name a.get_raises && list_all is_entity_name a.set_raises) good in
-          let raises = and_parts (list_all is_entity_name a.get_raises) (list_all is_entity_name a.set_raises) both.1 in
-          and_from (is_identifier a.name && is_spelled a.kind) (list_all is_entity_name names.0 && list_all is_entity_name a.set_raises) both.0
-          (and_from (list_all is_entity_name names.0) (list_all is_entity_name a.set_raises) (grow.1 raises.0) raises.1);
+          let t = tests_of_attribute a good in
+          good_attribute made (record { named = t.named; spelled = t.spelled; gets = grow.1 t.gets; sets = t.sets });
       text = spaced_text (codes "getraises") text refl grow.2;
     } in
     subst (λ p. Grown member_lines is_good_member (attribute a) p (spaced (codes "getraises") text)) (same_some names.2) whole
@@ -164,18 +157,11 @@ set_raises_grow text (attribute a) n read =
           ∙ second_run (attribute_line a) (name_lines (codes "getraises") a.get_raises) (name_lines (codes "setraises") a.set_raises)
           (spaced (codes "setraises") text);
       passes = λ good.
-          let both = and_parts (is_identifier a.name && is_spelled a.kind)
-          (list_all is_entity_name a.get_raises && list_all is_entity_name a.set_raises) good in
-          let raises = and_parts (list_all is_entity_name a.get_raises) (list_all is_entity_name a.set_raises) both.1 in
-          and_from (is_identifier a.name && is_spelled a.kind) (list_all is_entity_name a.get_raises && list_all is_entity_name names.0) both.0
-          (and_from (list_all is_entity_name a.get_raises) (list_all is_entity_name names.0) raises.0 (grow.1 raises.1));
+          let t = tests_of_attribute a good in
+          good_attribute made (record { named = t.named; spelled = t.spelled; gets = t.gets; sets = grow.1 t.sets });
       text = spaced_text (codes "setraises") text refl grow.2;
     } in
     subst (λ p. Grown member_lines is_good_member (attribute a) p (spaced (codes "setraises") text)) (same_some names.2) whole
-
--- what is asked of a method, before its parameters
-abbrev is_good_head : Method → Bool
-is_good_head m = (is_identifier m.name && is_spelled m.result_kind) && (not m.oneway || is_void m.result_kind)
 
 pub param_grow : (text : List ℕ) (m n : Member) → param_added same text m ≡ Some n
     → Grown member_lines is_good_member m n (spaced (codes "param") text)
@@ -197,11 +183,9 @@ param_grow text (method o) n read =
           ap (λ t. method_line o ∷ (t ++ name_lines (codes "raises") o.raises)) line
           ∙ first_run (method_line o) (map param_line o.params) (name_lines (codes "raises") o.raises) (spaced (codes "param") text) none;
       passes = λ good.
-          let both = and_parts (is_good_head o) (list_all is_good_param o.params && list_all is_entity_name o.raises) good in
-          let rest = and_parts (list_all is_good_param o.params) (list_all is_entity_name o.raises) both.1 in
-          and_from (is_good_head o) (list_all is_good_param params.0 && list_all is_entity_name o.raises) both.0
-          (and_from (list_all is_good_param params.0) (list_all is_entity_name o.raises)
-          (rw (p.2) (pushed_passes is_good_param o.params p.0 rest.0 is.good)) rest.1);
+          let t = tests_of_method o good in
+          let params_good : list_all is_good_param params.0 ≡ true = rw (p.2) (pushed_passes is_good_param o.params p.0 t.good_params is.good) in
+          good_method made (record { named = t.named; spelled = t.spelled; void = t.void; good_params = params_good; raised = t.raised });
       text = spaced_text (codes "param") text refl is.bytes;
     } in
     subst (λ q. Grown member_lines is_good_member (method o) q (spaced (codes "param") text)) (same_some params.2) whole
@@ -219,10 +203,8 @@ raises_grow text (method o) n read =
           ap (λ t. method_line o ∷ (map param_line o.params ++ t)) grow.0
           ∙ second_run (method_line o) (map param_line o.params) (name_lines (codes "raises") o.raises) (spaced (codes "raises") text);
       passes = λ good.
-          let both = and_parts (is_good_head o) (list_all is_good_param o.params && list_all is_entity_name o.raises) good in
-          let rest = and_parts (list_all is_good_param o.params) (list_all is_entity_name o.raises) both.1 in
-          and_from (is_good_head o) (list_all is_good_param o.params && list_all is_entity_name names.0) both.0
-          (and_from (list_all is_good_param o.params) (list_all is_entity_name names.0) rest.0 (grow.1 rest.1));
+          let t = tests_of_method o good in
+          good_method made (record { named = t.named; spelled = t.spelled; void = t.void; good_params = t.good_params; raised = grow.1 t.raised });
       text = spaced_text (codes "raises") text refl grow.2;
     } in
     subst (λ q. Grown member_lines is_good_member (method o) q (spaced (codes "raises") text)) (same_some names.2) whole

@@ -56,8 +56,7 @@ field_back text f read =
     record {
       split = split;
       good = and_from (is_identifier x.0.0) (is_spelled k.0) name.1 type.spelled;
-      bytes = subst (λ t. is_text t ≡ true)
-          (sym split) bytes;
+      bytes = subst (λ t. is_text t ≡ true) (sym split) bytes;
     } in
     subst (λ g. IsField text g) (same_some k.2) whole
 
@@ -85,8 +84,7 @@ param_back text p read =
     record {
       split = split;
       good = and_from (is_identifier y.0.0) (is_spelled k.0) name.1 type.spelled;
-      bytes = subst (λ t. is_text t ≡ true)
-          (sym split) bytes;
+      bytes = subst (λ t. is_text t ≡ true) (sym split) bytes;
     } in
     subst (λ q. IsParam text q) (same_some k.2) whole
 

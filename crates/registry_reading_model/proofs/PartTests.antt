@@ -4,19 +4,15 @@ use Rattle.std.specs.List.{list_all}
 use Rattle.std.proofs.lemmas.Bool.{and_parts, and_from}
 use Rattle.std.proofs.lemmas.List.Folds.{list_all-map}
 use Rattle.uno_model.proofs.AllLaws.{all_both, each_of_both, all_append, of_append, all_flat, of_flat}
-use Rattle.uno_model.specs.Entities.{Base, Member, attribute, method, Constructor, Part, face, subservice, property}
-use Rattle.uno_model.specs.Entities.{Body, interface, new_service, old_service}
-use Rattle.uno_model.specs.Entities.{Entity}
+use Rattle.uno_model.specs.Entities.{Base, Member, attribute, method, Body, interface, Entity}
 use Rattle.uno_model.specs.Kinds.{Kind}
 use Rattle.uno_model.specs.Names.{is_identifier, is_entity_name}
-use Rattle.uno_model.specs.Registry.{at_most_one}
 use Rattle.uno_model.specs.Sound.{is_named}
 use Rattle.uno_model.specs.Uses.{inner_names, raised_names, interfaces_used, services_used, kinds_in, value_kinds, result_kinds, target_kinds}
-use Rattle.uno_model.specs.Uses.{member_names, constructor_names, part_names, raised_by, interfaces_of_part, services_of_part, value_kinds_of}
-use Rattle.uno_model.specs.Uses.{result_kinds_of, property_kinds}
+use Rattle.uno_model.specs.Uses.{member_names, raised_by, value_kinds_of, result_kinds_of}
 use Rattle.registry_text_model.specs.OneWayMethods.{is_void}
 use Rattle.registry_text_model.specs.Reading.{is_spelled, is_writable, names_used, base_names, results_written, oneway_is_void}
-use Rattle.registry_reading_model.proofs.GoodParts.{is_good_field, is_good_param, is_good_member, is_good_constructor, is_good_part}
+use Rattle.registry_reading_model.proofs.GoodParts.{is_good_member, tests_of_attribute, good_attribute, tests_of_method, good_method}
 
 -- ---- tests of lists
 
@@ -48,16 +44,16 @@ pub tests_of : (e : Entity) → is_writable e ≡ true → (is_entity_name e.nam
 unfolding is_writable
 tests_of e writable =
     let body = e.body in
-    let first = and_parts (is_named e) (list_all is_entity_name (names_used body) &&
-    (list_all is_spelled (kinds_in body) && results_written body)) writable in
+    let others = list_all is_spelled (kinds_in body) && results_written body in
+    let first = and_parts (is_named e) (list_all is_entity_name (names_used body) && others) writable in
     let named = and_parts (is_entity_name e.name) (list_all is_identifier (inner_names body)) first.0 in
-    let second = and_parts (list_all is_entity_name (names_used body)) (list_all is_spelled (kinds_in body) && results_written body) first.1 in
+    let second = and_parts (list_all is_entity_name (names_used body)) others first.1 in
     let third = and_parts (list_all is_spelled (kinds_in body)) (results_written body) second.1 in
     let used = of_append is_entity_name (base_names body) (raised_names body ++ (interfaces_used body ++ services_used body)) second.0 in
     let raised = of_append is_entity_name (raised_names body) (interfaces_used body ++ services_used body) used.1 in
     let parts = of_append is_entity_name (interfaces_used body) (services_used body) raised.1 in
     let kinds = of_append is_spelled (value_kinds body) (result_kinds body ++ target_kinds body) third.0 in
-    let others = of_append is_spelled (result_kinds body) (target_kinds body) kinds.1 in (
+    let more_kinds = of_append is_spelled (result_kinds body) (target_kinds body) kinds.1 in (
       named.0,
       record {
         inner = named.1;
@@ -66,8 +62,8 @@ tests_of e writable =
         interfaces = parts.0;
         services = parts.1;
         values = kinds.0;
-        results = others.0;
-        targets = others.1;
+        results = more_kinds.0;
+        targets = more_kinds.1;
         void = third.1;
       },
     )
@@ -123,53 +119,47 @@ member_passes m = (names_pass m && kinds_pass m) && oneway_is_void m
 good_member : (m : Member) → member_passes m ≡ true → is_good_member m ≡ true
 good_member (attribute a) passes =
     let m = attribute a in
-    let all = and_parts (names_pass m && kinds_pass m) true passes in
-    let both = and_parts (names_pass m) (kinds_pass m) all.0 in
+    let both = and_parts (names_pass m) (kinds_pass m) (only (names_pass m && kinds_pass m) passes) in
     let names = and_parts (is_identifier a.name && true) (list_all is_entity_name (a.get_raises ++ a.set_raises)) both.0 in
-    let kind = only (is_spelled a.kind) (only (is_spelled a.kind && true) both.1) in
     let raises = of_append is_entity_name a.get_raises a.set_raises names.1 in
-    and_from (is_identifier a.name && is_spelled a.kind) (list_all is_entity_name a.get_raises && list_all is_entity_name a.set_raises)
-    (and_from (is_identifier a.name) (is_spelled a.kind) (only (is_identifier a.name) names.0) kind)
-    (and_from (list_all is_entity_name a.get_raises) (list_all is_entity_name a.set_raises) raises.0 raises.1)
+    let kind = only (is_spelled a.kind) (only (is_spelled a.kind && true) both.1) in
+    good_attribute a (record { named = only (is_identifier a.name) names.0; spelled = kind; gets = raises.0; sets = raises.1 })
 good_member (method o) passes =
     let m = method o in
-    let void = not o.oneway || is_void o.result_kind in
-    let all = and_parts (names_pass m && kinds_pass m) void passes in
+    let own_names = is_identifier o.name && list_all is_identifier (map (λ p. p.name) o.params) in
+    let all = and_parts (names_pass m && kinds_pass m) (not o.oneway || is_void o.result_kind) passes in
     let both = and_parts (names_pass m) (kinds_pass m) all.0 in
-    let names = and_parts (is_identifier o.name && list_all is_identifier (map (λ p. p.name) o.params)) (list_all is_entity_name o.raises) both.0 in
+    let names = and_parts own_names (list_all is_entity_name o.raises) both.0 in
     let own = and_parts (is_identifier o.name) (list_all is_identifier (map (λ p. p.name) o.params)) names.0 in
     let kinds = and_parts (list_all is_spelled (map (λ p. p.kind) o.params)) (is_spelled o.result_kind && true) both.1 in
-    let params = both_of_maps (λ p. p.name) (λ p. p.kind) o.params own.1 kinds.0 in
-    and_from ((is_identifier o.name && is_spelled o.result_kind) && void) (list_all is_good_param o.params && list_all is_entity_name o.raises)
-    (and_from (is_identifier o.name && is_spelled o.result_kind) void
-    (and_from (is_identifier o.name) (is_spelled o.result_kind) own.0 (only (is_spelled o.result_kind) kinds.1)) all.1)
-    (and_from (list_all is_good_param o.params) (list_all is_entity_name o.raises) params names.1)
+    good_method o
+    (record {
+      named = own.0;
+      spelled = only (is_spelled o.result_kind) kinds.1;
+      void = all.1;
+      good_params = both_of_maps (λ p. p.name) (λ p. p.kind) o.params own.1 kinds.0;
+      raised = names.1;
+    })
 
 member_good : (m : Member) → is_good_member m ≡ true → member_passes m ≡ true
 member_good (attribute a) good =
     let m = attribute a in
-    let both = and_parts (is_identifier a.name && is_spelled a.kind)
-    (list_all is_entity_name a.get_raises && list_all is_entity_name a.set_raises) good in
-    let own = and_parts (is_identifier a.name) (is_spelled a.kind) both.0 in
-    let raises = and_parts (list_all is_entity_name a.get_raises) (list_all is_entity_name a.set_raises) both.1 in
-    let names = and_from (is_identifier a.name && true) (list_all is_entity_name (a.get_raises ++ a.set_raises)) (alone (is_identifier a.name) own.0)
-    (all_append is_entity_name a.get_raises a.set_raises raises.0 raises.1) in
-    let kinds = alone (is_spelled a.kind && true) (alone (is_spelled a.kind) own.1) in
+    let t = tests_of_attribute a good in
+    let raises = all_append is_entity_name a.get_raises a.set_raises t.gets t.sets in
+    let named = alone (is_identifier a.name) t.named in
+    let names = and_from (is_identifier a.name && true) (list_all is_entity_name (a.get_raises ++ a.set_raises)) named raises in
+    let kinds = alone (is_spelled a.kind && true) (alone (is_spelled a.kind) t.spelled) in
     alone (names_pass m && kinds_pass m) (and_from (names_pass m) (kinds_pass m) names kinds)
 member_good (method o) good =
     let m = method o in
-    let void = not o.oneway || is_void o.result_kind in
-    let both = and_parts ((is_identifier o.name && is_spelled o.result_kind) && void)
-    (list_all is_good_param o.params && list_all is_entity_name o.raises) good in
-    let front = and_parts (is_identifier o.name && is_spelled o.result_kind) void both.0 in
-    let own = and_parts (is_identifier o.name) (is_spelled o.result_kind) front.0 in
-    let rest = and_parts (list_all is_good_param o.params) (list_all is_entity_name o.raises) both.1 in
-    let params = maps_of_both (λ p. p.name) (λ p. p.kind) o.params rest.0 in
-    let names = and_from (is_identifier o.name && list_all is_identifier (map (λ p. p.name) o.params)) (list_all is_entity_name o.raises)
-    (and_from (is_identifier o.name) (list_all is_identifier (map (λ p. p.name) o.params)) own.0 params.0) rest.1 in
-    let kinds = and_from (list_all is_spelled (map (λ p. p.kind) o.params)) (is_spelled o.result_kind && true) params.1
-    (alone (is_spelled o.result_kind) own.1) in
-    and_from (names_pass m && kinds_pass m) void (and_from (names_pass m) (kinds_pass m) names kinds) front.1
+    let t = tests_of_method o good in
+    let params = maps_of_both (λ p. p.name) (λ p. p.kind) o.params t.good_params in
+    let own_names = is_identifier o.name && list_all is_identifier (map (λ p. p.name) o.params) in
+    let own = and_from (is_identifier o.name) (list_all is_identifier (map (λ p. p.name) o.params)) t.named params.0 in
+    let names = and_from own_names (list_all is_entity_name o.raises) own t.raised in
+    let result = alone (is_spelled o.result_kind) t.spelled in
+    let kinds = and_from (list_all is_spelled (map (λ p. p.kind) o.params)) (is_spelled o.result_kind && true) params.1 result in
+    and_from (names_pass m && kinds_pass m) (not o.oneway || is_void o.result_kind) (and_from (names_pass m) (kinds_pass m) names kinds) t.void
 
 pub good_members : (bases : List Base) (members : List Member) → Tests (interface bases members) → list_all is_good_member members ≡ true
 good_members bases members t =
@@ -200,117 +190,4 @@ members_good bases members named good =
       results = all_flat is_spelled result_kinds_of members kinds.1;
       targets = refl;
       void = all.1;
-    }
-
--- ---- constructors
-
-abbrev constructor_passes : Constructor → Bool
-constructor_passes k = (list_all is_identifier (constructor_names k) && list_all is_entity_name k.raises) && list_all is_spelled
-    (map (λ p. p.kind) k.params)
-
-good_constructor : (k : Constructor) → constructor_passes k ≡ true → is_good_constructor k ≡ true
-good_constructor k passes =
-    let both = and_parts (list_all is_identifier (constructor_names k) && list_all is_entity_name k.raises)
-    (list_all is_spelled (map (λ p. p.kind) k.params)) passes in
-    let front = and_parts (list_all is_identifier (constructor_names k)) (list_all is_entity_name k.raises) both.0 in
-    let names = of_append is_identifier (k.name ∷ map (λ p. p.name) k.params) (at_most_one k.rest) front.0 in
-    let own = and_parts (is_identifier k.name) (list_all is_identifier (map (λ p. p.name) k.params)) names.0 in
-    let params = both_of_maps (λ p. p.name) (λ p. p.kind) k.params own.1 both.1 in
-    and_from (is_identifier k.name) (list_all is_good_field k.params &&
-    (list_all is_identifier (at_most_one k.rest) && list_all is_entity_name k.raises)) own.0
-    (and_from (list_all is_good_field k.params) (list_all is_identifier (at_most_one k.rest) && list_all is_entity_name k.raises) params
-    (and_from (list_all is_identifier (at_most_one k.rest)) (list_all is_entity_name k.raises) names.1 front.1))
-
-constructor_good : (k : Constructor) → is_good_constructor k ≡ true → constructor_passes k ≡ true
-constructor_good k good =
-    let own = and_parts (is_identifier k.name) (list_all is_good_field k.params &&
-    (list_all is_identifier (at_most_one k.rest) && list_all is_entity_name k.raises)) good in
-    let others = and_parts (list_all is_good_field k.params)
-    (list_all is_identifier (at_most_one k.rest) && list_all is_entity_name k.raises) own.1 in
-    let rest = and_parts (list_all is_identifier (at_most_one k.rest)) (list_all is_entity_name k.raises) others.1 in
-    let params = maps_of_both (λ p. p.name) (λ p. p.kind) k.params others.0 in
-    let names = all_append is_identifier (k.name ∷ map (λ p. p.name) k.params) (at_most_one k.rest)
-    (and_from (is_identifier k.name) (list_all is_identifier (map (λ p. p.name) k.params)) own.0 params.0) rest.0 in
-    and_from (list_all is_identifier (constructor_names k) && list_all is_entity_name k.raises) (list_all is_spelled (map (λ p. p.kind) k.params))
-    (and_from (list_all is_identifier (constructor_names k)) (list_all is_entity_name k.raises) names rest.1) params.1
-
-pub good_constructors : (base : List ℕ) (ks : List Constructor) → Tests (new_service base ks) → list_all is_good_constructor ks ≡ true
-good_constructors base ks t =
-    let inner = of_flat is_identifier constructor_names ks t.inner in
-    let raised = of_flat is_entity_name (λ k. k.raises) ks t.raised in
-    let values = of_flat is_spelled (λ k. map (λ p. p.kind) k.params) ks t.values in
-    let front = all_both (λ k. list_all is_identifier (constructor_names k)) (λ k. list_all is_entity_name k.raises) ks inner raised in
-    all_more constructor_passes is_good_constructor good_constructor ks
-    (all_both (λ k. list_all is_identifier (constructor_names k) && list_all is_entity_name k.raises)
-    (λ k. list_all is_spelled (map (λ p. p.kind) k.params)) ks front values)
-
-pub constructors_good : (base : List ℕ) (ks : List Constructor) → is_entity_name base ≡ true → list_all is_good_constructor ks ≡ true
-    → Tests (new_service base ks)
-constructors_good base ks named good =
-    let all = each_of_both (λ k. list_all is_identifier (constructor_names k) && list_all is_entity_name k.raises)
-    (λ k. list_all is_spelled (map (λ p. p.kind) k.params)) ks
-    (all_more is_good_constructor constructor_passes constructor_good ks good) in
-    let front = each_of_both (λ k. list_all is_identifier (constructor_names k)) (λ k. list_all is_entity_name k.raises) ks all.0 in
-    record {
-      inner = all_flat is_identifier constructor_names ks front.0;
-      bases = refl;
-      raised = all_flat is_entity_name (λ k. k.raises) ks front.1;
-      interfaces = alone (is_entity_name base) named;
-      services = refl;
-      values = all_flat is_spelled (λ k. map (λ p. p.kind) k.params) ks all.1;
-      results = refl;
-      targets = refl;
-      void = refl;
-    }
-
--- ---- parts of old services
-
-abbrev part_names_pass : Part → Bool
-part_names_pass p = list_all is_identifier (part_names p) && list_all is_spelled (property_kinds p)
-
-abbrev part_uses_pass : Part → Bool
-part_uses_pass p = list_all is_entity_name (interfaces_of_part p) && list_all is_entity_name (services_of_part p)
-
-good_part : (p : Part) → (part_names_pass p && part_uses_pass p) ≡ true → is_good_part p ≡ true
-good_part (face optional name) passes = only (is_entity_name name) (only (is_entity_name name && true) passes)
-good_part (subservice optional name) passes = only (is_entity_name name) passes
-good_part (property name flags k) passes =
-    let both = and_parts (is_identifier name && true) (is_spelled k && true)
-    (and_parts ((is_identifier name && true) && (is_spelled k && true)) true passes).0 in
-    and_from (is_identifier name) (is_spelled k) (only (is_identifier name) both.0) (only (is_spelled k) both.1)
-
-part_good : (p : Part) → is_good_part p ≡ true → (part_names_pass p && part_uses_pass p) ≡ true
-part_good (face optional name) good = alone (is_entity_name name && true) (alone (is_entity_name name) good)
-part_good (subservice optional name) good = alone (is_entity_name name) good
-part_good (property name flags k) good =
-    let both = and_parts (is_identifier name) (is_spelled k) good in
-    alone ((is_identifier name && true) && (is_spelled k && true))
-    (and_from (is_identifier name && true) (is_spelled k && true) (alone (is_identifier name) both.0) (alone (is_spelled k) both.1))
-
-pub good_parts : (ps : List Part) → Tests (old_service ps) → list_all is_good_part ps ≡ true
-good_parts ps t =
-    let names = of_flat is_identifier part_names ps t.inner in
-    let kinds = of_flat is_spelled property_kinds ps t.values in
-    let faces = of_flat is_entity_name interfaces_of_part ps t.interfaces in
-    let services = of_flat is_entity_name services_of_part ps t.services in
-    let first = all_both (λ p. list_all is_identifier (part_names p)) (λ p. list_all is_spelled (property_kinds p)) ps names kinds in
-    let second = all_both (λ p. list_all is_entity_name (interfaces_of_part p))
-    (λ p. list_all is_entity_name (services_of_part p)) ps faces services in
-    all_more (λ p. part_names_pass p && part_uses_pass p) is_good_part good_part ps (all_both part_names_pass part_uses_pass ps first second)
-
-pub parts_good : (ps : List Part) → list_all is_good_part ps ≡ true → Tests (old_service ps)
-parts_good ps good =
-    let all = each_of_both part_names_pass part_uses_pass ps (all_more is_good_part (λ p. part_names_pass p && part_uses_pass p) part_good ps good) in
-    let first = each_of_both (λ p. list_all is_identifier (part_names p)) (λ p. list_all is_spelled (property_kinds p)) ps all.0 in
-    let second = each_of_both (λ p. list_all is_entity_name (interfaces_of_part p)) (λ p. list_all is_entity_name (services_of_part p)) ps all.1 in
-    record {
-      inner = all_flat is_identifier part_names ps first.0;
-      bases = refl;
-      raised = refl;
-      interfaces = all_flat is_entity_name interfaces_of_part ps second.0;
-      services = all_flat is_entity_name services_of_part ps second.1;
-      values = all_flat is_spelled property_kinds ps first.1;
-      results = refl;
-      targets = refl;
-      void = refl;
     }

@@ -1,5 +1,5 @@
 -- A line of a new service that is read is the next of what is printed of its constructors.
-use Rattle.std.proofs.Common.{◌≡◌, ℕ, true, not, ◌&&◌, is_none, List, [], ◌∷◌, ◌++◌, map, Option, None, Some, refl, sym, ap, subst, ◌∙◌, append_assoc}
+use Rattle.std.proofs.Common.{◌≡◌, ℕ, true, not, is_none, List, [], ◌∷◌, ◌++◌, map, Option, None, Some, refl, sym, ap, subst, ◌∙◌, append_assoc}
 use Rattle.std.proofs.Common.{append-nil, codes}
 use Rattle.std.specs.List.{list_all, flat_map}
 use Rattle.std.specs.Str.{bytes_eq}
@@ -7,8 +7,7 @@ use Rattle.std.proofs.lemmas.Bool.{and_parts, and_from}
 use Rattle.std.proofs.lemmas.List.{map-append}
 use Rattle.uno_model.proofs.Options.{same_some, none_some}
 use Rattle.uno_model.specs.Entities.{Constructor}
-use Rattle.uno_model.specs.Names.{is_identifier, is_entity_name}
-use Rattle.uno_model.specs.Registry.{at_most_one}
+use Rattle.uno_model.specs.Names.{is_identifier}
 use Rattle.uno_model.specs.Sound.{is_some_list}
 use Rattle.registry_text_model.specs.Lines.{spaced, given_line, rest_lines, name_lines, constructor_lines}
 use Rattle.registry_reading_model.specs.Bodies.{pushed, last_changed, field_of, is_open, constructor_of, given_added, rest_added, raised_added}
@@ -20,7 +19,7 @@ use Rattle.registry_reading_model.proofs.MemberBack.{first_run, names_grow}
 use Rattle.registry_reading_model.proofs.PartBack.{field_back, behind_word_back}
 use Rattle.registry_reading_model.proofs.PrintedLaws.{is_text, identifier_text, spaced_text}
 use Rattle.registry_reading_model.proofs.WordLaws.{given, allowed, chosen, same_word, identifier_alone_back}
-use Rattle.registry_reading_model.proofs.GoodParts.{is_good_field, is_good_constructor}
+use Rattle.registry_reading_model.proofs.GoodParts.{is_good_field, is_good_constructor, tests_of_constructor, good_constructor}
 
 abbrev IsGrown : Constructor → Constructor → List ℕ → Type 0
 IsGrown j k line = Grown constructor_lines is_good_constructor j k line
@@ -38,9 +37,8 @@ constructor_made text k read =
     let whole : Made constructor_lines is_good_constructor made (spaced (codes "constructor") text) =
     record {
       printed = ap (λ t. t ∷ []) (sym split);
-      passes = and_from (is_identifier x.0) true name.1 refl;
-      text = subst (λ t. is_text t ≡ true)
-          (sym split) bytes;
+      passes = good_constructor made (record { named = name.1; good_params = refl; rest_named = refl; raised = refl });
+      text = subst (λ t. is_text t ≡ true) (sym split) bytes;
     } in
     subst (λ j. Made constructor_lines is_good_constructor j (spaced (codes "constructor") text)) (same_some x.2) whole
 
@@ -80,14 +78,9 @@ given_grow text j k read =
           ∙ first_run (spaced (codes "constructor") j.name) (map given_line j.params) (rest_lines j.rest ++ name_lines (codes "raises") j.raises)
           (spaced (codes "param") text) none;
       passes = λ good.
-          let own = and_parts (is_identifier j.name) (list_all is_good_field j.params &&
-          (list_all is_identifier (at_most_one j.rest) && list_all is_entity_name j.raises)) good in
-          let others = and_parts (list_all is_good_field j.params)
-          (list_all is_identifier (at_most_one j.rest) && list_all is_entity_name j.raises) own.1 in
-          and_from (is_identifier j.name) (list_all is_good_field params.0 &&
-          (list_all is_identifier (at_most_one j.rest) && list_all is_entity_name j.raises)) own.0
-          (and_from (list_all is_good_field params.0) (list_all is_identifier (at_most_one j.rest) && list_all is_entity_name j.raises)
-          (rw (p.2) (pushed_passes is_good_field j.params p.0 others.0 is.good)) others.1);
+          let t = tests_of_constructor j good in
+          let params_good : list_all is_good_field params.0 ≡ true = rw (p.2) (pushed_passes is_good_field j.params p.0 t.good_params is.good) in
+          good_constructor made (record { named = t.named; good_params = params_good; rest_named = t.rest_named; raised = t.raised });
       text = spaced_text (codes "param") text refl bytes;
     } in
     subst (λ l. IsGrown j l (spaced (codes "param") text)) (same_some params.2) whole
@@ -113,14 +106,9 @@ rest_grow text j k read =
           ∙ ap (λ t. first ∷ (t ++ spaced (codes "rest") text ∷ [])) (sym (append-nil (map given_line j.params)))
           ∙ ap (λ t. first ∷ ((map given_line j.params ++ t) ++ spaced (codes "rest") text ∷ [])) (sym before);
       passes = λ good.
-          let own = and_parts (is_identifier j.name) (list_all is_good_field j.params &&
-          (list_all is_identifier (at_most_one j.rest) && list_all is_entity_name j.raises)) good in
-          let others = and_parts (list_all is_good_field j.params)
-          (list_all is_identifier (at_most_one j.rest) && list_all is_entity_name j.raises) own.1 in
-          let last = and_parts (list_all is_identifier (at_most_one j.rest)) (list_all is_entity_name j.raises) others.1 in
-          and_from (is_identifier j.name) (list_all is_good_field j.params && ((is_identifier x.0 && true) && list_all is_entity_name j.raises)) own.0
-          (and_from (list_all is_good_field j.params) ((is_identifier x.0 && true) && list_all is_entity_name j.raises) others.0
-          (and_from (is_identifier x.0 && true) (list_all is_entity_name j.raises) (and_from (is_identifier x.0) true name.1 refl) last.1));
+          let t = tests_of_constructor j good in
+          let rest_named = and_from (is_identifier x.0) true name.1 refl in
+          good_constructor made (record { named = t.named; good_params = t.good_params; rest_named = rest_named; raised = t.raised });
       text = spaced_text (codes "rest") text refl (subst (λ t. is_text t ≡ true) (sym name.0) (identifier_text x.0 name.1));
     } in
     subst (λ l. IsGrown j l (spaced (codes "rest") text)) (same_some x.2) whole
@@ -134,24 +122,17 @@ raised_grow text j k read =
     let first = spaced (codes "constructor") j.name in
     let params = map given_line j.params in
     let made : Constructor = record { name = j.name; params = j.params; rest = j.rest; raises = names.0 } in
-    let whole : IsGrown j made (spaced (codes "raises") text) =
+    let line = spaced (codes "raises") text in
+    let old = name_lines (codes "raises") j.raises in
+    let whole : IsGrown j made line =
     record {
       printed =
           ap (λ t. first ∷ (params ++ (rest_lines j.rest ++ t))) grow.0
-          ∙ ap (λ t. first ∷ (params ++ t)) (sym
-          (append_assoc (rest_lines j.rest) (name_lines (codes "raises") j.raises) (spaced (codes "raises") text ∷ [])))
-          ∙ ap (λ t. first ∷ t) (sym
-          (append_assoc params (rest_lines j.rest ++ name_lines (codes "raises") j.raises) (spaced (codes "raises") text ∷ [])));
+          ∙ ap (λ t. first ∷ (params ++ t)) (sym (append_assoc (rest_lines j.rest) old (line ∷ [])))
+          ∙ ap (λ t. first ∷ t) (sym (append_assoc params (rest_lines j.rest ++ old) (line ∷ [])));
       passes = λ good.
-          let own = and_parts (is_identifier j.name) (list_all is_good_field j.params &&
-          (list_all is_identifier (at_most_one j.rest) && list_all is_entity_name j.raises)) good in
-          let others = and_parts (list_all is_good_field j.params)
-          (list_all is_identifier (at_most_one j.rest) && list_all is_entity_name j.raises) own.1 in
-          let last = and_parts (list_all is_identifier (at_most_one j.rest)) (list_all is_entity_name j.raises) others.1 in
-          and_from (is_identifier j.name) (list_all is_good_field j.params &&
-          (list_all is_identifier (at_most_one j.rest) && list_all is_entity_name names.0)) own.0
-          (and_from (list_all is_good_field j.params) (list_all is_identifier (at_most_one j.rest) && list_all is_entity_name names.0) others.0
-          (and_from (list_all is_identifier (at_most_one j.rest)) (list_all is_entity_name names.0) last.0 (grow.1 last.1)));
+          let t = tests_of_constructor j good in
+          good_constructor made (record { named = t.named; good_params = t.good_params; rest_named = t.rest_named; raised = grow.1 t.raised });
       text = spaced_text (codes "raises") text refl grow.2;
     } in
     subst (λ l. IsGrown j l (spaced (codes "raises") text)) (same_some names.2) whole

@@ -1,5 +1,5 @@
 -- The lines that are printed of a new service are read.
-use Rattle.std.proofs.Common.{◌≡◌, ℕ, true, ◌&&◌, List, [], ◌∷◌, ◌++◌, map, Option, None, Some, refl, ◌∙◌, codes}
+use Rattle.std.proofs.Common.{◌≡◌, ℕ, true, List, [], ◌∷◌, ◌++◌, map, Option, None, Some, refl, ◌∙◌, codes}
 use Rattle.std.specs.List.{list_all, flat_map}
 use Rattle.std.proofs.lemmas.Bool.{and_parts}
 use Rattle.uno_model.specs.Entities.{Field, Constructor, Body, new_service}
@@ -14,7 +14,7 @@ use Rattle.registry_reading_model.proofs.PartForth.{field_forth}
 use Rattle.registry_reading_model.proofs.RunLaws.{run_body, run_one, run_on, run_lines, run_flat, run_unchanged, last_forth, behind_word_forth}
 use Rattle.registry_reading_model.proofs.RunLaws.{behind_spaced}
 use Rattle.registry_reading_model.proofs.WordLaws.{lacks}
-use Rattle.registry_reading_model.proofs.GoodParts.{is_good_field, is_good_constructor}
+use Rattle.registry_reading_model.proofs.GoodParts.{is_good_field, is_good_constructor, tests_of_constructor}
 
 module _ (base : List ℕ) (done : List Constructor) where
   -- with this constructor behind the others
@@ -87,23 +87,19 @@ module _ (base : List ℕ) (done : List Constructor) where
   constructor_read : (k : Constructor) → is_good_constructor k ≡ true
       → run_body same (new_service base done) (constructor_lines k) ≡ Some (with_last (constructor_changed unresolved k))
   constructor_read k good =
-      let own = and_parts (is_identifier k.name) (list_all is_good_field k.params &&
-      (list_all is_identifier (at_most_one k.rest) && list_all is_entity_name k.raises)) good in
-      let others = and_parts (list_all is_good_field k.params)
-      (list_all is_identifier (at_most_one k.rest) && list_all is_entity_name k.raises) own.1 in
-      let last = and_parts (list_all is_identifier (at_most_one k.rest)) (list_all is_entity_name k.raises) others.1 in
+      let t = tests_of_constructor k good in
       let params = map (field_changed unresolved) k.params in
       let raises = name_lines (codes "raises") k.raises in
       run_one (new_service base done) (with_last (taking k.name [] None [])) (spaced (codes "constructor") k.name)
-      (map given_line k.params ++ (rest_lines k.rest ++ raises)) (head_read k.name own.0)
+      (map given_line k.params ++ (rest_lines k.rest ++ raises)) (head_read k.name t.named)
       ∙ run_on (with_last (taking k.name [] None [])) (with_last (taking k.name params None [])) (map given_line k.params)
       (rest_lines k.rest ++ raises)
       (run_lines (λ ps. with_last (taking k.name ps None [])) (field_changed unresolved) is_good_field given_line
-      (λ ps p is. given_read k.name ps p is) [] k.params others.0)
+      (λ ps p is. given_read k.name ps p is) [] k.params t.good_params)
       ∙ run_on (with_last (taking k.name params None [])) (with_last (taking k.name params k.rest [])) (rest_lines k.rest) raises
-      (rest_read k.name params k.rest last.0)
+      (rest_read k.name params k.rest t.rest_named)
       ∙ run_unchanged (λ ns. with_last (taking k.name params k.rest ns)) is_entity_name (spaced (codes "raises"))
-      (λ ns n named. raised_read k.name params k.rest ns n named) k.raises last.1
+      (λ ns n named. raised_read k.name params k.rest ns n named) k.raises t.raised
 
 -- ---- the whole service
 

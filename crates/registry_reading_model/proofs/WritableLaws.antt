@@ -2,15 +2,15 @@
 use Rattle.std.proofs.Common.{◌≡◌, ℕ, true, ◌&&◌, List, map, Option, refl}
 use Rattle.std.specs.List.{list_all}
 use Rattle.std.proofs.lemmas.Bool.{and_parts, and_from}
-use Rattle.uno_model.specs.Entities.{Field}
-use Rattle.uno_model.specs.Entities.{Body, interface, struct, exception, enum, constants, typedef, new_service, old_service, new_singleton}
+use Rattle.uno_model.specs.Entities.{Field, Body, interface, struct, exception, enum, constants, typedef, new_service, old_service, new_singleton}
 use Rattle.uno_model.specs.Entities.{old_singleton, Entity}
 use Rattle.uno_model.specs.Names.{is_identifier, is_entity_name}
 use Rattle.uno_model.specs.Registry.{at_most_one}
 use Rattle.registry_text_model.specs.Reading.{is_spelled, is_writable}
 use Rattle.registry_reading_model.proofs.GoodParts.{is_good_field, is_good_member, is_good_constructor, is_good_body}
 use Rattle.registry_reading_model.proofs.PartTests.{Tests, tests_of, of_tests, all_of_map, map_of_all, both_of_maps, maps_of_both, only, alone}
-use Rattle.registry_reading_model.proofs.PartTests.{good_members, members_good, good_constructors, constructors_good, good_parts, parts_good}
+use Rattle.registry_reading_model.proofs.PartTests.{good_members, members_good}
+use Rattle.registry_reading_model.proofs.ServiceTests.{good_constructors, constructors_good, good_parts, parts_good}
 
 -- ---- bodies
 
@@ -35,8 +35,8 @@ good_of_tests (new_singleton base) t = only (is_entity_name base) t.interfaces
 good_of_tests (old_singleton service) t = only (is_entity_name service) t.services
 
 fields_good : (base : Option (List ℕ)) (fs : List Field) → (list_all is_entity_name (at_most_one base) && list_all is_good_field fs) ≡ true
-    → (list_all is_entity_name (at_most_one base) ≡ true) × (list_all is_identifier (map (λ f. f.name) fs) ≡ true) ×
-    (list_all is_spelled (map (λ f. f.kind) fs) ≡ true)
+    → (list_all is_entity_name (at_most_one base) ≡ true) × (list_all is_identifier (map (λ f. f.name) fs) ≡ true)
+    × (list_all is_spelled (map (λ f. f.kind) fs) ≡ true)
 fields_good base fs good =
     let both = and_parts (list_all is_entity_name (at_most_one base)) (list_all is_good_field fs) good in
     let parts = maps_of_both (λ f. f.name) (λ f. f.kind) fs both.1 in

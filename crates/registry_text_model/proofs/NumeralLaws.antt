@@ -26,10 +26,12 @@ one_digit (suc n) few =
 pub more_digits : (n : ℕ) → 10 ≤ n → digits_text n ≡ digits_text (n / 10) ++ (48 + n % 10) ∷ []
 more_digits n many =
     let some : 0 < n / 10 = omega arith in
-    rw (digits_are n (omega arith), digits_are (n / 10) some, digits_of_step 10 n (omega arith) (omega arith)) (map-append (λ d. 48 + d) (digits_of 10 (n / 10)) (n % 10 ∷ []))
+    rw (digits_are n (omega arith), digits_are (n / 10) some, digits_of_step 10 n (omega arith) (omega arith))
+    (map-append (λ d. 48 + d) (digits_of 10 (n / 10)) (n % 10 ∷ []))
 
 digits_is : (n : ℕ) → n < 10 ^ 64 → digits_text n ≡ decimal n
-digits_is n few = decimal_by_steps_wide (λ m ds. digits_text m ≡ ds) one_digit (λ m ds many inner. more_digits m many ∙ ap (λ xs. xs ++ (48 + m % 10) ∷ []) inner) n few
+digits_is n few = decimal_by_steps_wide (λ m ds. digits_text m ≡ ds) one_digit
+    (λ m ds many inner. more_digits m many ∙ ap (λ xs. xs ++ (48 + m % 10) ∷ []) inner) n few
 
 -- `mag` of a negative number is one less than its amount
 pub numeral_is : (z : ℤ) → mag z + 1 < 10 ^ 64 → numeral z ≡ signed_decimal z
