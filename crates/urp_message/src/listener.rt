@@ -12,6 +12,7 @@ ghost use Rattle.urp_wire.specs.Gives.{GivesOr};
 
 mod message;
 mod opening;
+mod part;
 mod reply;
 mod request;
 mod target;

@@ -64,7 +64,7 @@ fn short(function: u16) -> Opening
 
 #[tactic(auto, unfolding(message_model::specs::ReadingMessages::two_byte_opening_at))]
 fn two_byte_opening(first: u8, bytes: &[u8]) -> Result<(Opening, &[u8]), WireError>
-    requires { 64 ≤ first }
+    requires { 0x40 ≤ first }
     ensures { Gives (λ x. (opening_of x.0, x.1.now)) result (two_byte_opening_at first bytes.now) }
 {
     let (second, rest) = read_byte(bytes)?;

@@ -13,7 +13,7 @@ ghost use Rattle.urp_model.specs.Reading.{value_at};
 ghost use Rattle.urp_model.specs.ReadingNames.{tid_at};
 ghost use Rattle.urp_wire.specs.Gives.{Gives, tables_of};
 
-use super::target::thread_named;
+use super::part::new_or_last;
 use super::values::{MOST_LEVELS, parameter_values};
 use crate::flags::{EXCEPTION, NEW_TID, has};
 use crate::params::Phase;
@@ -59,6 +59,7 @@ pub(crate) fn reply<'a, E: Expects>(
 {
     let (tid, rest) = thread_of_reply(
         alloc,
+        registry,
         has(NEW_TID, flags),
         &mut heard.last,
         &mut heard.caches.tids,
@@ -82,19 +83,22 @@ pub(crate) fn reply<'a, E: Expects>(
 }
 
 /// The thread of a reply, which is the last one from now on; the last type and object are still those of a request.
+#[tactic(auto, using(std::proofs::lemmas::Iterator::Adapters::option_map_id))]
 fn thread_of_reply<'a>(
     alloc: Global,
+    registry: &Registry,
     is_new: bool,
     last: &mut Last,
     tids: &mut ReadCache,
     bytes: &'a [u8],
 ) -> Result<(Tid, &'a [u8]), WireError>
+    requires { IsSound registry.now }
     ensures named { Gives (λ x. (x.0, tids.new, x.1.now)) result (new_or_last_at is_new last.old.tid tid_at tids.old bytes.now) }
     ensures tid { IfOk result (λ x. last.new.tid ≡ Some x.0) }
     ensures kind { last.new.kind ≡ last.old.kind }
     ensures oid { last.new.oid ≡ last.old.oid }
 {
-    let (tid, rest) = thread_named(alloc, is_new, &mut last.tid, tids, bytes)?;
+    let (tid, rest) = new_or_last(alloc, registry, is_new, &mut last.tid, tids, bytes)?;
     Ok((tid, rest))
 }
 

@@ -2,6 +2,7 @@
 ghost use Rattle.std.specs.Prelude.{◌≡◌, ◌≤◌, ◌*◌, nat_lt, ◌++◌, [], ◌∷◌, Some, option_map, OnOk};
 ghost use Rattle.std.specs.Int.{from_bool};
 ghost use Rattle.std.specs.Str.{IsUtf8};
+ghost use Rattle.message_model.specs.Headers.{wide_flag};
 ghost use Rattle.message_model.specs.WritingMessages.{is_new, is_new_face, is_long, long_flags, if_new, function_bytes, short_bytes, opening_spelling};
 ghost use Rattle.uno_entities.specs.TypeNames.{kind_of};
 ghost use Rattle.urp_message.specs.Messages.{last_of};
@@ -133,7 +134,7 @@ fn long_flags(heading: &Heading, last: &Last) -> u8
 
 /// The flag that says that the function has two bytes.
 fn wide_flag(function: u16) -> u8
-    ensures { result ≡ from_bool (nat_lt 255 function) * 4 }
+    ensures { result ≡ from_bool (nat_lt 255 function) * wide_flag }
 {
     u8::from(is_wide(function)) * WIDE
 }
@@ -153,7 +154,7 @@ pub(crate) fn put_opening(heading: &Heading, last: &Last, to: &mut Vec<u8>) -> R
 
 /// A second byte of flags, where an answer comes to a one-way call.
 fn put_answered(answered: bool, to: &mut Vec<u8>) -> Result<(), NoMemory>
-    ensures { OnOk result (to.new.items ≡ to.old.items ++ if_new answered (192 ∷ [])) }
+    ensures { OnOk result (to.new.items ≡ to.old.items ++ if_new answered (0xC0 ∷ [])) }
 {
     if !answered {
         return Ok(());
