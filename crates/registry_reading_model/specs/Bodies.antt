@@ -1,13 +1,11 @@
 -- A body with one line more, each type and number of the line changed.
-use Rattle.std.specs.Prelude.{ℕ, ℤ, Bool, true, false, not, ◌&&◌, is_none, List, [], ◌∷◌, ◌++◌, Option, None, Some, codes, if◌then◌else◌}
+use Rattle.std.specs.Prelude.{ℕ, Bool, true, false, not, ◌&&◌, is_none, List, [], ◌∷◌, ◌++◌, Option, None, Some, codes, if◌then◌else◌}
 use Rattle.std.specs.Str.{bytes_eq}
 use Rattle.uno_model.specs.Entities.{Field, Param, Base, Attribute, Method, Member, attribute, method, Item, Constant, Constructor, Part, face, subservice, property}
 use Rattle.uno_model.specs.Entities.{Body, interface, struct, exception, enum, constants, typedef, new_service, old_service, new_singleton, old_singleton}
 use Rattle.uno_model.specs.Kinds.{Kind}
 use Rattle.uno_model.specs.Kinds as kd
 use Rattle.uno_model.specs.Sound.{is_some_list}
-use Rattle.uno_model.specs.declared.flags.Flags.{Flags}
-use Rattle.uno_model.specs.declared.way.Way.{Way}
 use Rattle.registry_reading_model.specs.Changes.{Change}
 use Rattle.registry_reading_model.specs.Kinds.{kind_of_text}
 use Rattle.registry_reading_model.specs.Numbers.{number_of}

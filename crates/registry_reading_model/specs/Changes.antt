@@ -1,5 +1,5 @@
 -- Entities in which each type and each number is changed alike: to what a reader keeps of them, or to the types that their names stand for.
-use Rattle.std.specs.Prelude.{ℤ, List, map, Option, None, Some}
+use Rattle.std.specs.Prelude.{ℤ, map}
 use Rattle.uno_model.specs.Entities.{Field, Param, Attribute, Method, Member, attribute, method, Item, Constant, Constructor, Part, face, subservice, property}
 use Rattle.uno_model.specs.Entities.{Body, interface, struct, exception, enum, constants, typedef, new_service, old_service, new_singleton, old_singleton, Entity}
 use Rattle.uno_model.specs.Kinds.{Kind}

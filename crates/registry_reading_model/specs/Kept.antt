@@ -1,7 +1,5 @@
 -- What a reader keeps of what a text says: its types by the entities of their names, and of what is beyond all limits no more than shows it.
-use Rattle.std.specs.Prelude.{ℕ, zero, suc, ◌-◌, ◌^◌, min, ℤ, pos, negsuc, Bool, true, false, Option, None, Some, List, [], ◌∷◌, nat_le, if◌then◌else◌}
-use Rattle.std.specs.Str.{bytes_eq}
-use Rattle.uno_model.specs.BuiltIn.{x_interface_name, exception_name, runtime_exception_name, disposed_exception_name, factory_name}
+use Rattle.std.specs.Prelude.{ℕ, ◌-◌, ◌^◌, min, ℤ, pos, negsuc, List, if◌then◌else◌}
 use Rattle.uno_model.specs.Kinds.{Kind, nesting}
 use Rattle.uno_model.specs.Kinds as kd
 use Rattle.registry_text_model.specs.EnumValues.{is_long}

@@ -1,5 +1,5 @@
 -- The words of a line.
-use Rattle.std.specs.Prelude.{ℕ, Bool, true, false, ◌&&◌, ◌==◌, List, [], ◌∷◌, ◌++◌, length, take, drop, Option, None, Some, codes, if◌then◌else◌}
+use Rattle.std.specs.Prelude.{ℕ, Bool, true, false, ◌==◌, List, [], ◌∷◌, length, take, drop, Option, None, Some, codes, if◌then◌else◌}
 use Rattle.std.specs.Str.{bytes_eq}
 use Rattle.uno_model.specs.Names.{is_identifier, is_entity_name}
 use Rattle.uno_model.specs.declared.flags.Flags.{Flags}
@@ -83,8 +83,7 @@ flags_left left =
     let optional = take_flag (codes "optional") maybevoid.1 in
     let readonly = take_flag (codes "readonly") optional.1 in
     let removable = take_flag (codes "removable") readonly.1 in
-    let transient = take_flag (codes "transient") removable.1 in
-    (
+    let transient = take_flag (codes "transient") removable.1 in (
       record {
         bound = bound.0;
         constrained = constrained.0;
