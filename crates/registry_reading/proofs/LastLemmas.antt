@@ -3,13 +3,13 @@ use Rattle.std.proofs.Common.{◌≡◌, subst, ℕ, Bool, true, false, List, []
 use Rattle.std.proofs.lemmas.List.{map-append}
 use Rattle.std.specs.Str.{bytes_eq}
 use Rattle.std.proofs.lemmas.Slice.Eq.{bytes_eq-Decides}
-use Rattle.uno_model.specs.Entities.{Member, Base, Body, interface, attribute, method}
-use Rattle.registry_reading_model.specs.Bodies.{last_changed, last_of, all_but_last, pushed, interface_line, with_members, attribute_of, method_of, oneway_of, get_raises_added, set_raises_added, param_added, raises_added}
+use Rattle.uno_model.specs.Entities.{Member, Base, Body, interface, attribute, method, Constructor}
+use Rattle.registry_reading_model.specs.Bodies.{last_changed, last_of, all_but_last, pushed, interface_line, with_members, attribute_of, method_of, oneway_of, get_raises_added, set_raises_added, param_added, raises_added, constructor_line, given_added, rest_added, raised_added}
 use Rattle.registry_reading_model.specs.Changes.{Change}
 use Rattle.registry_reading_model.specs.Words.{on_some}
 use Rattle.std.specs.Prelude.{IfOk}
 use Rattle.registry_reading.specs.Taken.{IsTaken}
-use Rattle.registry_reading.specs.Members.{member_line, added_under}
+use Rattle.registry_reading.specs.Members.{member_line, added_under, added_to}
 
 last_pushed : {X : Type 0} (y : X) (xs : List X) (x : X) → (last_of y (xs ++ x ∷ []) ≡ x) × (all_but_last y (xs ++ x ∷ []) ≡ y ∷ xs)
 last_pushed y [] x = (refl, refl)
@@ -43,7 +43,7 @@ differs word w other = by_test (bytes_eq word w) refl
   where
     by_test : (b : Bool) → bytes_eq word w ≡ b → bytes_eq word w ≡ false
     by_test true same = absurd (other ((bytes_eq-Decides word w).0 same))
-    by_test false no = no
+    by_test false none = none
 
 -- ---- the words of a line of an interface, in the order in which the code asks them
 
@@ -118,3 +118,44 @@ taken_rest c bases members new word text (Ok true) no_base no_optional is =
     behind_bases c bases members word text (differs word (codes "base") no_base) (differs word (codes "optional") no_optional) ∙ ap (with_members bases) is
 taken_rest c bases members new word text (Ok false) no_base no_optional is =
     behind_bases c bases members word text (differs word (codes "base") no_base) (differs word (codes "optional") no_optional) ∙ ap (with_members bases) is
+
+-- ---- the words of a line of a service
+
+one_of : (c : Change) (constructors : List Constructor) (word text : List ℕ) → bytes_eq word (codes "constructor") ≡ false
+    → constructor_line c constructors word text ≡ last_changed (added_to c word text) constructors
+unfolding constructor_line added_to
+one_of c constructors word text other = rw other (first (bytes_eq word (codes "param")) refl)
+  where
+    At : List ℕ → Type 0
+    At w =
+        (
+          if bytes_eq w (codes "param") then last_changed (given_added c text) constructors
+          else (if bytes_eq w (codes "rest") then last_changed (rest_added text) constructors
+          else (if bytes_eq w (codes "raises") then last_changed (raised_added text) constructors
+          else None))
+        )
+        ≡ last_changed (added_to c w text) constructors
+
+    is : (w : List ℕ) → bytes_eq word w ≡ true → At w → At word
+    is w same at = subst At (sym ((bytes_eq-Decides word w).0 same)) at
+
+    none : bytes_eq word (codes "param") ≡ false → bytes_eq word (codes "rest") ≡ false → bytes_eq word (codes "raises") ≡ false → (k : Constructor) → added_to c word text k ≡ None
+    none p s r k = rw (p, s, r) refl
+
+    third : (b : Bool) → bytes_eq word (codes "raises") ≡ b → bytes_eq word (codes "param") ≡ false → bytes_eq word (codes "rest") ≡ false → At word
+    third true same p s = is (codes "raises") same refl
+    third false r p s = rw (p, s, r) (sym (nothing_under (added_to c word text) (none p s r) constructors))
+
+    second : (b : Bool) → bytes_eq word (codes "rest") ≡ b → bytes_eq word (codes "param") ≡ false → At word
+    second true same p = is (codes "rest") same refl
+    second false s p = third (bytes_eq word (codes "raises")) refl p s
+
+    first : (b : Bool) → bytes_eq word (codes "param") ≡ b → At word
+    first true same = is (codes "param") same refl
+    first false p = second (bytes_eq word (codes "rest")) refl p
+
+pub behind_constructor : {E : Type 0} (c : Change) (constructors new : List Constructor) (word text : List ℕ) (r : Result Bool E) → (word ≡ codes "constructor" → ⊥)
+    → IfOk r (λ taken. IsTaken taken new (last_changed (added_to c word text) constructors)) → IfOk r (λ taken. IsTaken taken new (constructor_line c constructors word text))
+behind_constructor c constructors new word text (Err e) other is = tt
+behind_constructor c constructors new word text (Ok true) other is = one_of c constructors word text (differs word (codes "constructor") other) ∙ is
+behind_constructor c constructors new word text (Ok false) other is = one_of c constructors word text (differs word (codes "constructor") other) ∙ is

@@ -1,6 +1,9 @@
 -- Digits read one after the other.
-use Rattle.std.proofs.Common.{◌≡◌, sym, ℕ, suc, ◌+◌, ◌-◌, ◌*◌, ◌^◌, ◌<◌, ◌≤◌, List, [], ◌∷◌, ◌++◌, length, take, get_or, min, refl, ap, ◌∙◌, arith, slice_index, ◌⊎◌, ⊎_elim}
+use Rattle.std.proofs.Common.{◌≡◌, sym, ℕ, suc, ◌+◌, ◌-◌, ◌*◌, ◌^◌, ◌<◌, ◌≤◌, List, [], ◌∷◌, ◌++◌, length, take, get_or, min, refl, ap, ◌∙◌, arith, slice_index, ◌⊎◌, inl, inr, ℤ, pos, negsuc, Option, None, Some, option_map, Bool, true, false, if◌then◌else◌}
+use Rattle.std.proofs.lemmas.Bool.{cases_lt}
 use Rattle.std.proofs.lemmas.List.{take_more}
+use Rattle.registry_text_model.specs.EnumValues.{is_long}
+use Rattle.registry_reading_model.specs.Kept.{clamped, long_or_zero, greatest}
 use Rattle.registry_reading_model.specs.Numbers.{read_on}
 
 read_push : (n : ℕ) (ds : List ℕ) (c : ℕ) → read_on n (ds ++ c ∷ []) ≡ read_on n ds * 10 + (c - 48)
@@ -21,3 +24,27 @@ goes_on ds i n m d before inside here after =
 pub begins : 0 ≡ min (read_on 0 []) (2 ^ 128 - 1)
 unfolding read_on
 begins = omega arith
+
+-- what is kept of a number of 128 bits is long where the number is
+long_clamped : (z : ℤ) → long_or_zero (clamped z) ≡ long_or_zero z
+unfolding long_or_zero clamped
+long_clamped (pos n) = by_size (cases_lt n (2 ^ 127))
+  where
+    by_size : (n < 2 ^ 127) ⊎ (2 ^ 127 ≤ n) → long_or_zero (pos (min greatest n)) ≡ long_or_zero (pos n)
+    by_size (inl low) = let same : min greatest n ≡ n = omega (arith, low) in ap (λ k. long_or_zero (pos k)) same
+    by_size (inr high) =
+        let kept : is_long (pos (min greatest n)) ≡ false = grind (arith, high) in
+        let whole : is_long (pos n) ≡ false = grind (arith, high) in
+        rw (kept, whole) refl
+long_clamped (negsuc n) = by_size (cases_lt n (2 ^ 127 - 1))
+  where
+    by_size : (n < 2 ^ 127 - 1) ⊎ (2 ^ 127 - 1 ≤ n) → long_or_zero (negsuc (min (greatest - 1) n)) ≡ long_or_zero (negsuc n)
+    by_size (inl low) = let same : min (greatest - 1) n ≡ n = omega (arith, low) in ap (λ k. long_or_zero (negsuc k)) same
+    by_size (inr high) =
+        let kept : is_long (negsuc (min (greatest - 1) n)) ≡ false = grind (arith, high) in
+        let whole : is_long (negsuc n) ≡ false = grind (arith, high) in
+        rw (kept, whole) refl
+
+pub long_read : (o : Option ℤ) (z : ℤ) → Some z ≡ option_map clamped o → Some (long_or_zero z) ≡ option_map long_or_zero o
+long_read None z is = absurd cc
+long_read (Some y) z is = ap (option_map long_or_zero) is ∙ ap Some (long_clamped y)

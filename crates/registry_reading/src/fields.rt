@@ -5,6 +5,7 @@ ghost use Rattle.uno_entities.specs.Entities.{field_of, item_of, constant_of};
 ghost use Rattle.registry_reading_model.specs.Bodies as model;
 ghost use Rattle.registry_reading_model.specs.Heads.{named_in};
 ghost use Rattle.registry_reading_model.specs.Kept.{kept, long_or_zero};
+ghost use Rattle.registry_reading_model.specs.Numbers.{number_of};
 ghost use Rattle.registry_reading_model.specs.Words.{on_some, behind};
 ghost use Rattle.registry_reading.specs.Taken.{IsTaken};
 
@@ -55,22 +56,28 @@ pub(crate) fn push_field(
     Ok(true)
 }
 
-/// `NAME NUMBER`. A number beyond those of `long` stands as 0; the headers know of it.
+/// `NAME NUMBER`.
 #[tactic(auto, unfolding(registry_reading_model::specs::Bodies::item_of))]
-fn item(alloc: Global, text: &str) -> Result<Option<Item>, NoMemory>
-    ensures { (named : List ℕ → Kind) → IfOk result (λ i. option_map item_of i ≡ model.item_of (kept named) text.now) }
+fn item(alloc: Global, heads: &Heads<'_>, text: &str) -> Result<Option<Item>, NoMemory>
+    ensures { IfOk result (λ i. option_map item_of i ≡ model.item_of (kept (named_in heads.now)) text.now) }
 {
     let Some((name, digits)) = identifier(text) else {
         return Ok(None);
     };
-    let Some(value) = number(digits) else {
+    let Some(number) = long(digits) else {
         return Ok(None);
     };
     let name = Name::of(alloc, name)?;
-    Ok(Some(Item {
-        name,
-        number: long_or_zero(value),
-    }))
+    Ok(Some(Item { name, number }))
+}
+
+/// The number that a text spells; one beyond those of `long` stands as 0, and the headers know of it.
+#[tactic(auto, using(crate::proofs::NumberLemmas::long_read))]
+fn long(text: &str) -> Option<i32>
+    ensures { result ≡ option_map long_or_zero (number_of text.now) }
+{
+    let value = number(text)?;
+    Some(long_or_zero(value))
 }
 
 #[tactic(auto, unfolding(registry_reading_model::specs::Kept::long_or_zero))]
@@ -86,15 +93,16 @@ fn long_or_zero(number: i128) -> i32
 /// `value NAME NUMBER`.
 pub(crate) fn push_item(
     alloc: Global,
+    heads: &Heads<'_>,
     items: &mut Vec<Item>,
     line: &str,
 ) -> Result<bool, NoMemory>
-    ensures { (named : List ℕ → Kind) → IfOk result (λ taken. IsTaken taken (map item_of items.new.items) (model.pushed (map item_of items.old.items) (on_some (behind (codes "value ") line.now) (model.item_of (kept named))))) }
+    ensures { IfOk result (λ taken. IsTaken taken (map item_of items.new.items) (model.pushed (map item_of items.old.items) (on_some (behind (codes "value ") line.now) (model.item_of (kept (named_in heads.now)))))) }
 {
     let Some(text) = behind(line, "value ") else {
         return Ok(false);
     };
-    let Some(item) = item(alloc, text)? else {
+    let Some(item) = item(alloc, heads, text)? else {
         return Ok(false);
     };
     items.push(item)?;

@@ -1,8 +1,10 @@
 //! The registry of a text.
 #![tactic(auto)]
 
+mod body;
 mod fields;
 mod head;
+mod header;
 mod heads;
 mod interface;
 mod kind;
