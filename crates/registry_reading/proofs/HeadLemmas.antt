@@ -1,5 +1,5 @@
 -- What a binary search over headers says of a name.
-use Rattle.std.proofs.Common.{◌≡◌, ℕ, zero, suc, ◌+◌, ◌<◌, ◌≤◌, Bool, true, false, List, [], ◌∷◌, length, map, get_or, None, Some, Option, Result, Ok, Err, Bor, option_map, refl, sym, ap, subst, ◌∙◌, ◌⊎◌, inl, inr, arith, slice_get}
+use Rattle.std.proofs.Common.{◌≡◌, ℕ, zero, suc, ◌+◌, ◌<◌, ◌≤◌, Bool, true, false, ◌==◌, ◌||◌, List, [], ◌∷◌, ◌++◌, codes, length, length-append, add-one, map, get_or, None, Some, Option, Result, Ok, Err, Bor, option_map, refl, sym, ap, subst, ◌∙◌, ◌⊎◌, inl, inr, arith, slice_get}
 use Rattle.std.proofs.lemmas.Bool.{cases_lt}
 use Rattle.std.specs.List.{AllByRecursion}
 use Rattle.std.specs.List.Sorted.{IsBinarySearchResult, IsSearchInRange, IsSortedBy, IsStrictlySortedBy}
@@ -13,7 +13,11 @@ use Rattle.std.specs.Str.{bytes_eq}
 use Rattle.std.proofs.lemmas.Slice.Eq.{bytes_eq-Decides}
 use Rattle.uno_model.proofs.FindLaws.{name_cmp, equal_names, same_equal}
 use Rattle.registry_reading_model.specs.Heads as plain
-use Rattle.registry_reading_model.specs.Heads.{head_named}
+use Rattle.registry_reading_model.specs.Heads.{head_named, heads_on, heads_in, one_line_on}
+use Rattle.registry_reading_model.specs.TextLines.{lines_in, all_plain, is_plain}
+use Rattle.registry_reading_model.proofs.TextLinesLaws.{one_more_line, no_line}
+use Rattle.registry_text_model.specs.Reading.{is_one_line}
+use Rattle.std.proofs.lemmas.Bool.{and_parts}
 use Rattle.registry_reading.specs.declared.head.Head.{Head}
 use Rattle.registry_reading.specs.Heads.{plain_head, plain_heads, NamesRise}
 
@@ -102,3 +106,40 @@ parted hs name i rising holds =
 pub none_rise : NamesRise []
 unfolding IsStrictlySortedBy
 none_rise = tt
+
+-- ---- the loop over all lines
+
+-- the lines so far were looked at: what is left goes on to all heads, if all lines are plain
+pub record LookedAt (bytes rest : List ℕ) (number : ℕ) (is_header : Bool) (heads : List plain.Head) : Type 0 where
+  pub plain : all_plain (lines_in bytes) ≡ true → (all_plain (lines_in rest) ≡ true) × (heads_on number is_header heads (lines_in rest) ≡ heads_in (lines_in bytes))
+  pub room : number + length rest ≤ suc (length bytes)
+
+pub begins : (bytes : List ℕ) → LookedAt bytes bytes 1 false []
+begins bytes = record { plain = λ all. (all, refl); room = omega arith }
+
+pub goes_on : (bytes rest here behind line : List ℕ) (number : ℕ) (is_header next : Bool) (heads more : List plain.Head) → LookedAt bytes rest number is_header heads
+    → rest ≡ here ++ 10 ∷ behind → is_one_line here ≡ true → (is_plain here ≡ true → line ≡ here) → more ≡ one_line_on number is_header heads line
+    → next ≡ ((number == 1) || bytes_eq line (codes "end")) → LookedAt bytes behind (number + 1) next more
+unfolding heads_on
+goes_on bytes rest here behind line number is_header next heads more at split one as made now =
+    record {
+      plain = λ all. on (at.plain all);
+      room = omega (arith, at.room, ap length split, length-append here (10 ∷ behind));
+    }
+  where
+    lines : lines_in rest ≡ here ∷ lines_in behind
+    lines = ap lines_in split ∙ one_more_line here behind one
+
+    on : (all_plain (lines_in rest) ≡ true) × (heads_on number is_header heads (lines_in rest) ≡ heads_in (lines_in bytes))
+        → (all_plain (lines_in behind) ≡ true) × (heads_on (number + 1) next more (lines_in behind) ≡ heads_in (lines_in bytes))
+    on both =
+        let parts = and_parts (is_plain here) (all_plain (lines_in behind)) (sym (ap all_plain lines) ∙ both.0) in
+        let same : line ≡ here = as parts.0 in
+        let step : heads_on (number + 1) next more (lines_in behind) ≡ heads_on number is_header heads (here ∷ lines_in behind) =
+        λ i. heads_on (add-one {n = number} i) ((now ∙ ap (λ l. (number == 1) || bytes_eq l (codes "end")) same) i) ((made ∙ ap (one_line_on number is_header heads) same) i) (lines_in behind) in
+        (parts.1, step ∙ sym (ap (heads_on number is_header heads) lines) ∙ both.1)
+
+pub ends : (bytes rest : List ℕ) (number : ℕ) (is_header : Bool) (heads : List plain.Head) → LookedAt bytes rest number is_header heads → is_one_line rest ≡ true
+    → all_plain (lines_in bytes) ≡ true → heads ≡ heads_in (lines_in bytes)
+unfolding heads_on
+ends bytes rest number is_header heads at one all = ap (heads_on number is_header heads) (sym (no_line rest one)) ∙ (at.plain all).1

@@ -1,8 +1,9 @@
 -- Digits read one after the other.
-use Rattle.std.proofs.Common.{◌≡◌, sym, ℕ, suc, ◌+◌, ◌-◌, ◌*◌, ◌^◌, ◌<◌, ◌≤◌, List, [], ◌∷◌, ◌++◌, length, take, get_or, min, refl, ap, ◌∙◌, arith, slice_index, ◌⊎◌, inl, inr, ℤ, pos, negsuc, Option, None, Some, option_map, Bool, true, false, if◌then◌else◌}
+use Rattle.std.proofs.Common.{◌≡◌, sym, ℕ, suc, ◌+◌, ◌-◌, ◌*◌, ◌^◌, ◌<◌, ◌≤◌, List, [], ◌∷◌, ◌++◌, length, take, get_or, min, refl, ap, ◌∙◌, arith, slice_index, ◌⊎◌, inl, inr, ℤ, pos, negsuc, Option, None, Some, option_map, Bool, true, false, not, if◌then◌else◌}
 use Rattle.std.proofs.lemmas.Bool.{cases_lt}
 use Rattle.std.proofs.lemmas.List.{take_more}
 use Rattle.registry_text_model.specs.EnumValues.{is_long}
+use Rattle.registry_reading_model.specs.Heads.{is_beyond}
 use Rattle.registry_reading_model.specs.Kept.{clamped, long_or_zero, greatest}
 use Rattle.registry_reading_model.specs.Numbers.{read_on}
 
@@ -26,25 +27,43 @@ unfolding read_on
 begins = omega arith
 
 -- what is kept of a number of 128 bits is long where the number is
-long_clamped : (z : ℤ) → long_or_zero (clamped z) ≡ long_or_zero z
-unfolding long_or_zero clamped
-long_clamped (pos n) = by_size (cases_lt n (2 ^ 127))
+long_alike : (z : ℤ) → is_long (clamped z) ≡ is_long z
+unfolding clamped
+long_alike (pos n) = by_size (cases_lt n (2 ^ 127))
   where
-    by_size : (n < 2 ^ 127) ⊎ (2 ^ 127 ≤ n) → long_or_zero (pos (min greatest n)) ≡ long_or_zero (pos n)
-    by_size (inl low) = let same : min greatest n ≡ n = omega (arith, low) in ap (λ k. long_or_zero (pos k)) same
+    by_size : (n < 2 ^ 127) ⊎ (2 ^ 127 ≤ n) → is_long (pos (min greatest n)) ≡ is_long (pos n)
+    by_size (inl low) = let same : min greatest n ≡ n = omega (arith, low) in ap (λ k. is_long (pos k)) same
     by_size (inr high) =
         let kept : is_long (pos (min greatest n)) ≡ false = grind (arith, high) in
         let whole : is_long (pos n) ≡ false = grind (arith, high) in
-        rw (kept, whole) refl
-long_clamped (negsuc n) = by_size (cases_lt n (2 ^ 127 - 1))
+        kept ∙ sym whole
+long_alike (negsuc n) = by_size (cases_lt n (2 ^ 127 - 1))
   where
-    by_size : (n < 2 ^ 127 - 1) ⊎ (2 ^ 127 - 1 ≤ n) → long_or_zero (negsuc (min (greatest - 1) n)) ≡ long_or_zero (negsuc n)
-    by_size (inl low) = let same : min (greatest - 1) n ≡ n = omega (arith, low) in ap (λ k. long_or_zero (negsuc k)) same
+    by_size : (n < 2 ^ 127 - 1) ⊎ (2 ^ 127 - 1 ≤ n) → is_long (negsuc (min (greatest - 1) n)) ≡ is_long (negsuc n)
+    by_size (inl low) = let same : min (greatest - 1) n ≡ n = omega (arith, low) in ap (λ k. is_long (negsuc k)) same
     by_size (inr high) =
         let kept : is_long (negsuc (min (greatest - 1) n)) ≡ false = grind (arith, high) in
         let whole : is_long (negsuc n) ≡ false = grind (arith, high) in
-        rw (kept, whole) refl
+        kept ∙ sym whole
+
+-- a long number is kept as it is
+small_stays : (z : ℤ) → is_long z ≡ true → clamped z ≡ z
+unfolding clamped
+small_stays (pos n) is = let low : n < 2 ^ 127 = grind (arith, is) in let same : min greatest n ≡ n = omega (arith, low) in ap pos same
+small_stays (negsuc n) is = let low : n < 2 ^ 127 - 1 = grind (arith, is) in let same : min (greatest - 1) n ≡ n = omega (arith, low) in ap negsuc same
+
+long_clamped : (z : ℤ) → long_or_zero (clamped z) ≡ long_or_zero z
+unfolding long_or_zero
+long_clamped z = by_test (is_long z) refl
+  where
+    by_test : (b : Bool) → is_long z ≡ b → (if is_long (clamped z) then clamped z else pos 0) ≡ (if is_long z then z else pos 0)
+    by_test false is = rw (long_alike z, is) refl
+    by_test true is = rw (long_alike z, is) (small_stays z is)
 
 pub long_read : (o : Option ℤ) (z : ℤ) → Some z ≡ option_map clamped o → Some (long_or_zero z) ≡ option_map long_or_zero o
 long_read None z is = absurd cc
 long_read (Some y) z is = ap (option_map long_or_zero) is ∙ ap Some (long_clamped y)
+
+pub beyond_read : (o k : Option ℤ) → k ≡ option_map clamped o → is_beyond k ≡ is_beyond o
+beyond_read None k is = ap is_beyond is
+beyond_read (Some z) k is = ap is_beyond is ∙ ap not (long_alike z)

@@ -1,12 +1,18 @@
 //! All headers of a text, whose names rise.
 ghost use Rattle.std.specs.Prelude.{◌≡◌, ◌+◌, ◌≤◌, ◌<◌, IfOk, OnOk, length, true, option_map, slice_get, []};
 ghost use Rattle.registry_reading_model.specs.Heads as model;
+ghost use Rattle.registry_text_model.specs.EnumValues.{is_long};
+ghost use Rattle.registry_reading_model.specs.Numbers.{number_of};
 ghost use Rattle.registry_reading_model.specs.TextLines.{lines_in, all_plain};
 ghost use Rattle.registry_reading.specs.Heads.{plain_head, plain_heads, NamesRise};
 
 use crate::head::Head;
-use std::marker::Model;
+use crate::last::take_last;
+use crate::lines::{first_line, text_or_empty};
+use crate::number::number;
+use crate::words::{behind, identifier, word};
 use std::alloc::Global;
+use std::marker::Model;
 use uno_base::NoMemory;
 use uno_types::TypeClass;
 
@@ -37,6 +43,24 @@ impl<'a> Heads<'a> {
         }
     }
 
+    /// One line more, of which it is known whether it is a header.
+    pub(crate) fn look(
+        self,
+        number: u32,
+        is_header: bool,
+        line: &'a str,
+    ) -> Result<Heads<'a>, NoMemory>
+        ensures { IfOk result (λ heads. heads ≡ model.one_line_on number is_header self line.now) }
+    {
+        let Heads { heads } = self;
+        if is_header {
+            let heads = added(heads, head(number, line))?;
+            return Ok(Heads { heads });
+        }
+        let heads = marked(heads, line)?;
+        Ok(Heads { heads })
+    }
+
     /// The header of this name.
     pub(crate) fn named(&self, name: &str) -> Option<&Head<'a>>
         ensures { option_map (λ h. plain_head h.now) result ≡ model.head_named name.now self.now }
@@ -60,4 +84,133 @@ fn at<'b, 'a>(heads: &'b [Head<'a>], place: usize) -> Option<&'b Head<'a>>
     ensures { option_map (λ h. plain_head h.now) result ≡ slice_get (plain_heads heads.now) place }
 {
     heads.get(place)
+}
+
+/// The header on a line.
+#[tactic(auto, unfolding(registry_reading_model::specs::Heads::head_of))]
+fn head(number: u32, line: &str) -> Head<'_>
+    ensures { plain_head result ≡ model.head_of number line.now }
+{
+    let words = behind(line, "published ").unwrap_or(line);
+    let (first, rest) = first_word(words);
+    let (name, _) = first_word(rest);
+    Head {
+        name,
+        class: class_of_word(first),
+        line: number,
+        beyond: false,
+    }
+}
+
+/// A first word, and what stands behind the blank after it; nothing, where there is no blank.
+fn first_word(text: &str) -> (&str, &str)
+    ensures { (result.0.now, result.1.now) ≡ model.first_word text.now }
+{
+    match word(text) {
+        Some(words) => words,
+        None => (text, ""),
+    }
+}
+
+#[tactic(auto, unfolding(registry_reading_model::specs::Heads::class_of_word))]
+fn class_of_word(word: &str) -> Option<TypeClass>
+    ensures { result ≡ model.class_of_word word.now }
+{
+    match word {
+        "interface" => Some(TypeClass::Interface),
+        "struct" => Some(TypeClass::Struct),
+        "exception" => Some(TypeClass::Exception),
+        "enum" => Some(TypeClass::Enum),
+        _ => None,
+    }
+}
+
+/// Whether a line is that of an item whose value is beyond those of `long`.
+#[tactic(auto, unfolding(registry_reading_model::specs::Heads::beyond_long))]
+fn is_beyond_long(line: &str) -> bool
+    ensures { result ≡ model.beyond_long line.now }
+{
+    let Some(text) = behind(line, "value ") else {
+        return false;
+    };
+    let Some((_, digits)) = identifier(text) else {
+        return false;
+    };
+    is_beyond(digits)
+}
+
+#[tactic(auto, using(crate::proofs::NumberLemmas::beyond_read))]
+fn is_beyond(digits: &str) -> bool
+    ensures { result ≡ model.is_beyond (number_of digits.now) }
+{
+    match number(digits) {
+        Some(value) => !is_long(value),
+        None => false,
+    }
+}
+
+fn is_long(number: i128) -> bool
+    ensures { result ≡ is_long number }
+{
+    -2_147_483_648 <= number && number <= 2_147_483_647
+}
+
+/// One header more, where its name is above the last.
+fn added<'a>(heads: Vec<Head<'a>>, head: Head<'a>) -> Result<Vec<Head<'a>>, NoMemory>
+    requires { NamesRise (plain_heads heads.items) }
+    ensures heads { IfOk result (λ hs. plain_heads hs.items ≡ model.head_added (plain_heads heads.items) (plain_head head)) }
+    ensures rise { IfOk result (λ hs. NamesRise (plain_heads hs.items)) }
+{
+    if !is_above_last(heads.as_slice(), head.name) {
+        return Ok(heads);
+    }
+    let mut heads = heads;
+    heads.push(head)?;
+    Ok(heads)
+}
+
+fn is_above_last(heads: &[Head<'_>], name: &str) -> bool
+    ensures { result ≡ model.is_above_last (plain_heads heads.now) name.now }
+{
+    match heads.last() {
+        Some(last) => last.name < name,
+        None => true,
+    }
+}
+
+/// The last of them is marked, where a line under it has a value beyond those of `long`.
+fn marked<'a>(heads: Vec<Head<'a>>, line: &str) -> Result<Vec<Head<'a>>, NoMemory>
+    requires { NamesRise (plain_heads heads.items) }
+    ensures heads { IfOk result (λ hs. plain_heads hs.items ≡ model.one_line_on 0 false (plain_heads heads.items) line.now) }
+    ensures rise { IfOk result (λ hs. NamesRise (plain_heads hs.items)) }
+{
+    if !is_beyond_long(line) {
+        return Ok(heads);
+    }
+    let mut heads = heads;
+    let Some(mut last) = take_last(&mut heads) else {
+        return Ok(heads);
+    };
+    last.beyond = true;
+    heads.push(last)?;
+    Ok(heads)
+}
+
+/// All headers of a text of lines.
+pub(crate) fn heads_of(alloc: Global, bytes: &[u8]) -> Result<Heads<'_>, NoMemory>
+    requires { length bytes.now ≤ 4194304 }
+    ensures { IfOk result (λ heads. all_plain (lines_in bytes.now) ≡ true → heads ≡ model.heads_in (lines_in bytes.now)) }
+{
+    let mut heads = Heads::new(alloc);
+    let mut rest = bytes;
+    let mut number = 1u32;
+    let mut is_header = false;
+    while let Some((line, behind)) = first_line(rest) {
+        let line = text_or_empty(line);
+        heads = heads.look(number, is_header, line)?;
+        is_header = number == 1 || line == "end";
+        number += 1;
+        rest = behind;
+    }
+    Ok(heads)
 }

@@ -9,6 +9,7 @@ mod heads;
 mod interface;
 mod kind;
 mod last;
+mod lines;
 mod names;
 mod number;
 mod service;
