@@ -1,3 +1,4 @@
+pub mod AddLaws
 pub mod BeginLaws
 pub mod BrokenFirst
 pub mod BuiltInFacts
