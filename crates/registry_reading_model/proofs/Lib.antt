@@ -38,6 +38,7 @@ pub mod PartForth
 pub mod PartTests
 pub mod PrintedLaws
 pub mod RangeLaws
+pub mod ReadingLaws
 pub mod ResolvedLaws
 pub mod RisingLaws
 pub mod RunLaws
