@@ -35,21 +35,29 @@ below_head (h ∷ (g ∷ gs)) name sorted above =
     let rest = below_head (g ∷ gs) name sorted.1 above in
     (nat_list_cmp_total.trans h.name g.name name sorted.0.0 rest.0, rest)
 
-added_rise : (hs : List Head) (h : Head) → IsStrictlySortedBy (slice_cmp nat_cmp) (head_names hs)
+pub head_added_rises : (hs : List Head) (h : Head) → IsStrictlySortedBy (slice_cmp nat_cmp) (head_names hs) → is_above_last hs h.name ≡ true
+    → IsStrictlySortedBy (slice_cmp nat_cmp) (head_names (hs ++ h ∷ []))
+head_added_rises hs h sorted above =
+    subst (λ names. IsStrictlySortedBy (slice_cmp nat_cmp) names) (sym (map_push (λ (g : Head). g.name) hs h))
+    (sorted_more (head_names hs) h.name sorted (below_head hs h.name sorted above))
+
+pub added_rise : (hs : List Head) (h : Head) → IsStrictlySortedBy (slice_cmp nat_cmp) (head_names hs)
     → IsStrictlySortedBy (slice_cmp nat_cmp) (head_names (head_added hs h))
 added_rise hs h sorted = by_test (is_above_last hs h.name) refl
   where
     by_test : (b : Bool) → is_above_last hs h.name ≡ b → IsStrictlySortedBy (slice_cmp nat_cmp) (head_names (if b then hs ++ h ∷ [] else hs))
-    by_test true above =
-        subst (λ names. IsStrictlySortedBy (slice_cmp nat_cmp) names) (sym (map_push (λ (g : Head). g.name) hs h))
-        (sorted_more (head_names hs) h.name sorted (below_head hs h.name sorted above))
+    by_test true above = head_added_rises hs h sorted above
     by_test false other = sorted
 
-marked_names : (hs : List Head) → head_names (last_marked hs) ≡ head_names hs
+pub marked_names : (hs : List Head) → head_names (last_marked hs) ≡ head_names hs
 unfolding last_marked
 marked_names [] = refl
 marked_names (h ∷ []) = refl
 marked_names (h ∷ (g ∷ gs)) = ap (λ names. h.name ∷ names) (marked_names (g ∷ gs))
+
+pub marked_rise : (hs : List Head) → IsStrictlySortedBy (slice_cmp nat_cmp) (head_names hs)
+    → IsStrictlySortedBy (slice_cmp nat_cmp) (head_names (last_marked hs))
+marked_rise hs sorted = subst (λ names. IsStrictlySortedBy (slice_cmp nat_cmp) names) (sym (marked_names hs)) sorted
 
 line_rises : (number : ℕ) (is_header : Bool) (hs : List Head) (line : List ℕ) → IsStrictlySortedBy (slice_cmp nat_cmp) (head_names hs)
     → IsStrictlySortedBy (slice_cmp nat_cmp) (head_names (one_line_on number is_header hs line))
@@ -57,7 +65,7 @@ line_rises number true hs line sorted = added_rise hs (head_of number line) sort
 line_rises number false hs line sorted = by_test (beyond_long line)
   where
     by_test : (b : Bool) → IsStrictlySortedBy (slice_cmp nat_cmp) (head_names (if b then last_marked hs else hs))
-    by_test true = subst (λ names. IsStrictlySortedBy (slice_cmp nat_cmp) names) (sym (marked_names hs)) sorted
+    by_test true = marked_rise hs sorted
     by_test false = sorted
 
 heads_rise_from : (number : ℕ) (is_header : Bool) (hs : List Head) (lines : List (List ℕ)) → IsStrictlySortedBy (slice_cmp nat_cmp) (head_names hs)
@@ -103,14 +111,15 @@ marked_twice h true b = ap (λ c. record { name = h.name; class = h.class; line 
     once false = refl
 marked_twice h false b = ap (λ c. record { name = h.name; class = h.class; line = h.line; beyond = c || b }) (no_or h.beyond)
 
-last_is_marked : (hs : List Head) (h : Head) → last_marked (hs ++ h ∷ []) ≡ hs ++ marked h true ∷ []
+pub last_is_marked : (hs : List Head) (h : Head)
+    → last_marked (hs ++ h ∷ []) ≡ hs ++ record { name = h.name; class = h.class; line = h.line; beyond = true } ∷ []
 unfolding last_marked
-last_is_marked [] h = ap (λ b. record { name = h.name; class = h.class; line = h.line; beyond = b } ∷ []) (true_or h.beyond)
-last_is_marked (g ∷ []) h = ap (λ b. g ∷ (record { name = h.name; class = h.class; line = h.line; beyond = b } ∷ [])) (true_or h.beyond)
+last_is_marked [] h = refl
+last_is_marked (g ∷ []) h = refl
 last_is_marked (g ∷ (f ∷ fs)) h = ap (λ hs. g ∷ hs) (last_is_marked (f ∷ fs) h)
 
 mark_last : (hs : List Head) (h : Head) (b : Bool) → (if b then last_marked (hs ++ h ∷ []) else hs ++ h ∷ []) ≡ hs ++ marked h b ∷ []
-mark_last hs h true = last_is_marked hs h
+mark_last hs h true = last_is_marked hs h ∙ ap (λ b. hs ++ record { name = h.name; class = h.class; line = h.line; beyond = b } ∷ []) (true_or h.beyond)
 mark_last hs h false = ap (λ g. hs ++ g ∷ []) (unmarked h)
 
 -- a line behind the first of a text

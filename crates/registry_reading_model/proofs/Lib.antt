@@ -1,3 +1,4 @@
+pub mod AddLaws
 pub mod BeginLaws
 pub mod BrokenFirst
 pub mod BuiltInFacts
@@ -37,6 +38,7 @@ pub mod PartForth
 pub mod PartTests
 pub mod PrintedLaws
 pub mod RangeLaws
+pub mod ReadingLaws
 pub mod ResolvedLaws
 pub mod RisingLaws
 pub mod RunLaws

@@ -18,7 +18,7 @@ use Rattle.registry_reading_model.specs.States.{State, unread, between, bad, out
 
 -- ---- texts in lines
 
-text_more : (before : List (List ℕ)) (here behind : List ℕ) → text_of (before ++ here ∷ []) ++ behind ≡ text_of before ++ (here ++ 10 ∷ behind)
+pub text_more : (before : List (List ℕ)) (here behind : List ℕ) → text_of (before ++ here ∷ []) ++ behind ≡ text_of before ++ (here ++ 10 ∷ behind)
 unfolding text_of
 text_more before here behind =
     let ended : (line : List ℕ) → List ℕ = λ line. line ++ 10 ∷ [] in

@@ -25,6 +25,16 @@ is_above [] name = true
 is_above (e ∷ []) name = is_lt (slice_cmp nat_cmp e.name name)
 is_above (e ∷ (d ∷ ds)) name = is_above (d ∷ ds) name
 
+-- the same, asked of the last name alone
+unfoldable pub last_name : List Entity → Option (List ℕ)
+last_name [] = None
+last_name (e ∷ []) = Some e.name
+last_name (e ∷ (d ∷ ds)) = last_name (d ∷ ds)
+
+abbrev pub is_above_name : Option (List ℕ) → List ℕ → Bool
+is_above_name None name = true
+is_above_name (Some last) name = is_lt (slice_cmp nat_cmp last name)
+
 -- a header, whose name is asked to be above the last where that is wanted
 abbrev pub begun : Bool → List Entity → Option Entity → Result State Wrong
 begun ordered done None = Err bad
