@@ -12,9 +12,11 @@ pub mod ChangedTwice
 pub mod ChangedUses
 pub mod ChangedVerdictLaws
 pub mod CutLaws
+pub mod FinalLaws
 pub mod FlagLaws
 pub mod GoodParts
 pub mod GrowthLaws
+pub mod HeadFound
 pub mod HeadLaws
 pub mod HeadLineLaws
 pub mod HeaderBack
