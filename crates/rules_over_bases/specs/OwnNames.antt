@@ -24,6 +24,11 @@ own_names (struct base members) = map (λ f. f.name) members
 own_names (exception base members) = map (λ f. f.name) members
 own_names _ = []
 
+-- those of a body that is marked
+abbrev pub row_if : Bool → Body → List (List ℕ)
+row_if true body = own_names body
+row_if false body = []
+
 -- those of all entities that are marked, one after the other
 unfoldable pub marked_names : List Bool → List Entity → List (List ℕ)
 marked_names [] reg = []

@@ -6,7 +6,7 @@ ghost use Rattle.uno_model.specs.Registry.{IsRising, leads_to};
 ghost use Rattle.uno_model.specs.Sound.{all_differ};
 ghost use Rattle.uno_entities.specs.Entities.{entities_of, body_of, member_of, attribute_of};
 ghost use Rattle.rules_over_bases.specs.Known.{KeepsAt, KnownToDiffer, differ_over};
-ghost use Rattle.rules_over_bases.specs.OwnNames.{accessor_names, names_of_member, own_names, marked_names};
+ghost use Rattle.rules_over_bases.specs.OwnNames.{accessor_names, names_of_member, own_names, row_if, marked_names};
 ghost use Rattle.rules_over_bases.specs.Seen.{Sees};
 
 use crate::named::add_all;
@@ -81,14 +81,21 @@ fn marked_differ(alloc: Global, marks: &[bool], entities: &[Entity]) -> Result<b
 {
     let mut seen = Seen::new(alloc);
     for place in 0..entities.len() {
-        if marks[place] && !add_own(&mut seen, &entities[place].body)? {
+        if !add_if_marked(&mut seen, marks[place], &entities[place].body)? {
             return Ok(false);
         }
     }
     Ok(true)
 }
 
+fn add_if_marked<'a>(seen: &mut Seen<'a>, mark: bool, body: &'a Body) -> Result<bool, NoMemory>
+    ensures { IfOk result (λ are_new. Sees seen.old seen.new (row_if mark (body_of body.now)) are_new) }
+{
+    if mark { add_own(seen, body) } else { Ok(true) }
+}
+
 /// Sees the names of the functions of an interface, or of the members of a struct or an exception, its bases left out.
+#[tactic(auto, using(crate::proofs::OwnLemmas::names_through))]
 fn add_own<'a>(seen: &mut Seen<'a>, body: &'a Body) -> Result<bool, NoMemory>
     ensures { IfOk result (λ are_new. Sees seen.old seen.new (own_names (body_of body.now)) are_new) }
 {
