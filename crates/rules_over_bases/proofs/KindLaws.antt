@@ -133,7 +133,7 @@ carrier_stands e (struct base members) is = refl
 carrier_stands e (exception base members) is = refl
 carrier_stands e body is = let bad : false ≡ true = is in absurd cc
 
-carrier_bases : (e : Entity) (body : Body) → carries body ≡ true → member_bases (Some (record { name = e.name; published = e.published; body = body })) ≡ bases_in body
+pub carrier_bases : (e : Entity) (body : Body) → carries body ≡ true → member_bases (Some (record { name = e.name; published = e.published; body = body })) ≡ bases_in body
 carrier_bases e (struct base members) is = refl
 carrier_bases e (exception base members) is = refl
 carrier_bases e body is = let bad : false ≡ true = is in absurd cc
@@ -144,7 +144,7 @@ carrier_names e (exception base members) is = refl
 carrier_names e body is = let bad : false ≡ true = is in absurd cc
 
 -- it has one base at most
-one_base : (body : Body) → (bases_in body ≡ []) ⊎ ((b : List ℕ) × (bases_in body ≡ b ∷ []))
+pub one_base : (body : Body) → (bases_in body ≡ []) ⊎ ((b : List ℕ) × (bases_in body ≡ b ∷ []))
 one_base (struct None members) = inl refl
 one_base (struct (Some b) members) = inr (b, refl)
 one_base (exception None members) = inl refl

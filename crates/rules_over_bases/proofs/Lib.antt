@@ -1,3 +1,5 @@
+pub mod ClimbLemmas
+pub mod FirstLemmas
 pub mod KindLaws
 pub mod KnownLemmas
 pub mod MarkedNames
@@ -5,3 +7,4 @@ pub mod OverLemmas
 pub mod OwnLemmas
 pub mod SeenLemmas
 pub mod TwinLaws
+pub mod TwinsLemmas

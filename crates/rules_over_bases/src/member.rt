@@ -36,7 +36,10 @@ fn climbs_to_member(entities: &[Entity], place: usize, known: &[bool]) -> bool
 {
     let mut at = place;
     for _ in 0..entities.len() + 1 {
-        if known[at] || !needs_base(&entities[at].body) {
+        if known[at] {
+            return true;
+        }
+        if !needs_base(&entities[at].body) {
             return true;
         }
         let Some(base) = carrying_base(entities, &entities[at].body) else {
