@@ -60,6 +60,14 @@ body_read es i d within e at = bodies (entity_of (get_or es i d)) e (sym (entity
     bodies : (x y : plain.Entity) → Some x ≡ Some y → x.body ≡ y.body
     bodies x y both = let one : x ≡ y = cc in ap (λ (z : plain.Entity). z.body) one
 
+-- what a test says of the entity that code reads it says of the one at the place
+pub test_read : (test : plain.Entity → Bool) (es : List Entity) (i : ℕ) (d : Entity) → i < length es → d ≡ get_or es i d → (e : plain.Entity)
+    → slice_get (entities_of es) i ≡ Some e → test (entity_of d) ≡ test e
+test_read test es i d within is e at = same (entity_of d) e (ap (λ x. Some (entity_of x)) is ∙ sym (entity_read es i d within) ∙ at)
+  where
+    same : (x y : plain.Entity) → Some x ≡ Some y → test x ≡ test y
+    same x y both = let one : x ≡ y = cc in ap test one
+
 pub kept_at : (rule : plain.Entity → Bool) (es : List Entity) (i : ℕ) (answer : Bool) (d : Entity) → i < length es → KeepsAt rule (entities_of es) i answer
     → answer ≡ rule (entity_of (get_or es i d))
 kept_at rule es i answer d within keeps = keeps (entity_of (get_or es i d)) (entity_read es i d within)

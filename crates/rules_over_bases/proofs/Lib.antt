@@ -8,3 +8,4 @@ pub mod OwnLemmas
 pub mod SeenLemmas
 pub mod TwinLaws
 pub mod TwinsLemmas
+pub mod WholeLemmas

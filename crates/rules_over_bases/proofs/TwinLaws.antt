@@ -70,7 +70,7 @@ low_differ [] low = refl
 low_differ (n ∷ ns) low =
     from_parts (list_any (bytes_eq n) ns) (all_differ ns) (there n ns (omega (arith, low n, ap one_if (equal_self n)))) (low_differ ns (λ name. omega (arith, low name)))
 
-same_tests : (a b : Bool) → (a ≡ true → b ≡ true) → (b ≡ true → a ≡ true) → a ≡ b
+pub same_tests : (a b : Bool) → (a ≡ true → b ≡ true) → (b ≡ true → a ≡ true) → a ≡ b
 same_tests true b to from = sym (to refl)
 same_tests false true to from = from refl
 same_tests false false to from = refl
