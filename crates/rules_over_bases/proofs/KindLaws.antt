@@ -152,7 +152,7 @@ one_base (exception (Some b) members) = inr (b, refl)
 one_base body = inl refl
 
 -- what stands on nothing has its own names, and what stands on one base those of that before its own
-names_alone : (reg : List Entity) (name : List ℕ) → HasNoCircle (leads_to reg) → stands_on reg name ≡ [] → names_over reg name ≡ names_at (find_entity name reg)
+pub names_alone : (reg : List Entity) (name : List ℕ) → HasNoCircle (leads_to reg) → stands_on reg name ≡ [] → names_over reg name ≡ names_at (find_entity name reg)
 unfolding names_over is_met visit_all
 names_alone reg name none stands =
     let met : interfaces_of reg name ≡ name ∷ [] = visit_is reg [] name none ∙ ap (λ bs. visit_all (visit reg) [] bs ++ name ∷ []) stands in

@@ -5,7 +5,7 @@ ghost use Rattle.uno_model.specs.Circles.{HasNoCircle};
 ghost use Rattle.uno_model.specs.Registry.{IsRising, leads_to};
 ghost use Rattle.uno_model.specs.Sound.{all_differ};
 ghost use Rattle.uno_entities.specs.Entities.{entities_of, body_of, member_of, attribute_of};
-ghost use Rattle.rules_over_bases.specs.Known.{KeepsAt, KnownToDiffer, differ_over};
+ghost use Rattle.rules_over_bases.specs.Known.{KeepsAt, KnownToDiffer, differ_over, stands_alone};
 ghost use Rattle.rules_over_bases.specs.OwnNames.{accessor_names, names_of_member, own_names, row_if, marked_names};
 ghost use Rattle.rules_over_bases.specs.Seen.{Sees};
 
@@ -49,7 +49,29 @@ pub(crate) fn names_differ_over(
     if known[place] {
         return Ok(true);
     }
+    if stands_alone(&entities[place].body) {
+        return own_differ(alloc, &entities[place].body);
+    }
     found_to_differ(alloc, entities, place, known)
+}
+
+/// Whether it is no interface, and has no base.
+fn stands_alone(body: &Body) -> bool
+    ensures { result ≡ stands_alone (body_of body.now) }
+{
+    match body {
+        Body::Interface { .. } => false,
+        Body::Struct { base, .. } | Body::Exception { base, .. } => base.is_none(),
+        _ => true,
+    }
+}
+
+/// Whether the names differ that it declares itself.
+fn own_differ(alloc: Global, body: &Body) -> Result<bool, NoMemory>
+    ensures { IfOk result (λ b. b ≡ all_differ (own_names (body_of body.now))) }
+{
+    let mut seen = Seen::new(alloc);
+    add_own(&mut seen, body)
 }
 
 /// Whether a search from a place finds no name twice. Where it does not, so it is known of all that it marks.
