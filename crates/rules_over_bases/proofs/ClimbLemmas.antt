@@ -1,9 +1,9 @@
 -- From a struct or an exception without members of its own to its base: the base has a member exactly where it has.
-use Rattle.std.proofs.Common.{◌≡◌, ℕ, zero, suc, ◌+◌, ◌-◌, ◌<◌, ◌≤◌, Bool, true, false, not, ◌||◌, List, [], ◌∷◌, ◌++◌, length, get_or, set, Option, None, Some, refl, sym, ap, subst, ◌∙◌, ◌⊎◌, inl, inr, arith, append-nil}
+use Rattle.std.proofs.Common.{◌≡◌, ℕ, zero, suc, ◌<◌, Bool, true, false, not, ◌||◌, List, [], ◌∷◌, ◌++◌, length, get_or, set, Option, None, Some, refl, sym, ap, subst, ◌∙◌, ◌⊎◌, inl, inr, arith, append-nil}
 use Rattle.std.specs.Prelude.{Contains, slice_get}
 use Rattle.std.specs.List.{flat_map, list_any}
 use Rattle.std.proofs.lemmas.List.{length-map, length-set}
-use Rattle.std.proofs.lemmas.Option.{slice_get-get_or, slice_get_within}
+use Rattle.std.proofs.lemmas.Option.{slice_get-get_or}
 use Rattle.uno_model.specs.Circles.{HasNoCircle, ends_within}
 use Rattle.uno_model.specs.Entities as plain
 use Rattle.uno_model.specs.Entities.{Entity, Body, interface, struct, exception, enum, constants, typedef, new_service, old_service, new_singleton, old_singleton}
@@ -18,8 +18,8 @@ use Rattle.uno_entities.specs.declared.entity.Entity as types
 use Rattle.uno_entities.specs.Marks.{Marked}
 use Rattle.uno_entities.proofs.SpreadLemmas.{entity_at}
 use Rattle.entity_rules.specs.NearMembers.{carries}
-use Rattle.rules_over_bases.specs.Climbing.{bases_in, needs_base, IsCarrierAt, ClimbsTo}
-use Rattle.rules_over_bases.specs.Known.{KeepsAt, KnownToPass, KnownMembers}
+use Rattle.rules_over_bases.specs.Climbing.{bases_in, needs_base, IsCarrierAt}
+use Rattle.rules_over_bases.specs.Known.{KeepsAt, KnownMembers}
 use Rattle.rules_over_bases.proofs.FirstLemmas.{body_read}
 use Rattle.rules_over_bases.proofs.KindLaws.{one_base, carrier_bases}
 

@@ -3,16 +3,16 @@ use Rattle.std.proofs.Common.{◌≡◌, ℕ, zero, suc, ◌+◌, Bool, true, fa
 use Rattle.std.specs.Prelude.{Contains}
 use Rattle.std.specs.List.{flat_map, list_all}
 use Rattle.std.proofs.lemmas.List.{map-append}
-use Rattle.std.proofs.lemmas.List.Concat.{flat_map-append, flat_map-cons}
+use Rattle.std.proofs.lemmas.List.Concat.{flat_map-append}
 use Rattle.std.proofs.lemmas.List.Folds.{list_all-map}
 use Rattle.uno_model.specs.Circles.{Leads, step, on, HasNoCircle, ends_within}
-use Rattle.uno_model.specs.Entities.{Entity, Body, Base, Member, Field, attribute, method, interface, struct, exception, enum, constants, typedef, new_service, old_service, new_singleton, old_singleton}
+use Rattle.uno_model.specs.Entities.{Entity, Body, Member, Field, attribute, method, interface, struct, exception, enum, constants, typedef, new_service, old_service, new_singleton, old_singleton}
 use Rattle.uno_model.specs.Functions.{Function, getter, setter, accessors_of, calls_of, declared_by, declared_in, is_met, visit, visit_all, interfaces_of, functions_of}
-use Rattle.uno_model.specs.Registry.{find_entity, mandatory_bases, at_most_one, stands_on, stands_on_body, leads_to, leads_to_body, IsBaseOf, own_members, member_bases, all_members}
+use Rattle.uno_model.specs.Registry.{find_entity, at_most_one, stands_on, stands_on_body, leads_to, own_members, member_bases, all_members}
 use Rattle.uno_model.specs.Sound.{is_there, is_interface, is_struct, is_exception, bases_known, all_differ}
 use Rattle.uno_model.proofs.CircleLaws.{none_ends_at_once, next_ends, all_at}
 use Rattle.uno_model.proofs.MemberLaws.{base_leads, all_ways_end, all_members_are}
-use Rattle.uno_model.proofs.PlaceLaws.{contains_cases, contains_head, contains_behind}
+use Rattle.uno_model.proofs.PlaceLaws.{contains_head, contains_behind}
 use Rattle.uno_model.proofs.ReachesLaws.{required_named}
 use Rattle.uno_model.proofs.UsedKindLaws.{found_entity}
 use Rattle.uno_model.proofs.VisitLaws.{visit_is, interfaces_are_bases}
@@ -20,7 +20,7 @@ use Rattle.entity_rules.specs.NearMembers.{carries}
 use Rattle.registry_text_model.specs.NamesDiffer.{all_names_differ}
 use Rattle.rules_over_bases.specs.Climbing.{bases_in}
 use Rattle.rules_over_bases.specs.Known.{names_at, names_over}
-use Rattle.rules_over_bases.specs.OwnNames.{getter_name, setter_name, accessor_names, names_of_member, own_names}
+use Rattle.rules_over_bases.specs.OwnNames.{getter_name, setter_name, names_of_member, own_names}
 use Rattle.rules_over_bases.proofs.TwinLaws.{occurs, occurs_append, same_differ}
 
 -- bases are of their kind

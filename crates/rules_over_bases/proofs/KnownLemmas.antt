@@ -1,8 +1,8 @@
 -- What is known place by place, and what a search adds.
-use Rattle.std.proofs.Common.{◌≡◌, ℕ, ◌+◌, ◌<◌, Bool, true, false, List, length, replicate, refl, sym, ap, subst, ◌∙◌, ◌⊎◌, inl, inr, arith}
+use Rattle.std.proofs.Common.{◌≡◌, ℕ, ◌<◌, Bool, true, false, List, length, replicate, refl, sym, ap, subst, ◌∙◌, inl, inr}
 use Rattle.std.specs.Prelude.{[], Some, None, slice_get, get_or, Result, IfOk}
 use Rattle.std.proofs.lemmas.Result.{IfOk-weaker}
-use Rattle.std.proofs.lemmas.List.{length-map, length-replicate}
+use Rattle.std.proofs.lemmas.List.{length-replicate}
 use Rattle.uno_model.specs.Circles.{HasNoCircle}
 use Rattle.uno_model.specs.Entities as plain
 use Rattle.uno_model.specs.Registry.{IsRising, leads_to, stands_on_body}
@@ -11,7 +11,7 @@ use Rattle.uno_model.proofs.PlaceLaws.{named_there}
 use Rattle.uno_entities.specs.Counts.{marked_in_either}
 use Rattle.uno_entities.specs.Entities.{entities_of, body_of}
 use Rattle.uno_entities.specs.declared.entity.Entity.{Entity}
-use Rattle.uno_entities.specs.Marks.{Marked, MarksBases}
+use Rattle.uno_entities.specs.Marks.{MarksBases}
 use Rattle.uno_entities.proofs.FewLemmas.{joined_long, joined_marked}
 use Rattle.uno_entities.proofs.SpreadLemmas.{entity_at, replicate_unmarked}
 use Rattle.rules_over_bases.specs.Known.{KeepsAt, KnownToPass, KnownToDiffer, differ_over, names_at, stands_alone}

@@ -1,6 +1,6 @@
 -- An entity has over its bases the names that the entities marked as its bases declare, each as often.
-use Rattle.std.proofs.Common.{◌≡◌, ℕ, zero, suc, ◌+◌, ◌<◌, ◌≤◌, Bool, true, false, ◌||◌, List, [], ◌∷◌, ◌++◌, length, map, Option, None, Some, refl, sym, ap, subst, ◌∙◌, if◌then◌else◌, ◌⊎◌, inl, inr, arith}
-use Rattle.std.specs.Prelude.{slice_get, ◌↔◌}
+use Rattle.std.proofs.Common.{◌≡◌, ℕ, ◌+◌, ◌<◌, ◌≤◌, Bool, true, false, ◌||◌, List, [], ◌∷◌, ◌++◌, length, Some, refl, sym, ap, subst, ◌∙◌, if◌then◌else◌, inl, inr, arith}
+use Rattle.std.specs.Prelude.{◌↔◌}
 use Rattle.std.specs.List.{flat_map}
 use Rattle.std.specs.List.Sorted.{IsStrictlySortedBy}
 use Rattle.std.specs.Str.{bytes_eq}
@@ -167,5 +167,9 @@ pub differ_below : (reg : List Entity) (name base : List ℕ) → IsRising reg �
     → all_differ (names_over reg name) ≡ true → all_differ (names_over reg base) ≡ true
 differ_below reg name base rising none is =
     fewer_differ (names_over reg base) (names_over reg name)
-    (λ asked. omega (arith, counted_over asked reg name rising none, counted_over asked reg base rising none,
-    fewer_met asked (interfaces_of reg base) (interfaces_of reg name) reg (λ n met. base_met reg name base n none is met)))
+    (λ asked. omega (
+      arith,
+      counted_over asked reg name rising none,
+      counted_over asked reg base rising none,
+      fewer_met asked (interfaces_of reg base) (interfaces_of reg name) reg (λ n met. base_met reg name base n none is met),
+    ))

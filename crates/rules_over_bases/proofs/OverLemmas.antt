@@ -7,7 +7,7 @@ use Rattle.std.proofs.lemmas.List.Folds.{flat_map-map}
 use Rattle.std.proofs.lemmas.Result.{IfOk-weaker}
 use Rattle.uno_model.specs.Entities as plain
 use Rattle.uno_model.specs.Sound.{all_differ}
-use Rattle.uno_entities.specs.Entities.{entities_of, entity_of, body_of, member_of}
+use Rattle.uno_entities.specs.Entities.{entities_of, body_of, member_of}
 use Rattle.uno_entities.specs.declared.entity.Entity.{Entity}
 use Rattle.uno_entities.specs.declared.entity.Member.{Member}
 use Rattle.rules_over_bases.specs.OwnNames.{getter_name, setter_name, accessor_names, names_of_member, own_names, row_if, marked_names}

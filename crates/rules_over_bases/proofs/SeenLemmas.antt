@@ -1,5 +1,5 @@
 -- Sets that see more names, one row after the other.
-use Rattle.std.proofs.Common.{◌≡◌, ◌≢◌, ℕ, suc, ◌+◌, ◌<◌, ◌≤◌, Bool, true, false, not, ◌&&◌, ◌||◌, List, [], ◌∷◌, ◌++◌, map, take, drop, length, get_or}
+use Rattle.std.proofs.Common.{◌≡◌, ◌≢◌, ℕ, ◌+◌, ◌<◌, ◌≤◌, Bool, true, false, not, ◌&&◌, ◌||◌, List, [], ◌∷◌, ◌++◌, map, take, drop, length, get_or}
 use Rattle.std.proofs.Common.{refl, sym, ap, subst, ◌∙◌, arith, Bor, append_assoc, append-nil}
 use Rattle.std.specs.BTreeSet.{BTreeSet, contains_by, contains, IsEmpty, Updates}
 use Rattle.std.specs.BTreeMap.{is_at}

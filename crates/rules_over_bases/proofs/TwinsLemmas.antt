@@ -1,19 +1,16 @@
 -- The rule on names of one entity: its own names, and those over its bases.
-use Rattle.std.proofs.Common.{◌≡◌, ℕ, ◌<◌, Bool, true, false, not, ◌&&◌, List, length, get_or, None, Some, refl, sym, ap, subst, ◌∙◌, arith}
-use Rattle.std.specs.Prelude.{slice_get, Result, IfOk}
-use Rattle.std.specs.List.{list_all, position}
-use Rattle.std.proofs.lemmas.Option.{get_or_from_slice_get}
+use Rattle.std.proofs.Common.{◌≡◌, ℕ, ◌<◌, Bool, true, false, not, ◌&&◌, List, length, get_or, None, sym, ap, ◌∙◌}
+use Rattle.std.specs.Prelude.{Result, IfOk}
+use Rattle.std.specs.List.{position}
 use Rattle.std.proofs.lemmas.Result.{IfOk-weaker}
 use Rattle.uno_model.specs.Circles.{HasNoCircle}
-use Rattle.uno_model.specs.Entities as plain
-use Rattle.uno_model.specs.Registry.{IsRising, leads_to, find_entity}
-use Rattle.uno_model.specs.Sound.{bases_known, all_differ}
+use Rattle.uno_model.specs.Registry.{IsRising, leads_to}
 use Rattle.uno_model.proofs.PlaceLaws.{named_there}
 use Rattle.uno_entities.specs.Entities.{entities_of, entity_of, body_of}
 use Rattle.uno_entities.specs.declared.entity.Entity.{Entity}
 use Rattle.registry_text_model.specs.BasesAreOfTheirKind.{bases_are_of_their_kind}
 use Rattle.registry_text_model.specs.NamesDiffer.{own_names_differ, all_names_differ, names_differ}
-use Rattle.rules_over_bases.specs.Known.{KeepsAt, differ_over, names_over}
+use Rattle.rules_over_bases.specs.Known.{KeepsAt, differ_over}
 use Rattle.rules_over_bases.proofs.FirstLemmas.{all_keep, body_read}
 use Rattle.rules_over_bases.proofs.KindLaws.{AllKnown, differ_as_asked}
 

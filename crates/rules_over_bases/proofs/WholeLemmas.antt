@@ -1,5 +1,5 @@
 -- The rule on what is whole and within the limits, of one entity.
-use Rattle.std.proofs.Common.{◌≡◌, ℕ, ◌<◌, ◌≤◌, Bool, true, false, ◌&&◌, List, length, get_or, replicate, Some, refl, sym, ap, subst, ◌∙◌, arith, nat_le}
+use Rattle.std.proofs.Common.{◌≡◌, ℕ, ◌<◌, ◌≤◌, Bool, true, false, ◌&&◌, List, length, get_or, replicate, Some, refl, sym, subst, ◌∙◌}
 use Rattle.std.specs.Prelude.{slice_get, Result, IfOk, IsTrue, ◌↔◌}
 use Rattle.std.proofs.lemmas.Bool.{le-leb, leb-true}
 use Rattle.std.proofs.lemmas.List.{length-map, length-replicate}

@@ -1,5 +1,5 @@
 -- From a struct or an exception to its base.
-use Rattle.std.specs.Prelude.{◌≡◌, ℕ, Bool, true, false, not, ◌&&◌, List, [], ◌∷◌, Option, Some, MatchOption, slice_get}
+use Rattle.std.specs.Prelude.{◌≡◌, ℕ, Bool, true, false, not, List, [], ◌∷◌, Option, Some, MatchOption, slice_get}
 use Rattle.std.specs.List.{list_any}
 use Rattle.uno_model.specs.Entities.{Entity, Body, struct, exception}
 use Rattle.uno_model.specs.Registry.{at_most_one}

@@ -71,10 +71,7 @@ impl Named for Member {
 }
 
 /// Sees the names of a list, up to the first that is not new.
-pub(crate) fn add_all<'a, T: Named>(
-    seen: &mut Seen<'a>,
-    things: &'a [T],
-) -> Result<bool, NoMemory>
+pub(crate) fn add_all<'a, T: Named>(seen: &mut Seen<'a>, things: &'a [T]) -> Result<bool, NoMemory>
     ensures { IfOk result (λ are_new. Sees seen.old seen.new (map T.named things.now) are_new) }
 {
     for thing in things {

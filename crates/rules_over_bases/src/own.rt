@@ -25,10 +25,8 @@ pub(crate) fn own_names_differ(alloc: Global, body: &Body) -> Result<bool, NoMem
         Body::Enum { items } => names_differ(alloc, items.as_slice()),
         Body::Constants { constants } => names_differ(alloc, constants.as_slice()),
         Body::Service(service) => service_differs(alloc, service),
-        Body::Struct { .. }
-        | Body::Exception { .. }
-        | Body::Typedef { .. }
-        | Body::Singleton(_) => Ok(true),
+        Body::Struct { .. } | Body::Exception { .. } | Body::Typedef { .. } | Body::Singleton(_) =>
+            Ok(true),
     }
 }
 

@@ -10,6 +10,7 @@ use uno_base::NoMemory;
 
 /// What stands before an attribute's name in that of the function that reads it, and of the one that writes it.
 const GET: &str = "get:";
+
 const SET: &str = "set:";
 
 /// Names by what they begin with: those of getters and of setters without it, so that a function's name is never written out.

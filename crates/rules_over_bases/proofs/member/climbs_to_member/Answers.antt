@@ -1,4 +1,4 @@
-use Rattle.std.proofs.Common.{◌+◌, ◌-◌, length, true, false, arith}
+use Rattle.std.proofs.Common.{true, arith}
 use Rattle.std.proofs.lemmas.List.{length-map}
 use Rattle.uno_entities.specs.Entities.{entities_of, entity_of}
 use Rattle.rules_over_bases.proofs.ClimbLemmas.{climb_begins, climb_tells, climb_ends, climb_fails, climb_steps, never_ends, known_at}
