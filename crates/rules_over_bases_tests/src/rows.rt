@@ -59,7 +59,10 @@ const TWINS: &[Row] = &[
 ];
 
 const NOT_WHOLE: &[Row] = &[
-    ("interface XA <R a;enum EA RED;service VA create;struct SA a", ""),
+    (
+        "interface XA <R a;enum EA RED;service VA create;struct SA a",
+        "",
+    ),
     ("interface XA a", "XA"),
     ("interface XA ?R a", "XA"),
     ("enum EA", "EA"),
