@@ -1,0 +1,11 @@
+pub mod ClimbLemmas
+pub mod FirstLemmas
+pub mod KindLaws
+pub mod KnownLemmas
+pub mod MarkedNames
+pub mod OverLemmas
+pub mod OwnLemmas
+pub mod SeenLemmas
+pub mod TwinLaws
+pub mod TwinsLemmas
+pub mod WholeLemmas

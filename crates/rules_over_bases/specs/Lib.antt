@@ -1,0 +1,4 @@
+pub mod Climbing
+pub mod Known
+pub mod OwnNames
+pub mod Seen

@@ -1,0 +1,13 @@
+//! The rules of a registry that look over bases: of each, the first entity that breaks it.
+#![tactic(auto)]
+
+mod member;
+mod named;
+mod over;
+mod own;
+mod seen;
+mod twins;
+mod whole;
+
+pub use twins::first_with_twins;
+pub use whole::first_not_whole;
