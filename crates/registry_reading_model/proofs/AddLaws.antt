@@ -1,13 +1,18 @@
--- What one more entity adds to the written ones, where its name is above theirs.
-use Rattle.std.proofs.Common.{◌≡◌, ℕ, Bool, true, false, not, List, [], ◌∷◌, ◌++◌, map, filter, None, Some, if◌then◌else◌, refl, sym, ap, subst, ◌∙◌, inl, inr}
-use Rattle.std.proofs.lemmas.Bool.{cases_Bool, both_ways, false_from_ne_true}
+-- What one step of the reading goes by: the next line of a text, and one more entity, whose name is above those that are written.
+use Rattle.std.proofs.Common.{◌≡◌, ℕ, zero, suc, ◌+◌, ◌<◌, ◌≤◌, ◌==◌, Bool, true, false, not, if◌then◌else◌, List, [], ◌∷◌, ◌++◌, length}
+use Rattle.std.proofs.Common.{take, drop, get_or, filter, None, Some, refl, sym, ap, subst, ◌∙◌, arith, inl, inr}
+use Rattle.std.proofs.lemmas.Bool.{cases_Bool, both_ways, false_from_ne_true, and_from, not_from_false, eqb-true, ltb-false}
 use Rattle.std.proofs.lemmas.Cmp.{nat_list_cmp_total}
-use Rattle.std.proofs.lemmas.List.{append-nil}
+use Rattle.std.proofs.lemmas.List.{append-nil, take-append-drop, drop_more}
+use Rattle.std.proofs.lemmas.List.Sums.{fails_before_first}
+use Rattle.std.proofs.lemmas.List.Quantifiers.{position-Some}
+use Rattle.std.proofs.Math.Seq.{take-length}
 use Rattle.std.proofs.lemmas.List.Elements.{filter-append}
 use Rattle.std.proofs.lemmas.List.Kept.{IsStrictlySortedBy-filter}
 use Rattle.std.proofs.lemmas.Slice.Eq.{bytes_eq-Decides}
 use Rattle.std.specs.Cmp.Lexicographic.{slice_cmp}
-use Rattle.std.specs.List.{AllByRecursion}
+use Rattle.std.specs.List.{AllByRecursion, position, position_or_len}
+use Rattle.std.specs.Prelude.{nat_lt}
 use Rattle.std.specs.List.Sorted.{IsStrictlySortedBy}
 use Rattle.std.specs.Ordering.{nat_cmp, ordering_reverse}
 use Rattle.std.specs.Str.{bytes_eq}
@@ -16,6 +21,7 @@ use Rattle.uno_model.specs.Entities.{Entity}
 use Rattle.uno_model.specs.Registry.{IsRising, find_entity, Adds}
 use Rattle.uno_model.proofs.FindLaws.{none_found}
 use Rattle.registry_text_model.specs.Lines.{is_built_in_name, written}
+use Rattle.registry_text_model.specs.Reading.{is_one_line}
 use Rattle.registry_reading_model.proofs.RisingLaws.{names_of, AllBelow, all_below}
 use Rattle.registry_reading_model.proofs.WrittenPlaces.{written_more, written_without}
 use Rattle.registry_reading_model.specs.States.{is_above, last_name, is_above_name}
@@ -66,11 +72,11 @@ others_named : (reg : List Entity) (name : List ℕ) → is_built_in_name name �
     → AllByRecursion (λ (e : Entity). bytes_eq name e.name ≡ false) reg
 others_named [] name new below = tt
 others_named (e ∷ es) name new below = elim (cases_Bool (is_built_in_name e.name)) [
-  | inl built ↦ (
-      false_from_ne_true (bytes_eq name e.name)
-      (λ same. both_ways (is_built_in_name name) new (subst (λ n. is_built_in_name n ≡ true) (sym ((bytes_eq-Decides name e.name).0 same)) built)),
-      others_named es name new (subst (λ ds. AllBelow (names_of ds) name) (written_without e es built) below),
-    )
+  | inl built ↦
+      let passes : bytes_eq name e.name ≡ true → is_built_in_name name ≡ true =
+      λ same. subst (λ n. is_built_in_name n ≡ true) (sym ((bytes_eq-Decides name e.name).0 same)) built in
+      let rest : AllBelow (names_of (written es)) name = subst (λ ds. AllBelow (names_of ds) name) (written_without e es built) below in
+      (false_from_ne_true (bytes_eq name e.name) (λ same. both_ways (is_built_in_name name) new (passes same)), others_named es name new rest)
   | inr own ↦
       let both : AllBelow (names_of (e ∷ written es)) name = subst (λ ds. AllBelow (names_of ds) name) (written_more e es own) below in
       (below_differs e.name name both.0, others_named es name new both.1)
@@ -114,3 +120,38 @@ added_last old new e adds rising own above =
     nothing_behind (written adds.front) (written adds.back) e behind (subst (λ ds. is_above ds e.name ≡ true) before above) in
     after ∙ ap (λ ds. written adds.front ++ e ∷ ds) none
     ∙ ap (λ ds. ds ++ e ∷ []) (sym (before ∙ ap (λ ds. written adds.front ++ ds) none ∙ append-nil (written adds.front)))
+
+-- ---- the first line feed
+
+-- in front of the first line feed stands one line
+front_is_line : (bytes : List ℕ) (i : ℕ) → i ≤ length bytes → ((k : ℕ) → k < i → (get_or bytes k 0 == 10) ≡ false)
+    → is_one_line (take i bytes) ≡ true
+unfolding is_one_line
+front_is_line bytes zero within others = refl
+front_is_line [] (suc i) within others = refl
+front_is_line (c ∷ cs) (suc i) within others =
+    and_from (not (c == 10)) _ (not_from_false (c == 10) (others 0 (omega arith)))
+    (front_is_line cs i (omega (arith, within)) (λ k low. others (suc k) (omega (arith, low))))
+
+pub split_feed : (bytes : List ℕ) (i : ℕ) → position (λ b. b == 10) bytes ≡ Some i
+    → (bytes ≡ take i bytes ++ 10 ∷ drop (i + 1) bytes) × (is_one_line (take i bytes) ≡ true) × (i < length bytes)
+split_feed bytes i at =
+    let first = position-Some (λ b. b == 10) bytes i 0 at in
+    let cut : drop i bytes ≡ 10 ∷ drop (i + 1) bytes =
+    drop_more bytes i 0 first.0 ∙ ap (λ c. c ∷ drop (i + 1) bytes) (eqb-true (get_or bytes i 0) 10 first.1) in (
+      sym (take-append-drop i bytes) ∙ ap (λ cs. take i bytes ++ cs) cut,
+      front_is_line bytes i (omega (arith, first.0)) first.2,
+      first.0,
+    )
+
+pub no_feed : (bytes : List ℕ) → position (λ b. b == 10) bytes ≡ None → is_one_line bytes ≡ true
+no_feed bytes none =
+    let long : length bytes ≤ position_or_len (λ b. b == 10) bytes =
+    not_within (nat_lt (position_or_len (λ b. b == 10) bytes) (length bytes)) refl none in
+    subst (λ cs. is_one_line cs ≡ true) (take-length bytes)
+    (front_is_line bytes (length bytes) (omega arith) (λ k low. fails_before_first (λ b. b == 10) bytes k 0 (omega (arith, low, long))))
+  where
+    not_within : (b : Bool) → nat_lt (position_or_len (λ b. b == 10) bytes) (length bytes) ≡ b
+        → (if b then Some (position_or_len (λ b. b == 10) bytes) else None) ≡ None → length bytes ≤ position_or_len (λ b. b == 10) bytes
+    not_within true low is = let worse : ⊥ = cc in absurd worse
+    not_within false high is = ltb-false _ _ high

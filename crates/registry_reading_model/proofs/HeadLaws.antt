@@ -119,7 +119,8 @@ last_is_marked (g ∷ []) h = refl
 last_is_marked (g ∷ (f ∷ fs)) h = ap (λ hs. g ∷ hs) (last_is_marked (f ∷ fs) h)
 
 mark_last : (hs : List Head) (h : Head) (b : Bool) → (if b then last_marked (hs ++ h ∷ []) else hs ++ h ∷ []) ≡ hs ++ marked h b ∷ []
-mark_last hs h true = last_is_marked hs h ∙ ap (λ b. hs ++ record { name = h.name; class = h.class; line = h.line; beyond = b } ∷ []) (true_or h.beyond)
+mark_last hs h true =
+    last_is_marked hs h ∙ ap (λ b. hs ++ record { name = h.name; class = h.class; line = h.line; beyond = b } ∷ []) (true_or h.beyond)
 mark_last hs h false = ap (λ g. hs ++ g ∷ []) (unmarked h)
 
 -- a line behind the first of a text
