@@ -1,5 +1,5 @@
 -- What a binary search over headers says of a name.
-use Rattle.std.proofs.Common.{◌≡◌, ℕ, zero, suc, ◌+◌, ◌<◌, ◌≤◌, Bool, true, false, ◌==◌, ◌||◌, List, [], ◌∷◌, ◌++◌, codes, length, length-append, add-one, map, get_or, None, Some, Option, Result, Ok, Err, Bor, option_map, refl, sym, ap, subst, ◌∙◌, ◌⊎◌, inl, inr, arith, slice_get}
+use Rattle.std.proofs.Common.{◌≡◌, ℕ, zero, suc, ◌+◌, ◌-◌, ◌<◌, if◌then◌else◌, ◌≤◌, Bool, true, false, ◌==◌, ◌||◌, List, [], ◌∷◌, ◌++◌, codes, length, length-append, map, get_or, None, Some, Option, Result, Ok, Err, Bor, option_map, refl, sym, ap, subst, ◌∙◌, ◌⊎◌, inl, inr, arith, slice_get}
 use Rattle.std.proofs.lemmas.Bool.{cases_lt}
 use Rattle.std.specs.List.{AllByRecursion}
 use Rattle.std.specs.List.Sorted.{IsBinarySearchResult, IsSearchInRange, IsSortedBy, IsStrictlySortedBy}
@@ -7,13 +7,14 @@ use Rattle.std.specs.Ordering.{is_lt, ordering_reverse}
 use Rattle.std.specs.declared.cmp.Ordering.{Ordering}
 use Rattle.std.specs.declared.cmp.Ordering.TheVariants.{Less, Equal, Greater}
 use Rattle.std.proofs.lemmas.Cmp.{nat_list_cmp_total}
-use Rattle.std.proofs.lemmas.List.{get_or_default}
+use Rattle.std.proofs.lemmas.List.{map-append}
 use Rattle.std.proofs.lemmas.List.Sorted.{searchable_from_sorted}
 use Rattle.std.specs.Str.{bytes_eq}
 use Rattle.std.proofs.lemmas.Slice.Eq.{bytes_eq-Decides}
 use Rattle.uno_model.proofs.FindLaws.{name_cmp, equal_names, same_equal}
 use Rattle.registry_reading_model.specs.Heads as plain
-use Rattle.registry_reading_model.specs.Heads.{head_named, heads_on, heads_in, one_line_on}
+use Rattle.registry_reading_model.specs.Heads.{head_named, heads_on, heads_in, one_line_on, head_added, is_above_last, last_marked, beyond_long}
+use Rattle.registry_reading_model.proofs.HeadLaws.{head_added_rises, marked_rise, last_is_marked}
 use Rattle.registry_reading_model.specs.TextLines.{lines_in, all_plain, is_plain}
 use Rattle.registry_reading_model.proofs.TextLinesLaws.{one_more_line, no_line}
 use Rattle.registry_text_model.specs.Reading.{is_one_line}
@@ -121,7 +122,7 @@ pub goes_on : (bytes rest here behind line : List ℕ) (number : ℕ) (is_header
     → rest ≡ here ++ 10 ∷ behind → is_one_line here ≡ true → (is_plain here ≡ true → line ≡ here) → more ≡ one_line_on number is_header heads line
     → next ≡ ((number == 1) || bytes_eq line (codes "end")) → LookedAt bytes behind (number + 1) next more
 unfolding heads_on
-goes_on bytes rest here behind line number is_header next heads more at split one as made now =
+goes_on bytes rest here behind line number is_header next heads more at split one alike made now =
     record {
       plain = λ all. on (at.plain all);
       room = omega (arith, at.room, ap length split, length-append here (10 ∷ behind));
@@ -134,12 +135,67 @@ goes_on bytes rest here behind line number is_header next heads more at split on
         → (all_plain (lines_in behind) ≡ true) × (heads_on (number + 1) next more (lines_in behind) ≡ heads_in (lines_in bytes))
     on both =
         let parts = and_parts (is_plain here) (all_plain (lines_in behind)) (sym (ap all_plain lines) ∙ both.0) in
-        let same : line ≡ here = as parts.0 in
+        let same : line ≡ here = alike parts.0 in
+        let up : number + 1 ≡ suc number = omega arith in
         let step : heads_on (number + 1) next more (lines_in behind) ≡ heads_on number is_header heads (here ∷ lines_in behind) =
-        λ i. heads_on (add-one {n = number} i) ((now ∙ ap (λ l. (number == 1) || bytes_eq l (codes "end")) same) i) ((made ∙ ap (one_line_on number is_header heads) same) i) (lines_in behind) in
+        λ i. heads_on (up i) ((now ∙ ap (λ l. (number == 1) || bytes_eq l (codes "end")) same) i) ((made ∙ ap (one_line_on number is_header heads) same) i) (lines_in behind) in
         (parts.1, step ∙ sym (ap (heads_on number is_header heads) lines) ∙ both.1)
 
 pub ends : (bytes rest : List ℕ) (number : ℕ) (is_header : Bool) (heads : List plain.Head) → LookedAt bytes rest number is_header heads → is_one_line rest ≡ true
     → all_plain (lines_in bytes) ≡ true → heads ≡ heads_in (lines_in bytes)
 unfolding heads_on
 ends bytes rest number is_header heads at one all = ap (heads_on number is_header heads) (sym (no_line rest one)) ∙ (at.plain all).1
+
+-- ---- the last of them
+
+pub above_some : (hs : List Head) (x : Head) (name : List ℕ) → Some x ≡ slice_get hs (length hs - 1) → is_above_last (plain_heads hs) name ≡ is_lt (name_cmp x.name.now name)
+unfolding is_above_last
+above_some [] x name is = absurd cc
+above_some (h ∷ []) x name is = ap (λ o. is_lt (name_cmp (name_or x o) name)) (sym is)
+  where
+    name_or : Head → Option Head → List ℕ
+    name_or y None = y.name.now
+    name_or y (Some z) = z.name.now
+above_some (h ∷ (g ∷ gs)) x name is = above_some (g ∷ gs) x name (is ∙ ap (slice_get (h ∷ (g ∷ gs))) (long g gs))
+  where
+    long : (y : Head) (ys : List Head) → length (h ∷ (y ∷ ys)) - 1 ≡ suc (length (y ∷ ys) - 1)
+    long y ys = omega arith
+
+pub above_none : (hs : List Head) (name : List ℕ) → None ≡ slice_get hs (length hs - 1) → true ≡ is_above_last (plain_heads hs) name
+unfolding is_above_last
+above_none [] name is = refl
+above_none (h ∷ hs) name is = absurd (some h hs is)
+  where
+    some : (y : Head) (ys : List Head) → None ≡ slice_get (y ∷ ys) (length (y ∷ ys) - 1) → ⊥
+    some y [] e = absurd cc
+    some y (z ∷ zs) e = let long : length (y ∷ (z ∷ zs)) - 1 ≡ suc (length (z ∷ zs) - 1) = omega arith in some z zs (e ∙ ap (slice_get (y ∷ (z ∷ zs))) long)
+
+-- one more
+pub added_rise : (hs more : List Head) (h : Head) → NamesRise (plain_heads hs) → is_above_last (plain_heads hs) h.name.now ≡ true → more ≡ hs ++ h ∷ [] → NamesRise (plain_heads more)
+added_rise hs more h rise above is = subst NamesRise (sym (ap plain_heads is ∙ map-append plain_head hs (h ∷ []))) (head_added_rises (plain_heads hs) (plain_head h) rise above)
+
+pub added_heads : (hs more : List Head) (h : Head) → is_above_last (plain_heads hs) h.name.now ≡ true → more ≡ hs ++ h ∷ [] → plain_heads more ≡ head_added (plain_heads hs) (plain_head h)
+added_heads hs more h above is = ap plain_heads is ∙ map-append plain_head hs (h ∷ []) ∙ sym (ap (λ b. if b then plain_heads hs ++ plain_head h ∷ [] else plain_heads hs) above)
+
+-- the last one marked
+pub marked_heads : (hs front more : List Head) (h g : Head) (line : List ℕ) → beyond_long line ≡ true → hs ≡ front ++ h ∷ [] → more ≡ front ++ g ∷ []
+    → plain_head g ≡ record { name = h.name.now; class = h.class; line = h.line; beyond = true } → plain_heads more ≡ one_line_on 0 false (plain_heads hs) line
+marked_heads hs front more h g line beyond was is marks =
+    ap plain_heads is ∙ map-append plain_head front (g ∷ []) ∙ ap (λ x. plain_heads front ++ x ∷ []) marks
+    ∙ sym (ap (λ b. if b then last_marked (plain_heads hs) else plain_heads hs) beyond
+    ∙ ap (λ xs. last_marked (plain_heads xs)) was ∙ ap last_marked (map-append plain_head front (h ∷ [])) ∙ last_is_marked (plain_heads front) (plain_head h))
+
+pub marked_names_rise : (hs more : List Head) (line : List ℕ) → NamesRise (plain_heads hs) → plain_heads more ≡ one_line_on 0 false (plain_heads hs) line → NamesRise (plain_heads more)
+marked_names_rise hs more line rise is = subst NamesRise (sym is) (by_test (beyond_long line))
+  where
+    by_test : (b : Bool) → NamesRise (if b then last_marked (plain_heads hs) else plain_heads hs)
+    by_test false = rise
+    by_test true = marked_rise (plain_heads hs) rise
+
+pub none_marked : (hs more : List Head) (line : List ℕ) → hs ≡ [] → more ≡ hs → plain_heads more ≡ one_line_on 0 false (plain_heads hs) line
+unfolding last_marked
+none_marked hs more line empty is = ap plain_heads (is ∙ empty) ∙ sym (ap (λ xs. one_line_on 0 false (plain_heads xs) line) empty ∙ by_test (beyond_long line))
+  where
+    by_test : (b : Bool) → (if b then last_marked [] else []) ≡ []
+    by_test true = refl
+    by_test false = refl

@@ -38,7 +38,7 @@ module _ {X Y : Type 0} (g : X → Y) (f : Y → Option Y) where
   one_made old new after x z y is made some put =
       whole old new x is ∙ ap (λ o. on_some o (λ w. Some (map g new ++ w ∷ []))) (sym made ∙ some) ∙ ap Some (sym (map-append g new (z ∷ [])) ∙ ap (map g) (sym put))
 
-differs : (word w : List ℕ) → (word ≡ w → ⊥) → bytes_eq word w ≡ false
+pub differs : (word w : List ℕ) → (word ≡ w → ⊥) → bytes_eq word w ≡ false
 differs word w other = by_test (bytes_eq word w) refl
   where
     by_test : (b : Bool) → bytes_eq word w ≡ b → bytes_eq word w ≡ false

@@ -64,6 +64,10 @@ pub long_read : (o : Option ℤ) (z : ℤ) → Some z ≡ option_map clamped o �
 long_read None z is = absurd cc
 long_read (Some y) z is = ap (option_map long_or_zero) is ∙ ap Some (long_clamped y)
 
-pub beyond_read : (o k : Option ℤ) → k ≡ option_map clamped o → is_beyond k ≡ is_beyond o
-beyond_read None k is = ap is_beyond is
-beyond_read (Some z) k is = ap is_beyond is ∙ ap not (long_alike z)
+pub beyond_some : (o : Option ℤ) (z : ℤ) → Some z ≡ option_map clamped o → not (is_long z) ≡ is_beyond o
+beyond_some None z is = absurd cc
+beyond_some (Some y) z is = ap is_beyond is ∙ ap not (long_alike y)
+
+pub beyond_none : (o : Option ℤ) → None ≡ option_map clamped o → false ≡ is_beyond o
+beyond_none None is = refl
+beyond_none (Some y) is = absurd cc

@@ -1,4 +1,5 @@
 pub mod Heads
 pub mod Members
+pub mod Readers
 pub mod Taken
 pub mod Views

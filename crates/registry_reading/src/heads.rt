@@ -1,6 +1,7 @@
 //! All headers of a text, whose names rise.
-ghost use Rattle.std.specs.Prelude.{◌≡◌, ◌+◌, ◌≤◌, ◌<◌, IfOk, OnOk, length, true, option_map, slice_get, []};
+ghost use Rattle.std.specs.Prelude.{◌≡◌, ◌+◌, ◌≤◌, ◌<◌, IfOk, OnOk, length, true, false, option_map, slice_get, [], codes, ◌||◌, ◌==◌};
 ghost use Rattle.registry_reading_model.specs.Heads as model;
+ghost use Rattle.std.specs.Str.{bytes_eq};
 ghost use Rattle.registry_text_model.specs.EnumValues.{is_long};
 ghost use Rattle.registry_reading_model.specs.Numbers.{number_of};
 ghost use Rattle.registry_reading_model.specs.TextLines.{lines_in, all_plain};
@@ -50,7 +51,7 @@ impl<'a> Heads<'a> {
         is_header: bool,
         line: &'a str,
     ) -> Result<Heads<'a>, NoMemory>
-        ensures { IfOk result (λ heads. heads ≡ model.one_line_on number is_header self line.now) }
+        ensures { IfOk result (λ heads. heads ≡ model.one_line_on number is_header self.entry line.now) }
     {
         let Heads { heads } = self;
         if is_header {
@@ -139,14 +140,14 @@ fn is_beyond_long(line: &str) -> bool
     is_beyond(digits)
 }
 
-#[tactic(auto, using(crate::proofs::NumberLemmas::beyond_read))]
+#[tactic(auto, using(crate::proofs::NumberLemmas::beyond_some, crate::proofs::NumberLemmas::beyond_none))]
 fn is_beyond(digits: &str) -> bool
     ensures { result ≡ model.is_beyond (number_of digits.now) }
 {
-    match number(digits) {
-        Some(value) => !is_long(value),
-        None => false,
-    }
+    let Some(value) = number(digits) else {
+        return false;
+    };
+    !is_long(value)
 }
 
 fn is_long(number: i128) -> bool
@@ -156,9 +157,10 @@ fn is_long(number: i128) -> bool
 }
 
 /// One header more, where its name is above the last.
+#[tactic(auto, using(crate::proofs::HeadLemmas::added_rise, crate::proofs::HeadLemmas::added_heads))]
 fn added<'a>(heads: Vec<Head<'a>>, head: Head<'a>) -> Result<Vec<Head<'a>>, NoMemory>
     requires { NamesRise (plain_heads heads.items) }
-    ensures heads { IfOk result (λ hs. plain_heads hs.items ≡ model.head_added (plain_heads heads.items) (plain_head head)) }
+    ensures heads { IfOk result (λ hs. plain_heads hs.items ≡ model.head_added (plain_heads heads.entry.items) (plain_head head.entry)) }
     ensures rise { IfOk result (λ hs. NamesRise (plain_heads hs.items)) }
 {
     if !is_above_last(heads.as_slice(), head.name) {
@@ -181,7 +183,7 @@ fn is_above_last(heads: &[Head<'_>], name: &str) -> bool
 /// The last of them is marked, where a line under it has a value beyond those of `long`.
 fn marked<'a>(heads: Vec<Head<'a>>, line: &str) -> Result<Vec<Head<'a>>, NoMemory>
     requires { NamesRise (plain_heads heads.items) }
-    ensures heads { IfOk result (λ hs. plain_heads hs.items ≡ model.one_line_on 0 false (plain_heads heads.items) line.now) }
+    ensures heads { IfOk result (λ hs. plain_heads hs.items ≡ model.one_line_on 0 false (plain_heads heads.entry.items) line.now) }
     ensures rise { IfOk result (λ hs. NamesRise (plain_heads hs.items)) }
 {
     if !is_beyond_long(line) {
@@ -196,6 +198,13 @@ fn marked<'a>(heads: Vec<Head<'a>>, line: &str) -> Result<Vec<Head<'a>>, NoMemor
     Ok(heads)
 }
 
+/// Whether a header stands behind this line: it is the first of a text, or an `end`.
+fn precedes_header(number: u32, line: &str) -> bool
+    ensures { result ≡ ((number == 1) || bytes_eq line.now (codes "end")) }
+{
+    number == 1 || line == "end"
+}
+
 /// All headers of a text of lines.
 pub(crate) fn heads_of(alloc: Global, bytes: &[u8]) -> Result<Heads<'_>, NoMemory>
     requires { length bytes.now ≤ 4194304 }
@@ -208,7 +217,7 @@ pub(crate) fn heads_of(alloc: Global, bytes: &[u8]) -> Result<Heads<'_>, NoMemor
     while let Some((line, behind)) = first_line(rest) {
         let line = text_or_empty(line);
         heads = heads.look(number, is_header, line)?;
-        is_header = number == 1 || line == "end";
+        is_header = precedes_header(number, line);
         number += 1;
         rest = behind;
     }

@@ -3,7 +3,7 @@ ghost use Rattle.std.specs.Prelude.{◌≡◌, ◌++◌, ◌∷◌, [], MatchOpt
 
 /// The last one, taken out.
 pub(crate) fn take_last<T>(items: &mut Vec<T>) -> Option<T>
-    ensures { MatchOption result (items.old.items ≡ []) (λ x. items.old.items ≡ items.new.items ++ x ∷ []) }
+    ensures { MatchOption result ((items.old.items ≡ []) × (items.new.items ≡ [])) (λ x. items.old.items ≡ items.new.items ++ x ∷ []) }
 {
     items.pop()
 }

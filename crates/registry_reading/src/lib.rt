@@ -2,6 +2,7 @@
 #![tactic(auto)]
 
 mod body;
+mod error;
 mod fields;
 mod head;
 mod header;
@@ -12,5 +13,6 @@ mod last;
 mod lines;
 mod names;
 mod number;
+mod reader;
 mod service;
 mod words;

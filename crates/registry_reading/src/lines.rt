@@ -1,7 +1,6 @@
 //! The lines of a text.
 ghost use Rattle.std.specs.Prelude.{◌≡◌, ◌++◌, ◌∷◌, ◌==◌, ◌<◌, length, MatchOption, true, Ok};
 ghost use Rattle.std.specs.List.{position};
-ghost use Rattle.std.specs.Str.{IsUtf8};
 ghost use Rattle.registry_text_model.specs.Reading.{is_one_line};
 ghost use Rattle.registry_reading_model.specs.TextLines.{is_plain};
 
@@ -13,10 +12,12 @@ fn line_feed(bytes: &[u8]) -> Option<usize>
 
 /// The first line, without its line feed, and what stands behind it. A line without one is none.
 pub(crate) fn first_line(bytes: &[u8]) -> Option<(&[u8], &[u8])>
-    ensures { MatchOption result (is_one_line bytes.now ≡ true) (λ x. (bytes.now ≡ x.0.now ++ 10 ∷ x.1.now) × (is_one_line x.0.now ≡ true) × (length x.1.now < length bytes.now)) }
+    ensures { MatchOption result (is_one_line bytes.now ≡ true) (λ x. (bytes.now ≡ x.0.now ++ 10 ∷ x.1.now) × (is_one_line x.0.now ≡ true)) }
 {
-    let end = line_feed(bytes)?;
-    Some((&bytes[..end], &bytes[end + 1..]))
+    match line_feed(bytes) {
+        Some(end) => Some((&bytes[..end], &bytes[end + 1..])),
+        None => None,
+    }
 }
 
 /// A line, or an empty one where it is no text.

@@ -1,8 +1,9 @@
-use Rattle.std.proofs.Common.{◌≡◌}
+use Rattle.std.proofs.Common.{◌≡◌, ◌∙◌, sym}
+use Rattle.registry_reading.proofs.HeadLemmas.{above_some, above_none}
 use Rattle.registry_reading.proofs.heads.is_above_last.Goals as goal
 
 pub returns-in-Some : goal.returns-in-Some
-returns-in-Some c = let v = c.last.ensures.value in let i = c.last.ensures.item in let l = c.lt.ensures in ?
+returns-in-Some c = c.lt.ensures ∙ sym (above_some _ _ _ c.in-Some.ensures.value)
 
 pub returns-in-None : goal.returns-in-None
-returns-in-None c = let v = c.last.ensures.value in let i = c.last.ensures.item in ?
+returns-in-None c = above_none _ _ c.in-None.ensures.value

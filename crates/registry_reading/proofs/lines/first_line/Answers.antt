@@ -1,8 +1,10 @@
-use Rattle.std.proofs.Common.{◌≡◌}
+use Rattle.std.proofs.Common.{◌≡◌, sym, ◌∙◌}
+use Rattle.registry_reading_model.proofs.AddLaws.{no_feed}
+use Rattle.registry_reading.proofs.LineLemmas.{first_parts}
 use Rattle.registry_reading.proofs.lines.first_line.Goals as goal
 
-pub returns-in_err-end : goal.returns-in_err-end
-returns-in_err-end c = let a = c.line_feed.ensures in let b = c.in_err-end.is in let d = c.from_residual.ensures in ?
+pub returns-in-Some : goal.returns-in-Some
+returns-in-Some c = first_parts _ _ (sym c.line_feed.ensures ∙ c.in-Some.is)
 
-pub returns : goal.returns
-returns c = ?
+pub returns-in-None : goal.returns-in-None
+returns-in-None c = no_feed _ (sym c.line_feed.ensures ∙ c.in-None.is)

@@ -1,5 +1,6 @@
 use Rattle.std.proofs.Common.{◌≡◌}
+use Rattle.registry_reading.proofs.LineLemmas.{plain_is_utf8}
 use Rattle.registry_reading.proofs.lines.text_or_empty.Goals as goal
 
 pub returns-in-Err : goal.returns-in-Err
-returns-in-Err c = let a = c.in-Err.ensures.cases in ?
+returns-in-Err c = λ plain. absurd (c.in-Err.ensures.cases.0 (plain_is_utf8 _ plain))

@@ -4,7 +4,7 @@ use Rattle.registry_reading.proofs.LastLemmas.{none_left, none_made, one_made}
 use Rattle.registry_reading.proofs.service.line_under_constructor.Goals as goal
 
 pub returns-in_default : goal.returns-in_default
-returns-in_default c = none_left _ _ _ c.in_default.ensures
+returns-in_default c = none_left _ _ _ c.in_default.ensures.0
 
 pub returns-in_default-2 : goal.returns-in_default-2
 returns-in_default-2 c = none_made _ _ _ _ _ _ c.in-Some.ensures c.in_ok-constructor.ensures (ap (option_map constructor_of) c.in_default-2.is)

@@ -1,0 +1,21 @@
+use Rattle.std.proofs.Common.{◌≡◌, ap, sym, ◌∙◌, subst, Err, Some, None}
+use Rattle.uno_model.specs.Registry.{IsRising}
+use Rattle.uno_entities.specs.Entities.{entity_of}
+use Rattle.registry_text_model.specs.Lines.{written}
+use Rattle.registry_reading_model.specs.States as model
+use Rattle.registry_reading.proofs.ReaderLemmas.{absent, one_more, its_name_is_last, read_between}
+use Rattle.registry_reading.proofs.reader.ended.Goals as goal
+
+pub unreachable-requires : goal.unreachable-requires
+unreachable-requires c =
+    c.in-Err-Twice.ensures.twice.0 (ap Err c.in-Err-Twice.field-0-is)
+    (absent _ _ (subst IsRising c.registry.view_is c.registry.invariant.0) c.requires.free c.requires.above)
+
+pub returns-in-Ok-clause-next : goal.returns-in-Ok-clause-next
+returns-in-Ok-clause-next c =
+    c.between.ensures.state ∙ ap model.between (one_more _ _ _ c.in-Ok.ensures.added c.between.ensures.rising c.requires.free c.requires.above)
+
+pub returns-in-Ok-clause-read : goal.returns-in-Ok-clause-read
+returns-in-Ok-clause-read c =
+    read_between _ _ _ (entity_of c.args.entity) c.between.ensures.same c.between.ensures.entity (c.between.ensures.last ∙ ap Some c.in_ok-name.ensures)
+    (one_more _ _ _ c.in-Ok.ensures.added c.between.ensures.rising c.requires.free c.requires.above)
