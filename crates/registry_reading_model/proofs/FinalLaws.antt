@@ -116,6 +116,9 @@ all_kept_long (e ∷ es) = rw (kept_is_long e, all_kept_long es) refl
 long_kept : (bytes : List ℕ) (heads : List Head) (reg es : List Entity) → ReadResolved bytes heads reg es → AllKeep reg r.values
 long_kept bytes heads reg es read = all_long reg read.rising read.built_in (ap (list_all values_are_long) read.keeps ∙ all_kept_long es)
 
+pub values_kept : (bytes : List ℕ) (heads : List Head) (reg : List Entity) → ReadWhole bytes heads reg → AllKeep reg r.values
+values_kept bytes heads reg whole = long_kept bytes heads reg (entities_resolved heads whole.entities) (read_resolved bytes heads reg whole)
+
 keeps_the_rules : (bytes : List ℕ) (heads : List Head) (reg es : List Entity) → ReadResolved bytes heads reg es
     → ((rule : Rule) → rule ≢ r.values → AllKeep reg rule) → KeepsTheRules reg
 keeps_the_rules bytes heads reg es read keeps =

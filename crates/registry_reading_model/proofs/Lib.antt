@@ -12,6 +12,7 @@ pub mod ChangedUses
 pub mod ChangedVerdictLaws
 pub mod CutLaws
 pub mod FinalLaws
+pub mod FirstBroken
 pub mod FlagLaws
 pub mod GoodParts
 pub mod GrowthLaws
@@ -41,6 +42,7 @@ pub mod PrintedLaws
 pub mod RangeLaws
 pub mod ResolvedLaws
 pub mod RisingLaws
+pub mod RuleOrder
 pub mod RunLaws
 pub mod RunsLaws
 pub mod SameWithin
