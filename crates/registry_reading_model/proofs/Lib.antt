@@ -34,6 +34,7 @@ pub mod Mapped
 pub mod MemberBack
 pub mod NamedLaws
 pub mod NumberLaws
+pub mod OneRegistry
 pub mod OptionMaps
 pub mod PartBack
 pub mod PartForth
@@ -45,14 +46,17 @@ pub mod RisingLaws
 pub mod RuleOrder
 pub mod RunLaws
 pub mod RunsLaws
+pub mod RulesWritten
 pub mod SameWithin
 pub mod SaysLaws
+pub mod SaysOne
 pub mod ServiceBack
 pub mod ServiceForth
 pub mod ServiceTests
 pub mod StateRunLaws
 pub mod TextLaws
 pub mod TextLinesLaws
+pub mod Unchanged
 pub mod VerdictLaws
 pub mod WordLaws
 pub mod WritableLaws
