@@ -33,6 +33,7 @@ pub mod ListMaps
 pub mod Mapped
 pub mod MemberBack
 pub mod NamedLaws
+pub mod NoneOfRegistry
 pub mod NumberLaws
 pub mod OneRegistry
 pub mod OptionMaps
