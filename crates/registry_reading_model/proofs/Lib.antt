@@ -12,7 +12,6 @@ pub mod ChangedUses
 pub mod ChangedVerdictLaws
 pub mod CutLaws
 pub mod FinalLaws
-pub mod FirstBroken
 pub mod FlagLaws
 pub mod GoodParts
 pub mod GrowthLaws
@@ -44,10 +43,12 @@ pub mod PrintedLaws
 pub mod RangeLaws
 pub mod ResolvedLaws
 pub mod RisingLaws
+pub mod RuleLines
 pub mod RuleOrder
+pub mod RulePlaces
+pub mod RulesWritten
 pub mod RunLaws
 pub mod RunsLaws
-pub mod RulesWritten
 pub mod SameWithin
 pub mod SaysLaws
 pub mod SaysOne

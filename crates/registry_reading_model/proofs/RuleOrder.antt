@@ -18,7 +18,7 @@ use Rattle.registry_text_model.specs.TypesAtTheirPlaces.{types_stand_at_their_pl
 use Rattle.registry_text_model.specs.WholeWithinLimits.{is_whole_within_limits}
 use Rattle.registry_text_model.specs.Rules as r
 use Rattle.registry_text_model.specs.Rules.{Rule, number_of, Keeps, AllKeep}
-use Rattle.registry_reading_model.proofs.FirstBroken.{BreaksAtPlace, LesserKept, breaks_at_place, all_keep_at_places, breaks_at, all_keep}
+use Rattle.registry_reading_model.proofs.RulePlaces.{BreaksAtPlace, LesserKept, breaks_at_place, all_keep_at_places, breaks_at, all_keep}
 
 -- ---- each rule that is a test
 
