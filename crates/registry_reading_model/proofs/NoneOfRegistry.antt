@@ -59,7 +59,9 @@ front_lines (x ∷ xs) (y ∷ ys) rest one two same =
 
 -- lines that begin a text have no line feed
 begun_lines : (lines : List (List ℕ)) → Begin lines → list_all is_one_line lines ≡ true
-begun_lines lines begun = (of_append is_one_line lines begun.behind (subst (λ ls. list_all is_one_line ls ≡ true) begun.split (lines_written begun.entities begun.writable))).0
+begun_lines lines begun =
+    let all = subst (λ ls. list_all is_one_line ls ≡ true) begun.split (lines_written begun.entities begun.writable) in
+    (of_append is_one_line lines begun.behind all).0
 
 unordered : (lines : List (List ℕ)) → BeginInOrder lines → Begin lines
 unordered lines begun = record { entities = begun.entities; behind = begun.behind; writable = begun.writable; split = begun.split }
@@ -69,7 +71,8 @@ unordered lines begun = record { entities = begun.entities; behind = begun.behin
 module _ (bytes : List ℕ) (reg : List Entity) (keeps : KeepsTheRules reg) (rising : IsRising reg) (same : registry_text reg ≡ bytes) where
   front : (before : List (List ℕ)) (rest : List ℕ) → bytes ≡ text_of before ++ rest → Begin before → Behind (text_lines (written reg)) before rest
   front before rest split begun =
-      front_lines (text_lines (written reg)) before rest (lines_written (written reg) (keeps_writable reg keeps)) (begun_lines before begun) (same ∙ split)
+      front_lines (text_lines (written reg)) before rest (lines_written (written reg) (keeps_writable reg keeps)) (begun_lines before begun)
+      (same ∙ split)
 
   pub no_bad_line : (line : ℕ) → IsBadLine bytes line → ⊥
   no_bad_line line bad = by_behind (front bad.before bad.rest bad.split (unordered bad.before bad.begun))
@@ -81,24 +84,37 @@ module _ (bytes : List ℕ) (reg : List Entity) (keeps : KeepsTheRules reg) (ris
           subst (λ ls. list_all is_one_line ls ≡ true) are (lines_written (written reg) (keeps_writable reg keeps)) in
           let own = and_parts (is_one_line here) (list_all is_one_line more) (of_append is_one_line bad.before (here ∷ more) lines).1 in
           bad.wrong here (text_of more) (is ∙ one_text here more) own.0
-          (record { entities = written reg; behind = more; writable = keeps_writable reg keeps; split = are ∙ sym (append_assoc bad.before (here ∷ []) more) })
+          (record {
+            entities = written reg;
+            behind = more;
+            writable = keeps_writable reg keeps;
+            split = are ∙ sym (append_assoc bad.before (here ∷ []) more);
+          })
 
   pub not_out_of_order : (line : ℕ) → IsOutOfOrder bytes line → ⊥
   not_out_of_order line wrong =
       let found = front (wrong.before ++ wrong.here ∷ []) wrong.behind wrong.split wrong.fits in
-      wrong.falls (record { entities = written reg; behind = found.0; writable = keeps_writable reg keeps; rising = rising_written reg rising; split = found.1 })
+      wrong.falls (record {
+        entities = written reg;
+        behind = found.0;
+        writable = keeps_writable reg keeps;
+        rising = rising_written reg rising;
+        split = found.1;
+      })
 
   pub breaks_none : HasBuiltIn reg → (rule : Rule) (line : ℕ) → BreaksRule bytes rule line → ⊥
   breaks_none has rule line broken =
       let first = broken.first in
       let says = subst (λ text. Says text (written reg) reg) same (keeps_says reg keeps has rising) in
-      let one : reg ≡ broken.reg = (one_said bytes (written reg) reg (broken.before ++ broken.entity ∷ broken.behind) broken.reg says broken.says).1 in
+      let both = one_said bytes (written reg) reg (broken.before ++ broken.entity ∷ broken.behind) broken.reg says broken.says in
+      let one : reg ≡ broken.reg = both.1 in
       let there : Contains reg broken.entity = subst (λ ds. Contains ds broken.entity) (sym one) (first.place, first.within, first.there) in
       first.broken (subst (λ ds. Keeps ds rule broken.entity) one (keeps.each rule broken.entity there))
 
 -- ---- one registry
 
-pub one_registry : (reg other : List Entity) → KeepsTheRules reg → KeepsTheRules other → HasBuiltIn reg → HasBuiltIn other → IsRising reg → IsRising other
+pub one_registry : (reg other : List Entity) → KeepsTheRules reg → KeepsTheRules other → HasBuiltIn reg → HasBuiltIn other → IsRising reg
+    → IsRising other
     → registry_text reg ≡ registry_text other → reg ≡ other
 one_registry reg other keeps keeps_too has has_too rising rising_too texts =
     (one_said (registry_text other) (written reg) reg (written other) other

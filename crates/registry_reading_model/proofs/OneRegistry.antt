@@ -29,7 +29,8 @@ none_below : (x : List ℕ) (ys : List Entity) → AllByRecursion (λ n. slice_c
 none_below x [] all = tt
 none_below x (y ∷ ys) all = ((below_differs x y.name all.0).0, none_below x ys all.1)
 
-all_above : (x y : List ℕ) (ys : List Entity) → slice_cmp nat_cmp x y ≡ Less → AllByRecursion (λ n. slice_cmp nat_cmp y n ≡ Less) (map (λ e. e.name) ys)
+all_above : (x y : List ℕ) (ys : List Entity) → slice_cmp nat_cmp x y ≡ Less
+    → AllByRecursion (λ n. slice_cmp nat_cmp y n ≡ Less) (map (λ e. e.name) ys)
     → AllByRecursion (λ n. slice_cmp nat_cmp x n ≡ Less) (map (λ e. e.name) ys)
 all_above x y [] low all = tt
 all_above x y (z ∷ zs) low all = (nat_list_cmp_total.trans x y z.name low all.0, all_above x y zs low all.1)
@@ -47,12 +48,14 @@ unfolding find_entity
 found_none name = refl
 
 -- behind the first entity of both
-found_behind : (x : Entity) (xs ys : List Entity) → IsRising (x ∷ xs) → IsRising (x ∷ ys) → ((n : List ℕ) → find_entity n (x ∷ xs) ≡ find_entity n (x ∷ ys))
+found_behind : (x : Entity) (xs ys : List Entity) → IsRising (x ∷ xs) → IsRising (x ∷ ys)
+    → ((n : List ℕ) → find_entity n (x ∷ xs) ≡ find_entity n (x ∷ ys))
     → (n : List ℕ) → find_entity n xs ≡ find_entity n ys
 unfolding find_entity IsStrictlySortedBy
 found_behind x xs ys rising rising_too alike n = by_test (bytes_eq n x.name) refl (alike n)
   where
-    absent : (zs : List Entity) → AllByRecursion (λ m. slice_cmp nat_cmp x.name m ≡ Less) (map (λ e. e.name) zs) → n ≡ x.name → find_entity n zs ≡ None
+    absent : (zs : List Entity) → AllByRecursion (λ m. slice_cmp nat_cmp x.name m ≡ Less) (map (λ e. e.name) zs) → n ≡ x.name
+        → find_entity n zs ≡ None
     absent zs all is = subst (λ m. find_entity m zs ≡ None) (sym is) (none_found x.name zs (none_below x.name zs all))
 
     by_test : (b : Bool) → bytes_eq n x.name ≡ b → (if b then Some x else find_entity n xs) ≡ (if b then Some x else find_entity n ys)
@@ -90,7 +93,8 @@ same_registry (x ∷ xs) (y ∷ ys) rising rising_too alike =
     ap₂ (λ z zs. z ∷ zs) first (same_registry xs ys rising.1 rising_too.1 (found_behind x xs ys rising rising_on alike_on))
 
 -- what is written of a registry, and the built-in entities, are the registry
-pub same_written : (reg other : List Entity) → IsRising reg → IsRising other → HasBuiltIn reg → HasBuiltIn other → written reg ≡ written other → reg ≡ other
+pub same_written : (reg other : List Entity) → IsRising reg → IsRising other → HasBuiltIn reg → HasBuiltIn other → written reg ≡ written other
+    → reg ≡ other
 same_written reg other rising rising_too has has_too all = same_registry reg other rising rising_too (λ n. elim (cases_Bool (is_built_in_name n)) [
   | inl is ↦ found_both n (named_built_in n is)
   | inr own ↦ sym (found_written reg n own) ∙ ap (find_entity n) all ∙ found_written other n own

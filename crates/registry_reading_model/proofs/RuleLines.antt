@@ -39,13 +39,15 @@ none_beyond_found heads none = none_in heads (no_position (λ (h : Head). h.beyo
     none_in (h ∷ hs) each = rw (each h (contains_head h hs)) (none_in hs (λ g there. each g (contains_behind h hs g there)))
 
 -- the first header that says so is that of the first entity that breaks the rule on items
-pub beyond_at : (bytes : List ℕ) (heads : List Head) (reg : List Entity) → ReadWhole bytes heads reg → LesserKept reg r.values → (place : ℕ) (h : Head)
+pub beyond_at : (bytes : List ℕ) (heads : List Head) (reg : List Entity) → ReadWhole bytes heads reg → LesserKept reg r.values
+    → (place : ℕ) (h : Head)
     → slice_get heads place ≡ Some h → position (λ g. g.beyond) heads ≡ Some place → BreaksRule bytes r.values h.line
 beyond_at bytes heads reg read least place h at found =
     let first = position-Some (λ (g : Head). g.beyond) heads place h found in
     breaks_values bytes heads reg read least (take place heads) h (drop (suc place) heads) (split_at heads place h at)
     (none_before (λ (g : Head). g.beyond) heads place (λ i g low there.
-    sym (ap (λ (f : Head). f.beyond) (get_or_from_slice_get heads i g g there)) ∙ (position-Some (λ (f : Head). f.beyond) heads place g found).2 i low))
+    sym (ap (λ (f : Head). f.beyond) (get_or_from_slice_get heads i g g there))
+    ∙ (position-Some (λ (f : Head). f.beyond) heads place g found).2 i low))
     (sym (ap (λ (g : Head). g.beyond) (get_or_from_slice_get heads place h h at)) ∙ first.1)
 
 -- ---- the other rules

@@ -23,7 +23,8 @@ use Rattle.registry_reading_model.proofs.RulePlaces.{BreaksAtPlace, LesserKept, 
 -- ---- each rule that is a test
 
 module _ (reg : List Entity) where
-  pub bases_at : LesserKept reg r.bases → (place : ℕ) → position (λ e. not (bases_are_of_their_kind reg e)) reg ≡ Some place → BreaksAtPlace reg r.bases place
+  pub bases_at : LesserKept reg r.bases → (place : ℕ) → position (λ e. not (bases_are_of_their_kind reg e)) reg ≡ Some place
+      → BreaksAtPlace reg r.bases place
   bases_at = breaks_at reg r.bases (λ e. bases_are_of_their_kind reg e) (λ e kept. kept) (λ e passed. passed)
 
   pub all_bases : position (λ e. not (bases_are_of_their_kind reg e)) reg ≡ None → AllKeep reg r.bases
@@ -35,13 +36,15 @@ module _ (reg : List Entity) where
   pub all_names : position (λ e. not (names_differ reg e)) reg ≡ None → AllKeep reg r.names
   all_names = all_keep reg r.names (λ e. names_differ reg e) (λ e kept. kept) (λ e passed. passed)
 
-  pub one_way_at : LesserKept reg r.one_way → (place : ℕ) → position (λ e. not (one_way_gives_nothing e)) reg ≡ Some place → BreaksAtPlace reg r.one_way place
+  pub one_way_at : LesserKept reg r.one_way → (place : ℕ) → position (λ e. not (one_way_gives_nothing e)) reg ≡ Some place
+      → BreaksAtPlace reg r.one_way place
   one_way_at = breaks_at reg r.one_way (λ e. one_way_gives_nothing e) (λ e kept. kept) (λ e passed. passed)
 
   pub all_one_way : position (λ e. not (one_way_gives_nothing e)) reg ≡ None → AllKeep reg r.one_way
   all_one_way = all_keep reg r.one_way (λ e. one_way_gives_nothing e) (λ e kept. kept) (λ e passed. passed)
 
-  pub raised_at : LesserKept reg r.raised → (place : ℕ) → position (λ e. not (raises_exceptions reg e)) reg ≡ Some place → BreaksAtPlace reg r.raised place
+  pub raised_at : LesserKept reg r.raised → (place : ℕ) → position (λ e. not (raises_exceptions reg e)) reg ≡ Some place
+      → BreaksAtPlace reg r.raised place
   raised_at = breaks_at reg r.raised (λ e. raises_exceptions reg e) (λ e kept. kept) (λ e passed. passed)
 
   pub all_raised : position (λ e. not (raises_exceptions reg e)) reg ≡ None → AllKeep reg r.raised
@@ -53,31 +56,36 @@ module _ (reg : List Entity) where
   pub all_values : position (λ e. not (values_are_long e)) reg ≡ None → AllKeep reg r.values
   all_values = all_keep reg r.values (λ e. values_are_long e) (λ e kept. kept) (λ e passed. passed)
 
-  pub constant_values_at : LesserKept reg r.constant_values → (place : ℕ) → position (λ e. not (constants_are_in_range e)) reg ≡ Some place → BreaksAtPlace reg r.constant_values place
+  pub constant_values_at : LesserKept reg r.constant_values → (place : ℕ) → position (λ e. not (constants_are_in_range e)) reg ≡ Some place
+      → BreaksAtPlace reg r.constant_values place
   constant_values_at = breaks_at reg r.constant_values (λ e. constants_are_in_range e) (λ e kept. kept) (λ e passed. passed)
 
   pub all_constant_values : position (λ e. not (constants_are_in_range e)) reg ≡ None → AllKeep reg r.constant_values
   all_constant_values = all_keep reg r.constant_values (λ e. constants_are_in_range e) (λ e kept. kept) (λ e passed. passed)
 
-  pub services_at : LesserKept reg r.services → (place : ℕ) → position (λ e. not (services_have_parts reg e)) reg ≡ Some place → BreaksAtPlace reg r.services place
+  pub services_at : LesserKept reg r.services → (place : ℕ) → position (λ e. not (services_have_parts reg e)) reg ≡ Some place
+      → BreaksAtPlace reg r.services place
   services_at = breaks_at reg r.services (λ e. services_have_parts reg e) (λ e kept. kept) (λ e passed. passed)
 
   pub all_services : position (λ e. not (services_have_parts reg e)) reg ≡ None → AllKeep reg r.services
   all_services = all_keep reg r.services (λ e. services_have_parts reg e) (λ e kept. kept) (λ e passed. passed)
 
-  pub singletons_at : LesserKept reg r.singletons → (place : ℕ) → position (λ e. not (singletons_have_targets reg e)) reg ≡ Some place → BreaksAtPlace reg r.singletons place
+  pub singletons_at : LesserKept reg r.singletons → (place : ℕ) → position (λ e. not (singletons_have_targets reg e)) reg ≡ Some place
+      → BreaksAtPlace reg r.singletons place
   singletons_at = breaks_at reg r.singletons (λ e. singletons_have_targets reg e) (λ e kept. kept) (λ e passed. passed)
 
   pub all_singletons : position (λ e. not (singletons_have_targets reg e)) reg ≡ None → AllKeep reg r.singletons
   all_singletons = all_keep reg r.singletons (λ e. singletons_have_targets reg e) (λ e kept. kept) (λ e passed. passed)
 
-  pub types_at : LesserKept reg r.types → (place : ℕ) → position (λ e. not (types_stand_at_their_places reg e)) reg ≡ Some place → BreaksAtPlace reg r.types place
+  pub types_at : LesserKept reg r.types → (place : ℕ) → position (λ e. not (types_stand_at_their_places reg e)) reg ≡ Some place
+      → BreaksAtPlace reg r.types place
   types_at = breaks_at reg r.types (λ e. types_stand_at_their_places reg e) (λ e kept. kept) (λ e passed. passed)
 
   pub all_types : position (λ e. not (types_stand_at_their_places reg e)) reg ≡ None → AllKeep reg r.types
   all_types = all_keep reg r.types (λ e. types_stand_at_their_places reg e) (λ e kept. kept) (λ e passed. passed)
 
-  pub whole_at : LesserKept reg r.whole → (place : ℕ) → position (λ e. not (is_whole_within_limits reg e)) reg ≡ Some place → BreaksAtPlace reg r.whole place
+  pub whole_at : LesserKept reg r.whole → (place : ℕ) → position (λ e. not (is_whole_within_limits reg e)) reg ≡ Some place
+      → BreaksAtPlace reg r.whole place
   whole_at = breaks_at reg r.whole (λ e. is_whole_within_limits reg e) (λ e kept. kept) (λ e passed. passed)
 
   pub all_whole : position (λ e. not (is_whole_within_limits reg e)) reg ≡ None → AllKeep reg r.whole
@@ -132,7 +140,8 @@ at_most : (a b : ℕ) → a < suc b → (a < b) ⊎ (a ≡ b)
 at_most a b low = elim (cases_lt a b) [ inl below ↦ inl below | inr above ↦ inr (omega (arith, low, above)) ]
 
 -- the rule behind another, where that and all lesser ones are kept
-one_rule_more : (reg : List Entity) (rule next : Rule) → number_of next ≡ suc (number_of rule) → LesserKept reg rule → AllKeep reg rule → LesserKept reg next
+one_rule_more : (reg : List Entity) (rule next : Rule) → number_of next ≡ suc (number_of rule) → LesserKept reg rule → AllKeep reg rule
+    → LesserKept reg next
 one_rule_more reg rule next is least all lesser low = elim (at_most (number_of lesser) (number_of rule) (omega (arith, low, is))) [
   | inl below ↦ least lesser below
   | inr same ↦ subst (AllKeep reg) (sym (same_number lesser rule same)) all

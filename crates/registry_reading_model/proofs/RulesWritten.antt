@@ -8,7 +8,8 @@ use Rattle.uno_model.specs.Kinds.{Kind}
 use Rattle.uno_model.specs.Kinds as kd
 use Rattle.uno_model.specs.Names.{is_identifier, is_entity_name}
 use Rattle.uno_model.specs.Registry.{IsRising, at_most_one}
-use Rattle.uno_model.specs.Sound.{IsSound, is_named, is_there, is_interface, is_struct, is_exception, is_enum, is_service, is_some_list, kind_known, bases_known, raises_known}
+use Rattle.uno_model.specs.Sound.{IsSound, is_named, is_there, is_interface, is_struct, is_exception, is_enum, is_service, is_some_list, kind_known}
+use Rattle.uno_model.specs.Sound.{bases_known, raises_known}
 use Rattle.uno_model.specs.Sound.{services_known, types_known}
 use Rattle.uno_model.specs.Uses.{inner_names, interfaces_used, services_used, value_kinds, result_kinds, target_kinds, kinds_in, raised_names}
 use Rattle.uno_model.proofs.AllLaws.{of_append}
@@ -34,7 +35,8 @@ module _ (reg : List Entity) (named : list_all is_named reg ≡ true) where
   known_bases : (body : Body) → bases_known reg body ≡ true → list_all is_entity_name (base_names body) ≡ true
   known_bases (interface bases members) known =
       map_of_all is_entity_name (λ b. b.name) bases
-      (all_more (λ b. is_there reg is_interface b.name) (λ b. is_entity_name b.name) (λ b there. there_named reg is_interface b.name named there) bases known)
+      (all_more (λ b. is_there reg is_interface b.name) (λ b. is_entity_name b.name) (λ b there. there_named reg is_interface b.name named there)
+      bases known)
   known_bases (struct base members) known = known_names is_struct (at_most_one base) known
   known_bases (exception base members) known = known_names is_exception (at_most_one base) known
   known_bases _ known = refl
@@ -101,7 +103,8 @@ kept_writable reg e keeps there =
     let sound : IsSound reg = rules_make_sound reg keeps in
     let named : list_all is_named reg ≡ true = keeps.named in
     let own = and_parts (is_entity_name e.name) (list_all is_identifier (inner_names e.body)) (all_at is_named reg e named there) in
-    let services = and_parts (list_all (is_there reg is_interface) (interfaces_used e.body)) (list_all (is_there reg is_service) (services_used e.body))
+    let services =
+    and_parts (list_all (is_there reg is_interface) (interfaces_used e.body)) (list_all (is_there reg is_service) (services_used e.body))
     (all_at (λ d. services_known reg d.body) reg e sound.services there) in
     let spelled : list_all is_spelled (kinds_in e.body) ≡ true =
     all_more (kind_known reg) is_spelled (known_spelled reg named) (kinds_in e.body) (all_at (λ d. types_known reg d.body) reg e sound.types there) in
@@ -127,14 +130,16 @@ all_written P [] each = refl
 all_written P (e ∷ es) each =
     by_test (is_built_in_name e.name) refl (all_written P es (λ d there own. each d (contains_behind e es d there) own))
   where
-    by_test : (b : Bool) → is_built_in_name e.name ≡ b → list_all P (written es) ≡ true → list_all P (if not b then e ∷ written es else written es) ≡ true
+    by_test : (b : Bool) → is_built_in_name e.name ≡ b → list_all P (written es) ≡ true
+        → list_all P (if not b then e ∷ written es else written es) ≡ true
     by_test true is rest = rest
     by_test false is rest = and_from (P e) (list_all P (written es)) (each e (contains_head e es) is) rest
 
 pub keeps_writable : (reg : List Entity) → KeepsTheRules reg → are_writable (written reg) ≡ true
 keeps_writable reg keeps =
     all_written (λ e. is_writable e && not (is_built_in_name e.name)) reg
-    (λ e there own. and_from (is_writable e) (not (is_built_in_name e.name)) (kept_writable reg e keeps there) (not_from_false (is_built_in_name e.name) own))
+    (λ e there own. and_from (is_writable e) (not (is_built_in_name e.name)) (kept_writable reg e keeps there)
+    (not_from_false (is_built_in_name e.name) own))
 
 pub keeps_says : (reg : List Entity) → KeepsTheRules reg → HasBuiltIn reg → IsRising reg → Says (registry_text reg) (written reg) reg
 keeps_says reg keeps has rising =
@@ -144,7 +149,8 @@ keeps_says reg keeps has rising =
       writable = keeps_writable reg keeps;
       resolved =
           all_written (λ e. list_all (is_resolved reg) (kinds_in e.body)) reg
-          (λ e there own. all_more (kind_known reg) (is_resolved reg) (known_resolved reg) (kinds_in e.body) (all_at (λ d. types_known reg d.body) reg e sound.types there));
+          (λ e there own. all_more (kind_known reg) (is_resolved reg) (known_resolved reg) (kinds_in e.body)
+          (all_at (λ d. types_known reg d.body) reg e sound.types there));
       written = refl;
       rising = rising;
       built_in = has;

@@ -35,7 +35,8 @@ use Rattle.registry_reading_model.proofs.TextLinesLaws.{lines_back, lines_are_te
 -- the lines of entities that can be written have no line feed
 pub lines_written : (es : List Entity) → are_writable es ≡ true → list_all is_one_line (text_lines es) ≡ true
 lines_written es writable =
-    (lines_are_text false same (text_lines es) (between (map (entity_changed unresolved) es)) (runs false es writable (λ ordered. let worse : ⊥ = cc in absurd worse))).0
+    let read = runs false es writable (λ ordered. let worse : ⊥ = cc in absurd worse) in
+    (lines_are_text false same (text_lines es) (between (map (entity_changed unresolved) es)) read).0
 
 -- of one text there are one set of lines
 pub same_lines : (es ds : List Entity) → are_writable es ≡ true → are_writable ds ≡ true → text_of (text_lines es) ≡ text_of (text_lines ds)
@@ -47,7 +48,8 @@ same_lines es ds writable fits texts =
 pub same_unresolved : (es ds : List Entity) → are_writable es ≡ true → are_writable ds ≡ true → text_lines es ≡ text_lines ds
     → map (entity_changed unresolved) es ≡ map (entity_changed unresolved) ds
 same_unresolved es ds writable fits lines =
-    let read : (cs : List Entity) → are_writable cs ≡ true → run false same unread (text_lines cs) ≡ Ok (between (map (entity_changed unresolved) cs)) =
+    let read : (cs : List Entity) → are_writable cs ≡ true
+    → run false same unread (text_lines cs) ≡ Ok (between (map (entity_changed unresolved) cs)) =
     λ cs can. runs false cs can (λ ordered. let worse : ⊥ = cc in absurd worse) in
     let both : Ok (between (map (entity_changed unresolved) es)) ≡ Ok (between (map (entity_changed unresolved) ds)) =
     sym (read es writable) ∙ ap (run false same unread) lines ∙ read ds fits in
@@ -111,11 +113,12 @@ module _ (reg : List Entity) (heads : List Head) where
       → named_in heads name ≡ kd.struct name
   struct_stays name there =
       let none = no_struct (is_there reg is_enum name) (is_there reg is_exception name) (is_there reg is_interface name) there in
-      named_kinds (λ k. is_resolved reg k ≡ true → k ≡ kd.struct name) heads name (λ is. absurd (none.2 is)) (λ is. absurd (none.1 is)) (λ is. absurd (none.0 is))
-      (λ is. refl)
+      named_kinds (λ k. is_resolved reg k ≡ true → k ≡ kd.struct name) heads name (λ is. absurd (none.2 is)) (λ is. absurd (none.1 is))
+      (λ is. absurd (none.0 is)) (λ is. refl)
 
   -- a type of the registry is the one that the headers have of its name, where those are the registry's
-  kind_stays : ((k : Kind) → is_resolved reg (resolved (named_in heads) k) ≡ true) → (k : Kind) → is_resolved reg k ≡ true → resolved (named_in heads) k ≡ k
+  kind_stays : ((k : Kind) → is_resolved reg (resolved (named_in heads) k) ≡ true) → (k : Kind) → is_resolved reg k ≡ true
+      → resolved (named_in heads) k ≡ k
   unfolding resolved
   kind_stays each (kd.enum name) is = enum_stays name is (each (kd.enum name))
   kind_stays each (kd.struct name) is = struct_stays name is (each (kd.struct name))
@@ -144,7 +147,8 @@ module _ (named : List ℕ → Kind) (good : Kind → Bool) (stays : (k : Kind) 
   entities_stay : (es : List Entity) → list_all (λ e. list_all good (kinds_in e.body)) es ≡ true → map (entity_changed (resolving named)) es ≡ es
   entities_stay es all =
       map_stays (entity_changed (resolving named)) (λ e. list_all good (kinds_in e.body))
-      (λ e is. entity_stays (resolving named) good stays (λ n. true) (λ n is. refl) (λ k n. true) (λ k n is. refl) e is (any_constants e.body) (any_items e.body)) es all
+      (λ e is. entity_stays (resolving named) good stays (λ n. true) (λ n is. refl) (λ k n. true) (λ k n is. refl) e is (any_constants e.body)
+      (any_items e.body)) es all
 
 same_change : (named : List ℕ → Kind) → and_then unresolved (resolving named) ≡ resolving named
 same_change named = λ i. record { kind = λ k. resolved_again named k i; item = λ n. n; constant = λ n. n }
@@ -161,7 +165,8 @@ names_written (e ∷ es) = by_test (is_built_in_name e.name) (names_written es)
   where
     by_test : (b : Bool) → map (λ d. d.name) (written es) ≡ filter (λ n. not (is_built_in_name n)) (map (λ d. d.name) es)
         → map (λ (d : Entity). d.name) (if not b then e ∷ written es else written es)
-        ≡ (if not b then e.name ∷ filter (λ n. not (is_built_in_name n)) (map (λ d. d.name) es) else filter (λ n. not (is_built_in_name n)) (map (λ d. d.name) es))
+        ≡ (if not b then e.name ∷ filter (λ n. not (is_built_in_name n)) (map (λ d. d.name) es)
+        else filter (λ n. not (is_built_in_name n)) (map (λ d. d.name) es))
     by_test true behind = behind
     by_test false behind = ap (λ ns. e.name ∷ ns) behind
 
@@ -171,7 +176,8 @@ rising_written reg rising =
     (IsStrictlySortedBy-filter (slice_cmp nat_cmp) (λ n. not (is_built_in_name n)) (map (λ e. e.name) reg) rising)
 
 -- what is said stays with its names resolved by the headers of its text
-said_stays : (bytes : List ℕ) (es reg : List Entity) → Says bytes es reg → map (entity_changed (resolving (named_in (heads_in (text_lines es))))) es ≡ es
+said_stays : (bytes : List ℕ) (es reg : List Entity) → Says bytes es reg
+    → map (entity_changed (resolving (named_in (heads_in (text_lines es))))) es ≡ es
 said_stays bytes es reg says =
     let order : IsRising es = subst IsRising says.written (rising_written reg says.rising) in
     let named = named_in (heads_in (text_lines es)) in

@@ -9,8 +9,8 @@ use Rattle.uno_model.specs.Entities.{old_singleton, Entity}
 use Rattle.uno_model.specs.Kinds.{Kind}
 use Rattle.uno_model.specs.Uses.{value_kinds_of, result_kinds_of, property_kinds, value_kinds, result_kinds, target_kinds, kinds_in}
 use Rattle.uno_model.proofs.AllLaws.{all_both, of_append, of_flat}
-use Rattle.registry_reading_model.specs.Changes.{Change, field_changed, param_changed, member_changed, item_changed, constant_changed, constructor_changed}
-use Rattle.registry_reading_model.specs.Changes.{part_changed, body_changed, entity_changed}
+use Rattle.registry_reading_model.specs.Changes.{Change, field_changed, param_changed, member_changed, item_changed, constant_changed}
+use Rattle.registry_reading_model.specs.Changes.{constructor_changed, part_changed, body_changed, entity_changed}
 use Rattle.registry_reading_model.proofs.Mapped.{map_stays}
 
 module _ (c : Change) (good : Kind → Bool) (stays : (k : Kind) → good k ≡ true → c.kind k ≡ k)
@@ -120,7 +120,8 @@ module _ (c : Change) (good : Kind → Bool) (stays : (k : Kind) → good k ≡ 
   body_stays (new_singleton base) values results targets inside long = refl
   body_stays (old_singleton service) values results targets inside long = refl
 
-  pub entity_stays : (e : Entity) → list_all good (kinds_in e.body) ≡ true → constants_pass e.body ≡ true → items_pass e.body ≡ true → entity_changed c e ≡ e
+  pub entity_stays : (e : Entity) → list_all good (kinds_in e.body) ≡ true → constants_pass e.body ≡ true → items_pass e.body ≡ true
+      → entity_changed c e ≡ e
   entity_stays e passed inside long =
       let parts = of_append good (value_kinds e.body) (result_kinds e.body ++ target_kinds e.body) passed in
       let others = of_append good (result_kinds e.body) (target_kinds e.body) parts.1 in

@@ -27,6 +27,6 @@ pub fn a_line_out_of_order_is_none_of_a_registry()
 
 /// Nor does it say a registry that breaks a rule.
 pub fn a_registry_that_keeps_the_rules_breaks_none()
-    ensures { (bytes : List ℕ) (rule : Rule) (line : ℕ) (reg : List Entity) → BreaksRule bytes rule line → KeepsTheRules reg → HasBuiltIn reg → IsRising reg
-        → registry_text reg ≡ bytes → ⊥ }
+    ensures { (bytes : List ℕ) (rule : Rule) (line : ℕ) (reg : List Entity) → BreaksRule bytes rule line → KeepsTheRules reg → HasBuiltIn reg
+        → IsRising reg → registry_text reg ≡ bytes → ⊥ }
 {}
