@@ -83,7 +83,8 @@ read_resolved bytes heads reg read =
     says_of hs are same other all rising has =
         let is : heads ≡ heads_in (text_lines read.entities) = same ∙ are in
         subst (λ gs. Says bytes (entities_resolved gs read.entities) other) (sym is)
-        (says_resolved bytes read.entities other read.text read.writable read.order (all ∙ ap (λ gs. entities_resolved gs read.entities) is) rising has)
+        (says_resolved bytes read.entities other read.text read.writable read.order (all ∙ ap (λ gs. entities_resolved gs read.entities) is) rising
+        has)
 
 -- ---- a text that says a registry that keeps the rules
 
@@ -93,7 +94,9 @@ built_in_is_named = each_built_in (λ e. is_named e ≡ true) refl refl refl ref
 
 named_of_writable : (e : Entity) → is_writable e ≡ true → is_named e ≡ true
 unfolding is_writable
-named_of_writable e writable = (and_parts (is_named e) (list_all is_entity_name (names_used e.body) && (list_all is_spelled (kinds_in e.body) && results_written e.body)) writable).0
+named_of_writable e writable =
+    let rest = list_all is_entity_name (names_used e.body) && (list_all is_spelled (kinds_in e.body) && results_written e.body) in
+    (and_parts (is_named e) rest writable).0
 
 all_writable_named : (es : List Entity) → are_writable es ≡ true → list_all is_named es ≡ true
 all_writable_named es writable =
@@ -115,6 +118,9 @@ all_kept_long (e ∷ es) = rw (kept_is_long e, all_kept_long es) refl
 -- in what is kept the rule on items is kept
 long_kept : (bytes : List ℕ) (heads : List Head) (reg es : List Entity) → ReadResolved bytes heads reg es → AllKeep reg r.values
 long_kept bytes heads reg es read = all_long reg read.rising read.built_in (ap (list_all values_are_long) read.keeps ∙ all_kept_long es)
+
+pub values_kept : (bytes : List ℕ) (heads : List Head) (reg : List Entity) → ReadWhole bytes heads reg → AllKeep reg r.values
+values_kept bytes heads reg whole = long_kept bytes heads reg (entities_resolved heads whole.entities) (read_resolved bytes heads reg whole)
 
 keeps_the_rules : (bytes : List ℕ) (heads : List Head) (reg es : List Entity) → ReadResolved bytes heads reg es
     → ((rule : Rule) → rule ≢ r.values → AllKeep reg rule) → KeepsTheRules reg
@@ -142,7 +148,8 @@ said bytes heads reg whole none keeps =
 -- ---- a text that says a registry that breaks a rule
 
 -- the entities of a text break the rule first by one of them, whose header is the one of its name
-breaks_of : (bytes : List ℕ) (heads : List Head) (reg es before : List Entity) (e : Entity) (behind : List Entity) (rule : Rule) → ReadResolved bytes heads reg es
+breaks_of : (bytes : List ℕ) (heads : List Head) (reg es before : List Entity) (e : Entity) (behind : List Entity) (rule : Rule)
+    → ReadResolved bytes heads reg es
     → es ≡ before ++ e ∷ behind → BreaksAt before e behind rule → BreaksRule bytes rule (head_of_entity before e).line
 breaks_of bytes heads reg es before e behind rule read split at =
     record {
@@ -155,7 +162,8 @@ breaks_of bytes heads reg es before e behind rule read split at =
       place = refl;
     }
 
-head_of_broken : (bytes : List ℕ) (heads : List Head) (reg es before : List Entity) (e : Entity) (behind : List Entity) → ReadResolved bytes heads reg es
+head_of_broken : (bytes : List ℕ) (heads : List Head) (reg es before : List Entity) (e : Entity) (behind : List Entity)
+    → ReadResolved bytes heads reg es
     → es ≡ before ++ e ∷ behind → head_named e.name heads ≡ Some (head_of_entity before e)
 head_of_broken bytes heads reg es before e behind read split =
     ap (head_named e.name) (read.heads_are ∙ ap (heads_of []) split) ∙ head_found [] before e behind (subst IsRising split read.order)
@@ -166,7 +174,8 @@ record Broken (bytes : List ℕ) (heads : List Head) (rule : Rule) (k : Entity) 
   breaks : BreaksRule bytes rule head.line
 
 broken_by : (bytes : List ℕ) (heads : List Head) (reg : List Entity) → ReadWhole bytes heads reg → (rule : Rule)
-    → (number_of r.values < number_of rule → list_any (λ h. h.beyond) heads ≡ false) → (k : Entity) → BreaksFirst reg rule k → Broken bytes heads rule k
+    → (number_of r.values < number_of rule → list_any (λ h. h.beyond) heads ≡ false) → (k : Entity) → BreaksFirst reg rule k
+    → Broken bytes heads rule k
 broken_by bytes heads reg whole rule none k first =
     let es = entities_resolved heads whole.entities in
     let read = read_resolved bytes heads reg whole in
@@ -178,7 +187,9 @@ broken_by bytes heads reg whole rule none k first =
     of_parts es read place (before, e, behind, split, is, front, at) =
         record {
           head = head_of_entity before e;
-          named = subst (λ (d : Entity). head_named d.name heads ≡ Some (head_of_entity before e)) is (head_of_broken bytes heads reg es before e behind read split);
+          named =
+              subst (λ (d : Entity). head_named d.name heads ≡ Some (head_of_entity before e)) is
+              (head_of_broken bytes heads reg es before e behind read split);
           breaks = breaks_of bytes heads reg es before e behind rule read split at;
         }
 

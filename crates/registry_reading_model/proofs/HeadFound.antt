@@ -34,11 +34,13 @@ below_differs x y below =
         absurd worse
 
 -- an entity that stands behind others of rising names has a name above that of the first
-first_below : (b : Entity) (before : List Entity) (e : Entity) (ys : List Entity) → IsRising (b ∷ (before ++ e ∷ ys)) → slice_cmp nat_cmp b.name e.name ≡ Less
+first_below : (b : Entity) (before : List Entity) (e : Entity) (ys : List Entity) → IsRising (b ∷ (before ++ e ∷ ys))
+    → slice_cmp nat_cmp b.name e.name ≡ Less
 unfolding IsStrictlySortedBy
 first_below b before e ys rising = at_end before rising.0
   where
-    at_end : (xs : List Entity) → AllByRecursion (λ n. slice_cmp nat_cmp b.name n ≡ Less) (map (λ d. d.name) (xs ++ e ∷ ys)) → slice_cmp nat_cmp b.name e.name ≡ Less
+    at_end : (xs : List Entity) → AllByRecursion (λ n. slice_cmp nat_cmp b.name n ≡ Less) (map (λ d. d.name) (xs ++ e ∷ ys))
+        → slice_cmp nat_cmp b.name e.name ≡ Less
     at_end [] all = all.0
     at_end (x ∷ xs) all = at_end xs all.1
 
@@ -55,7 +57,8 @@ head_found fs (b ∷ bs) e ys rising =
 
 none_beyond : (fs es : List Entity) → list_any (λ h. h.beyond) (heads_of fs es) ≡ not (list_all values_are_long es)
 none_beyond fs [] = refl
-none_beyond fs (e ∷ es) = ap (λ b. not (values_are_long e) || b) (none_beyond (fs ++ e ∷ []) es) ∙ both (values_are_long e) (list_all values_are_long es)
+none_beyond fs (e ∷ es) =
+    ap (λ b. not (values_are_long e) || b) (none_beyond (fs ++ e ∷ []) es) ∙ both (values_are_long e) (list_all values_are_long es)
   where
     both : (a b : Bool) → (not a || not b) ≡ not (a && b)
     both true b = refl
@@ -80,7 +83,8 @@ one_head_further : (fs es : List Entity) (e : Entity) (g : Head) (before : List 
 one_head_further fs es e g before h first (xs, d, ys, split, are, is) =
     (e ∷ xs, d, ys, ap (λ ds. e ∷ ds) split, ap₂ (λ x hs. x ∷ hs) (sym first) are, is ∙ ap (λ ds. head_of_entity ds d) (append_assoc fs (e ∷ []) xs))
 
-pub heads_cut : (fs es : List Entity) (before : List Head) (h : Head) (behind : List Head) → heads_of fs es ≡ before ++ h ∷ behind → HeadsCut fs es before h
+pub heads_cut : (fs es : List Entity) (before : List Head) (h : Head) (behind : List Head) → heads_of fs es ≡ before ++ h ∷ behind
+    → HeadsCut fs es before h
 heads_cut fs [] [] h behind same = let worse : ⊥ = cc in absurd worse
 heads_cut fs [] (g ∷ gs) h behind same = let worse : ⊥ = cc in absurd worse
 heads_cut fs (e ∷ es) [] h behind same =

@@ -36,7 +36,7 @@ head_kind before (e ∷ es) name = by_test (bytes_eq name e.name) (head_kind (be
     by_test false rest = rest
 
 -- a name that is not built in is found among what is written
-found_written : (reg : List Entity) (name : List ℕ) → is_built_in_name name ≡ false → find_entity name (written reg) ≡ find_entity name reg
+pub found_written : (reg : List Entity) (name : List ℕ) → is_built_in_name name ≡ false → find_entity name (written reg) ≡ find_entity name reg
 unfolding find_entity
 found_written [] name own = refl
 found_written (e ∷ es) name own = by_tests (is_built_in_name e.name) refl (bytes_eq name e.name) refl (found_written es name own)

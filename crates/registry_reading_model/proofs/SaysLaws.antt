@@ -31,7 +31,7 @@ use Rattle.registry_reading_model.specs.States.{unread, between, run}
 
 -- ---- types of names
 
-named_kinds : (P : Kind → Type 0) (heads : List Head) (name : List ℕ) → P (kd.interface name) → P (kd.exception name) → P (kd.enum name)
+pub named_kinds : (P : Kind → Type 0) (heads : List Head) (name : List ℕ) → P (kd.interface name) → P (kd.exception name) → P (kd.enum name)
     → P (kd.struct name)
     → P (named_in heads name)
 unfolding named_in

@@ -26,7 +26,7 @@ text_more before here behind =
     ∙ append_assoc (flat_map ended before) (here ++ 10 ∷ []) behind ∙ ap (λ cs. flat_map ended before ++ cs) (append_assoc here (10 ∷ []) behind)
 
 -- a line ends at the first line feed
-first_line : (x y u v : List ℕ) → is_one_line x ≡ true → is_one_line y ≡ true → x ++ 10 ∷ u ≡ y ++ 10 ∷ v → x ≡ y
+pub first_line : (x y u v : List ℕ) → is_one_line x ≡ true → is_one_line y ≡ true → x ++ 10 ∷ u ≡ y ++ 10 ∷ v → x ≡ y
 unfolding is_one_line
 first_line [] [] u v one two e = refl
 first_line [] (d ∷ y) u v one two e =
