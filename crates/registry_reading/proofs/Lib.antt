@@ -1,5 +1,6 @@
 pub mod FlagLemmas
 pub mod HeadLemmas
+pub mod JudgeLemmas
 pub mod KindLemmas
 pub mod LastLemmas
 pub mod LineLemmas

@@ -1,11 +1,13 @@
 //! All headers of a text, whose names rise.
-ghost use Rattle.std.specs.Prelude.{◌≡◌, ◌+◌, ◌≤◌, ◌<◌, IfOk, OnOk, length, true, false, option_map, slice_get, [], codes, ◌||◌, ◌==◌};
+ghost use Rattle.std.specs.Prelude.{◌≡◌, ◌+◌, ◌≤◌, ◌<◌, IfOk, OnOk, length, true, false, option_map, slice_get, [], codes, ℕ, Some, None, IfSome, ◌||◌, ◌==◌};
 ghost use Rattle.registry_reading_model.specs.Heads as model;
+ghost use Rattle.std.specs.List.{position};
 ghost use Rattle.std.specs.Str.{bytes_eq};
 ghost use Rattle.registry_text_model.specs.EnumValues.{is_long};
 ghost use Rattle.registry_reading_model.specs.Numbers.{number_of};
 ghost use Rattle.registry_reading_model.specs.TextLines.{lines_in, all_plain};
 ghost use Rattle.registry_reading.specs.Heads.{plain_head, plain_heads, NamesRise};
+ghost use Rattle.registry_reading.specs.Judging.{line_of_head};
 
 use crate::head::Head;
 use crate::last::take_last;
@@ -60,6 +62,14 @@ impl<'a> Heads<'a> {
         }
         let heads = marked(heads, line)?;
         Ok(Heads { heads })
+    }
+
+    /// The line of the first header under which a value is beyond those of `long`.
+    pub(crate) fn first_beyond(&self) -> Option<u32>
+        ensures none { result ≡ None → position (λ h. h.beyond) self.now ≡ None }
+        ensures some { IfSome result (λ line. (place : ℕ) × (position (λ h. h.beyond) self.now ≡ Some place) × (line_of_head (slice_get self.now place) ≡ line)) }
+    {
+        first_beyond(self.heads.as_slice())
     }
 
     /// The header of this name.
@@ -222,4 +232,28 @@ pub(crate) fn heads_of(alloc: Global, bytes: &[u8]) -> Result<Heads<'_>, NoMemor
         rest = behind;
     }
     Ok(heads)
+}
+
+fn first_beyond(heads: &[Head<'_>]) -> Option<u32>
+    ensures none { result ≡ None → position (λ h. h.beyond) (plain_heads heads.now) ≡ None }
+    ensures some { IfSome result (λ line. (place : ℕ) × (position (λ h. h.beyond) (plain_heads heads.now) ≡ Some place) × (line_of_head (slice_get (plain_heads heads.now) place) ≡ line)) }
+{
+    let place = place_beyond(heads)?;
+    Some(line_at(heads, place))
+}
+
+#[tactic(auto, using(registry_reading_model::proofs::RulePlaces::position_mapped))]
+fn place_beyond(heads: &[Head<'_>]) -> Option<usize>
+    ensures { result ≡ position (λ h. h.beyond) heads.now }
+{
+    heads.iter().position(|head| head.beyond)
+}
+
+fn line_at(heads: &[Head<'_>], place: usize) -> u32
+    ensures { result ≡ line_of_head (slice_get (plain_heads heads.now) place) }
+{
+    match at(heads, place) {
+        Some(head) => head.line,
+        None => 0,
+    }
 }

@@ -8,11 +8,16 @@ mod head;
 mod header;
 mod heads;
 mod interface;
+mod judge;
 mod kind;
 mod last;
 mod lines;
 mod names;
 mod number;
+mod read;
 mod reader;
 mod service;
 mod words;
+
+pub use error::RegError;
+pub use read::read_registry;

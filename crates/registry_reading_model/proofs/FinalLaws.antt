@@ -29,18 +29,8 @@ use Rattle.registry_reading_model.proofs.KeptBreaks.{BreaksAt, BrokenBy, all_lon
 use Rattle.registry_reading_model.proofs.Lifted.{of_built_in_name}
 use Rattle.registry_reading_model.proofs.Mapped.{all_mapped}
 use Rattle.registry_reading_model.proofs.SaysLaws.{resolved_lines, resolved_writable, resolved_rising, says_resolved}
+use Rattle.registry_reading_model.specs.Whole.{ReadWhole}
 use Rattle.registry_reading_model.proofs.WrittenPlaces.{contains_written}
-
--- the whole text was read as these entities, and this is kept of them, in a registry with the built-in ones
-pub record ReadWhole (bytes : List ℕ) (heads : List Head) (reg : List Entity) : Type 0 where
-  pub entities : List Entity
-  pub text : bytes ≡ text_of (text_lines entities)
-  pub writable : are_writable entities ≡ true
-  pub order : IsRising entities
-  pub heads_are : heads ≡ heads_in (text_lines entities)
-  pub keeps : written reg ≡ map (entity_changed (kept (named_in heads))) entities
-  pub rising : IsRising reg
-  pub built_in : HasBuiltIn reg
 
 -- ---- the entities with their names resolved
 

@@ -12,7 +12,8 @@ use Rattle.registry_text_model.specs.Reading.{BreaksRule}
 use Rattle.registry_text_model.specs.Rules as r
 use Rattle.registry_text_model.specs.Rules.{Rule, number_of}
 use Rattle.registry_reading_model.specs.Heads.{Head, head_named}
-use Rattle.registry_reading_model.proofs.FinalLaws.{ReadWhole, breaks, has_head, breaks_values}
+use Rattle.registry_reading_model.specs.Whole.{ReadWhole}
+use Rattle.registry_reading_model.proofs.FinalLaws.{breaks, has_head, breaks_values}
 use Rattle.registry_reading_model.proofs.RulePlaces.{BreaksAtPlace, LesserKept, no_position}
 
 -- ---- values beyond those of `long`

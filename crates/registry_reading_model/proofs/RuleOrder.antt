@@ -133,7 +133,7 @@ numbered r.singletons = refl
 numbered r.types = refl
 numbered r.whole = refl
 
-same_number : (a b : Rule) → number_of a ≡ number_of b → a ≡ b
+pub same_number : (a b : Rule) → number_of a ≡ number_of b → a ≡ b
 same_number a b is = sym (numbered a) ∙ ap rule_of is ∙ numbered b
 
 at_most : (a b : ℕ) → a < suc b → (a < b) ⊎ (a ≡ b)

@@ -7,4 +7,5 @@ pub mod Kinds
 pub mod Numbers
 pub mod States
 pub mod TextLines
+pub mod Whole
 pub mod Words
