@@ -1,0 +1,5 @@
+pub mod Forms
+pub mod Meaning
+pub mod Names
+pub mod Numbers
+pub mod Parts
