@@ -1,5 +1,5 @@
 -- What an answer means that is handed on.
-use Rattle.std.proofs.Common.{◌≡◌, Option, None, Some, sym, ◌∙◌}
+use Rattle.std.proofs.Common.{◌≡◌, Option, None, sym}
 use Rattle.std.specs.Prelude.{Result, Ok, Err, IsErr, IsErrAnd}
 use Rattle.command_words.specs.Meaning.{Means}
 use Rattle.command_words.specs.declared.error.WordsError.{WordsError}

@@ -1,5 +1,5 @@
 -- Words are taken apart one after the other.
-use Rattle.std.proofs.Common.{◌≡◌, ℕ, ◌+◌, ◌<◌, Bool, true, false, not, ◌||◌, cond, List, [], ◌∷◌, ◌++◌, length, map, drop, take, ◌-◌, get_or, ◌≤◌, Option, None, Some, option_map, MatchOption, refl, sym, ap, ◌∙◌, suc, append_assoc, append-nil, arith, if◌then◌else◌}
+use Rattle.std.proofs.Common.{◌≡◌, ℕ, ◌+◌, ◌<◌, Bool, true, false, not, ◌||◌, cond, List, [], ◌∷◌, ◌++◌, length, map, drop, take, ◌-◌, get_or, ◌≤◌, Option, None, Some, option_map, MatchOption, refl, sym, ap, ◌∙◌, suc, append_assoc, append-nil, arith}
 use Rattle.std.specs.Prelude.{Result, Ok, Err, MatchResult, IfOk, IsSome}
 use Rattle.std.specs.List.{list_any, before_first, after_first, position_or_len}
 use Rattle.std.proofs.lemmas.List.Folds.{list_any_at}

@@ -70,9 +70,13 @@ form_of Drill plain n = drill_form plain
 abbrev pub are_allowed : CommandName → Apart → Bool
 are_allowed name p = list_all (λ c. allows name c.option) p.choices
 
+-- the numbers of its options, if it has all that are given
+unfoldable pub numbers_by : CommandName → Apart → Option Numbers
+numbers_by name p = if are_allowed name p then numbers_of p.choices else None
+
 -- what the command asks with its plain words and options
 unfoldable pub order_by : CommandName → Apart → Option Order
-order_by name p = if are_allowed name p then option_and_then (form_of name p.plain) (numbers_of p.choices) else None
+order_by name p = option_and_then (form_of name p.plain) (numbers_by name p)
 
 -- what the words ask: the first is the name of a command, and those behind it are in its form
 unfoldable pub order_of : List Text → Option Order

@@ -1,3 +1,4 @@
+pub mod ByClap
 pub mod Forms
 pub mod Meaning
 pub mod Names

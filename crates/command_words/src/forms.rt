@@ -1,31 +1,54 @@
 //! The form of each command: its plain words and its options.
-ghost use Rattle.std.specs.Prelude.{◌≡◌, ◌&&◌, is_some, IfOk, IfErr, map, string_bytes};
-ghost use Rattle.command_words.specs.Forms.{Orders, are_allowed, compile_form, idl_form, answer_form, pair_form, serve_form, call_form, drill_form, form_of, order_by};
+ghost use Rattle.std.specs.Prelude.{◌≡◌, ◌&&◌, None, is_some, IfOk, IfErr, map, string_bytes};
+ghost use Rattle.command_words.specs.Forms.{Orders, are_allowed, compile_form, idl_form, answer_form, pair_form, serve_form, call_form, drill_form, form_of, numbers_by, order_by};
+ghost use Rattle.std.specs.Option.{option_and_then};
+ghost use Rattle.command_words.specs.Meaning.{Means};
+ghost use Rattle.command_words.specs.Parts.{apart};
 
+use crate::by_clap::{WORDS, matches_of};
 use crate::command_name::{CommandName, allows};
 use crate::number::number_within;
 use crate::numbers::{Numbers, numbers_of};
-use crate::parts::Parts;
+use crate::parts::{Parts, parts_of};
 use crate::{Command, WordsError};
 use std::alloc::Global;
 
 /// The most files that are compiled at once.
 const MOST_FILES: usize = 64;
 
-/// What a command asks with its plain words and options.
-#[tactic(auto, unfolding(crate::specs::Forms::order_by))]
+/// What a command asks with the words behind its name. The definition decides; then clap reads.
 pub(crate) fn order_by(
     alloc: Global,
     name: CommandName,
-    parts: &Parts<'_>,
+    words: &[String],
 ) -> Result<Command, WordsError>
-    ensures { Orders (order_by name parts.now) result }
+    ensures { Orders (option_and_then (order_by name) (apart None (map string_bytes words.now))) result }
+{
+    let numbers = numbers_behind(alloc, name, words)?;
+    let matches = matches_of(alloc, words)?;
+    match matches.get_strs(WORDS) {
+        Some(plain) => form_of(alloc, name, plain, numbers),
+        None => form_of(alloc, name, &[], numbers),
+    }
+}
+
+/// The numbers of the options, if the words are taken apart and the command has all options that are given.
+fn numbers_behind(alloc: Global, name: CommandName, words: &[String]) -> Result<Numbers, WordsError>
+    ensures { Means (option_and_then (numbers_by name) (apart None (map string_bytes words.now))) result }
+{
+    let parts = parts_of(alloc, words)?;
+    numbers_by(name, &parts)
+}
+
+/// The same of words that are taken apart.
+#[tactic(auto, unfolding(crate::specs::Forms::numbers_by))]
+fn numbers_by(name: CommandName, parts: &Parts<'_>) -> Result<Numbers, WordsError>
+    ensures { Means (numbers_by name parts.now) result }
 {
     if !are_allowed(name, parts) {
         return Err(WordsError::Words);
     }
-    let numbers = numbers_of(parts.choices.as_slice())?;
-    form_of(alloc, name, parts.plain.as_slice(), numbers)
+    numbers_of(parts.choices.as_slice())
 }
 
 fn are_allowed(name: CommandName, parts: &Parts<'_>) -> bool

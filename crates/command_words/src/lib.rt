@@ -1,6 +1,7 @@
 //! The command's words: which are in a written form, and what they ask.
 #![tactic(auto)]
 
+mod by_clap;
 mod command;
 mod command_name;
 mod error;

@@ -4,7 +4,6 @@ ghost use Rattle.command_words.specs.Forms.{Orders, order_of};
 
 use crate::command_name::command_named;
 use crate::forms::order_by;
-use crate::parts::parts_of;
 use crate::{Command, WordsError};
 use std::alloc::Global;
 
@@ -19,6 +18,5 @@ pub fn read_words(alloc: Global, words: &[String]) -> Result<Command, WordsError
     let Some(name) = command_named(word.as_str()) else {
         return Err(WordsError::Words);
     };
-    let parts = parts_of(alloc, behind)?;
-    order_by(alloc, name, &parts)
+    order_by(alloc, name, behind)
 }

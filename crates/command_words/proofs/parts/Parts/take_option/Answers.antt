@@ -1,6 +1,6 @@
-use Rattle.std.proofs.Common.{sym, ◌∙◌, ap, None, Some}
+use Rattle.std.proofs.Common.{sym, ◌∙◌, ap}
 use Rattle.command_words.specs.Names.{option_named}
-use Rattle.command_words.proofs.Taking.{both_taken, name_taken, no_name, no_option, name_waits, name_refused, after_choice}
+use Rattle.command_words.proofs.Taking.{both_taken, no_option, name_waits, name_refused, after_choice}
 use Rattle.command_words.proofs.parts.Parts.take_option.Goals as goal
 
 pub returns-in_default-clause-taken : goal.returns-in_default-clause-taken

@@ -1,6 +1,5 @@
-use Rattle.std.proofs.Common.{refl, sym, ◌∙◌, arith}
-use Rattle.command_words.specs.Parts.{onto}
-use Rattle.command_words.proofs.Taking.{value_taken, plain_taken, waits_no_more}
+use Rattle.std.proofs.Common.{sym, ◌∙◌, arith}
+use Rattle.command_words.proofs.Taking.{value_taken, waits_no_more}
 use Rattle.command_words.proofs.parts.Parts.take_word.Goals as goal
 
 pub returns-in-Some-clause-taken : goal.returns-in-Some-clause-taken
