@@ -12,6 +12,7 @@ const GROUP: &str = "unoreg 1\nconstants demo.Limits\nconst LEAST -1 long\nend\n
 
 const UNOIDL: &str = "module demo { constants Limits { const long LEAST = - 1 ; } ; } ;\n";
 
+#[derive(Clone, Copy)]
 struct Row {
     words: &'static [&'static str],
     /// The bytes of the file `x.reg`.
@@ -25,12 +26,7 @@ struct Row {
 }
 
 /// A refused text.
-const fn refused(
-    file: &'static [u8],
-    line: u32,
-    reason: RegistryReason,
-    error: &'static str,
-) -> Row {
+fn refused(file: &'static [u8], line: u32, reason: RegistryReason, error: &'static str) -> Row {
     Row {
         words: &["idl", "x.reg"],
         file,
@@ -47,7 +43,7 @@ const fn refused(
 }
 
 /// A text that is no refusal's cause, with these words, failing calls, status, output and line.
-const fn ended(
+fn ended(
     words: &'static [&'static str],
     reads: &'static [u64],
     writes: &'static [u64],
@@ -67,57 +63,6 @@ const fn ended(
 }
 
 const IDL: &[&str] = &["idl", "x.reg"];
-
-const ROWS: &[Row] = &[
-    ended(IDL, &[], &[], Done, UNOIDL.as_bytes(), ""),
-    ended(
-        &["idl", "--", "x.reg"],
-        &[],
-        &[],
-        Done,
-        UNOIDL.as_bytes(),
-        "",
-    ),
-    ended(&["idl"], &[], &[], Words, b"", "uno: words\n"),
-    ended(
-        &["idl", "x.reg", "y.reg"],
-        &[],
-        &[],
-        Words,
-        b"",
-        "uno: words\n",
-    ),
-    ended(&["idl", "-x"], &[], &[], Words, b"", "uno: words\n"),
-    ended(&["compile", "x.idl"], &[], &[], Words, b"", "uno: words\n"),
-    ended(IDL, &[0], &[], ReadFault, b"", "uno: read fault\n"),
-    ended(IDL, &[], &[0], WriteFault, b"", "uno: write fault\n"),
-    ended(
-        &["idl", "y.reg"],
-        &[],
-        &[],
-        NoFile(0),
-        b"",
-        "uno: no file y.reg\n",
-    ),
-    refused(
-        b"unoreg 2\n",
-        1,
-        RegistryReason::BadLine,
-        "x.reg:1: BadLine\n",
-    ),
-    refused(
-        b"unoreg 1\nconstants demo.B\nend\nconstants demo.A\nend\n",
-        4,
-        RegistryReason::Order,
-        "x.reg:4: Order\n",
-    ),
-    refused(
-        b"unoreg 1\nconstants demo.A\nend\nsingleton demo.S old demo.None\nend\n",
-        4,
-        RegistryReason::Rule(9),
-        "x.reg:4: Rule 9\n",
-    ),
-];
 
 fn owned(alloc: Global, words: &[&str]) -> Result<Vec<String>, NoMemory> {
     let mut all = Vec::new(alloc);
@@ -148,11 +93,16 @@ fn input_of(alloc: Global) -> MemSource {
 
 /// Whether a run ends as the row says.
 fn goes(alloc: Global, row: &Row) -> Result<bool, NoMemory> {
+    goes_with(alloc, row, row.file)
+}
+
+/// The same with these bytes in the file.
+fn goes_with(alloc: Global, row: &Row, file: &[u8]) -> Result<bool, NoMemory> {
     let Ok(tag) = Tag::read(alloc, "S") else {
         return Err(NoMemory);
     };
     let words = owned(alloc, row.words)?;
-    let mut files = files_of(alloc, row.file, row.reads)?;
+    let mut files = files_of(alloc, file, row.reads)?;
     let mut input = input_of(alloc);
     let mut output = sink_of(alloc, row.writes)?;
     let mut errors = sink_of(alloc, &[])?;
@@ -173,6 +123,19 @@ fn goes(alloc: Global, row: &Row) -> Result<bool, NoMemory> {
     )
 }
 
+fn long_text(alloc: Global) -> Result<Vec<u8>, NoMemory> {
+    let mut bytes = Vec::with_capacity(alloc, 4_194_305)?;
+    bytes.resize(4_194_305, b'a')?;
+    Ok(bytes)
+}
+
+fn made(rt: &impl Abort, bytes: Result<Vec<u8>, NoMemory>) -> Vec<u8> {
+    match bytes {
+        Ok(bytes) => bytes,
+        Err(_) => panic!(rt; "no memory"),
+    }
+}
+
 fn judge(rt: &impl Abort, alloc: Global, row: &Row) {
     match goes(alloc, row) {
         Ok(true) => {}
@@ -186,7 +149,74 @@ fn judge(rt: &impl Abort, alloc: Global, row: &Row) {
 
 #[test]
 fn idl_ends_as_each_row_says(rt: HostRuntime) {
-    for row in ROWS {
+    let rows = [
+        ended(IDL, &[], &[], Done, UNOIDL.as_bytes(), ""),
+        ended(
+            &["idl", "--", "x.reg"],
+            &[],
+            &[],
+            Done,
+            UNOIDL.as_bytes(),
+            "",
+        ),
+        ended(&["idl"], &[], &[], Words, b"", "uno: words\n"),
+        ended(
+            &["idl", "x.reg", "y.reg"],
+            &[],
+            &[],
+            Words,
+            b"",
+            "uno: words\n",
+        ),
+        ended(&["idl", "-x"], &[], &[], Words, b"", "uno: words\n"),
+        ended(&["compile", "x.idl"], &[], &[], Words, b"", "uno: words\n"),
+        ended(IDL, &[0], &[], ReadFault, b"", "uno: read fault\n"),
+        ended(IDL, &[], &[0], WriteFault, b"", "uno: write fault\n"),
+        ended(
+            &["idl", "y.reg"],
+            &[],
+            &[],
+            NoFile(0),
+            b"",
+            "uno: no file y.reg\n",
+        ),
+    ];
+    for row in &rows {
         judge(&rt, rt.alloc(), row);
     }
+}
+
+#[test]
+fn texts_are_refused_with_line_and_reason(rt: HostRuntime) {
+    let rows = [
+        refused(
+            b"unoreg 2\n",
+            1,
+            RegistryReason::BadLine,
+            "x.reg:1: BadLine\n",
+        ),
+        refused(
+            b"unoreg 1\nconstants demo.B\nend\nconstants demo.A\nend\n",
+            4,
+            RegistryReason::Order,
+            "x.reg:4: Order\n",
+        ),
+        refused(
+            b"unoreg 1\nconstants demo.A\nend\nsingleton demo.S old demo.None\nend\n",
+            4,
+            RegistryReason::Rule(9),
+            "x.reg:4: Rule 9\n",
+        ),
+    ];
+    for row in &rows {
+        judge(&rt, rt.alloc(), row);
+    }
+}
+
+/// A byte more than a text may have.
+#[test]
+fn a_text_that_is_too_long_is_refused_at_line_0(rt: HostRuntime) {
+    let bytes = made(&rt, long_text(rt.alloc()));
+    let row = refused(b"", 0, RegistryReason::TooLong, "x.reg:0: TooLong\n");
+    assert!(rt; goes_with(rt.alloc(), &row, bytes.as_slice()) == Ok(true));
 }
