@@ -4,7 +4,7 @@
 use std::alloc::Global;
 use std::process::ExitCode;
 use std::{env, io};
-use uno_io::{StdSink, StdSource};
+use uno_io::{StdFiles, StdSink, StdSource};
 use uno_run::{Status, report, run};
 use urp_message::{Tag, TagError};
 
@@ -15,7 +15,7 @@ fn main(rt: HostRuntime) -> ExitCode {
     let mut errors = StdSink::new(rt.stderr());
     let status = match words(&rt) {
         Ok(words) => answer(&rt, words.as_slice(), &mut errors),
-        Err(status) => report(rt.alloc(), status, &mut errors),
+        Err(status) => report(rt.alloc(), &[], status, &mut errors),
     };
     ExitCode::from(status.code())
 }
@@ -38,16 +38,26 @@ fn refused(error: io::Error) -> Status {
     }
 }
 
-/// Runs the words on the process's streams.
+/// Runs the words on the process's files and streams.
 fn answer(rt: &HostRuntime, words: &[String], errors: &mut StdSink<io::Stderr>) -> Status {
     let alloc = rt.alloc();
     match Tag::read(alloc, TAG) {
         Ok(tag) => {
+            let mut files = StdFiles::new(rt, alloc);
             let mut input = StdSource::new(rt.stdin());
             let mut output = StdSink::new(rt.stdout());
-            run(rt, alloc, words, &tag, &mut input, &mut output, errors)
+            run(
+                rt,
+                alloc,
+                words,
+                &tag,
+                &mut files,
+                &mut input,
+                &mut output,
+                errors,
+            )
         }
-        Err(TagError::NoMemory) => report(alloc, Status::NoMemory, errors),
+        Err(TagError::NoMemory) => report(alloc, &[], Status::NoMemory, errors),
         Err(TagError::BadTag) => unreachable!(),
     }
 }

@@ -1,4 +1,5 @@
+pub mod IdlRuns
 pub mod Judging
+pub mod Obeying
 pub mod Running
 pub mod Serving
-pub mod WordLemmas

@@ -1,12 +1,11 @@
 -- A run's clauses follow from how its reading stopped, how its answering was judged, and which status was kept.
-use Rattle.std.proofs.Common.{◌≡◌, ◌≢◌, ℕ, ◌<◌, ◌≤◌, ◌⊎◌, List, length, Option, None, Some, refl, sym, ap, subst, ◌∙◌, inl, inr, arith, length-append}
-use Rattle.std.specs.Prelude.{String}
+use Rattle.std.proofs.Common.{◌≡◌, ◌≢◌, ℕ, ◌<◌, ◌≤◌, ◌⊎◌, List, length, Option, None, Some, true, refl, sym, ap, subst, ◌∙◌, inl, inr, arith, length-append}
 use Rattle.std.specs.Io.KnownBytes.{Consumes, IsAtEnd}
 use Rattle.std.proofs.lemmas.List.{append_cancel_right}
 use Rattle.urp_message.specs.declared.first.message.First.{First}
 use Rattle.bridge_core.specs.Talk.{IsLongest}
 use Rattle.uno_base.specs.Causes.{Rose}
-use Rattle.uno_run.specs.Lines.{IsBroken}
+use Rattle.uno_run.specs.Lines.{has_own_line}
 use Rattle.uno_run.specs.Reading.{WasRead, StoppedBy}
 use Rattle.uno_run.specs.Run.{Heard, Unhindered, EndsBy, settled}
 use Rattle.uno_run.specs.declared.reading.Stop.{Stop}
@@ -55,15 +54,15 @@ ends_by before now left count Fault at_end status p below e = inr (e, p.1)
 ends_by before now left count Limit at_end status p below e = absurd (omega (arith, p.0))
 
 -- what a clause speaks of is what was read
-pub heard_here : {A : Type 0} (words : List (String A)) (old new : Option (List ℕ)) (tag s bytes : List ℕ) (ms : List First) (rest : List ℕ) → Heard words old new tag s ms rest
+pub heard_here : (old new : Option (List ℕ)) (tag s bytes : List ℕ) (ms : List First) (rest : List ℕ) → Heard old new tag s ms rest
     → Consumes old new bytes → (length bytes < 65537) × IsLongest tag bytes ms rest
-heard_here words old new tag s bytes ms rest heard read =
+heard_here old new tag s bytes ms rest heard read =
     let same = only_read old new s bytes heard.read read in
     (subst (λ (b : List ℕ). length b < 65537) same heard.below, subst (λ b. IsLongest tag b ms rest) same heard.longest)
 
 -- a status is kept, unless memory was wanted for its line
 abbrev pub Kept : Status → Status → Type 0
-Kept result status = (result ≡ status) ⊎ ((result ≡ NoMemory) × IsBroken status)
+Kept result status = (result ≡ status) ⊎ ((result ≡ NoMemory) × (has_own_line status ≡ true))
 
 pub kept_status : (result status : Status) → Kept result status → result ≢ NoMemory → result ≡ status
 kept_status result status (inl same) enough = same

@@ -1,5 +1,5 @@
 -- What a run with the word `answer` has to do with what it read: the premises of its clauses, and the words for how it ends.
-use Rattle.std.specs.Prelude.{◌≡◌, ◌≢◌, ℕ, ◌<◌, ◌⊎◌, List, [], length, Option, String}
+use Rattle.std.specs.Prelude.{◌≡◌, ◌≢◌, ℕ, ◌<◌, ◌⊎◌, List, [], length, Option}
 use Rattle.std.specs.Io.KnownBytes.{IsAtEnd}
 use Rattle.urp_model.specs.Blocks.{BeginsWhole}
 use Rattle.urp_message.specs.declared.first.message.First.{First}
@@ -7,15 +7,13 @@ use Rattle.urp_message.specs.declared.first.refusal.Refusal.TheVariants.{NotBuil
 use Rattle.bridge_core.specs.Talk.{IsLongest}
 use Rattle.uno_base.specs.Causes.{Rose}
 use Rattle.uno_run.specs.Reading.{WasRead}
-use Rattle.uno_run.specs.Words.{IsAnswer}
 use Rattle.uno_run.specs.declared.reading.Stop.{Stop}
 use Rattle.uno_run.specs.declared.reading.Stop.TheVariants.{End, Fault, Limit}
 use Rattle.uno_run.specs.declared.status.Status.{Status}
 use Rattle.uno_run.specs.declared.status.Status.TheVariants.{Done, ReadFault, WriteFault, Broken, NoMemory}
 
--- the words are the form, and these bytes were read, fewer than the limit, with this longest talk at their front
-pub record Heard {A : Type 0} (words : List (String A)) (left_old left_new : Option (List ℕ)) (tag bytes : List ℕ) (talk : List First) (rest : List ℕ) : Type 0 where
-  pub form : IsAnswer words
+-- these bytes were read, fewer than the limit, with this longest talk at their front
+pub record Heard (left_old left_new : Option (List ℕ)) (tag bytes : List ℕ) (talk : List First) (rest : List ℕ) : Type 0 where
   pub read : WasRead left_old left_new bytes
   pub below : length bytes < 65537
   pub longest : IsLongest tag bytes talk rest

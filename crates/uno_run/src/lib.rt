@@ -2,12 +2,16 @@
 #![tactic(auto)]
 
 mod answering;
+mod idl;
 mod lines;
 mod reading;
+mod reason;
 mod status;
+#[cfg(test)]
+mod tests;
 mod top;
-mod words;
 
 pub use lines::report;
+pub use reason::RegistryReason;
 pub use status::Status;
 pub use top::run;

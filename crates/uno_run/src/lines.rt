@@ -1,25 +1,27 @@
 //! The line on `errors` that says how a run ended.
-ghost use Rattle.std.specs.Prelude.{◌≡◌, ◌⊎◌, IfOk, string_bytes};
-ghost use Rattle.uno_run.specs.Lines.{line_of, name_of, IsBroken, Printed};
-ghost use Rattle.uno_run.specs.declared.status.Status.TheVariants.{Broken};
+ghost use Rattle.std.specs.Prelude.{◌≡◌, ◌≢◌, ◌⊎◌, ℕ, List, [], ◌∷◌, ◌++◌, IfOk, codes, map, string_bytes, true, false};
+ghost use Rattle.std.specs.Fmt.{decimal};
+ghost use Rattle.uno_run.specs.Lines.{file_at, has_own_line, line_of, name_of, reason_of, Printed};
+ghost use Rattle.uno_run.specs.declared.reason.RegistryReason.TheVariants.{Rule};
 
-use crate::Status;
+use crate::{RegistryReason, Status};
 use std::alloc::Global;
 use uno_base::NoMemory;
 use uno_io::{Sink, write_all};
 use urp_message::first::Refusal;
 
-/// Writes the line of a status, and answers the status. Where memory is wanted for the line, that is the status.
-pub fn report<E: Sink>(alloc: Global, status: Status, errors: &mut E) -> Status
-    ensures kept { (result ≡ status) ⊎ ((result ≡ Status.NoMemory) × IsBroken status) }
-    ensures line { Printed (E.faults errors.old) (E.faults errors.new) (E.taken errors.old) (E.taken errors.new) (line_of result) }
+/// Writes the line of a status where the words name these files, and answers the status. Where memory is wanted for the line, that is the
+/// status.
+pub fn report<E: Sink>(alloc: Global, files: &[&str], status: Status, errors: &mut E) -> Status
+    ensures kept { (result ≡ status) ⊎ ((result ≡ Status.NoMemory) × (has_own_line status ≡ true)) }
+    ensures line { Printed (E.faults errors.old) (E.faults errors.new) (E.taken errors.old) (E.taken errors.new) (line_of (map (λ s. s.now) files.now) result) }
     ensures stays { E.closed errors.new ≡ E.closed errors.old }
 {
-    let Status::Broken(reason, place) = status else {
+    if !has_own_line(status) {
         print(plain_line(status), errors);
         return status;
-    };
-    match broken_line(alloc, reason, place) {
+    }
+    match own_line(alloc, files, status) {
         Ok(line) => {
             print(line.as_str(), errors);
             status
@@ -42,27 +44,104 @@ fn print<E: Sink>(line: &str, errors: &mut E)
     }
 }
 
-/// The line of a status that names no place.
+fn has_own_line(status: Status) -> bool
+    ensures { result ≡ has_own_line status }
+{
+    match status {
+        Status::BadRegistry { .. } => true,
+        Status::Broken(..) => true,
+        Status::NoFile(_) => true,
+        _ => false,
+    }
+}
+
+/// The line of a status that names nothing.
 fn plain_line(status: Status) -> &'static str
-    requires { IsBroken status → ⊥ }
-    ensures { result.now ≡ line_of status }
+    requires { has_own_line status ≡ false }
+    ensures { (files : List (List ℕ)) → result.now ≡ line_of files status }
 {
     match status {
         Status::Done => "",
         Status::Words => "uno: words\n",
         Status::ReadFault => "uno: read fault\n",
         Status::WriteFault => "uno: write fault\n",
-        Status::Broken(..) => unreachable!(),
         Status::NoMemory => "uno: no memory\n",
+        Status::BadRegistry { .. } => unreachable!(),
+        Status::Broken(..) => unreachable!(),
+        Status::NoFile(_) => unreachable!(),
+    }
+}
+
+/// The line of a status that names something.
+fn own_line(alloc: Global, files: &[&str], status: Status) -> Result<String, NoMemory>
+    requires { has_own_line status ≡ true }
+    ensures { IfOk result (λ line. string_bytes line ≡ line_of (map (λ s. s.now) files.now) status) }
+{
+    match status {
+        Status::BadRegistry { file, line, reason } => {
+            registry_line(alloc, file_at(files, file), line, reason)
+        }
+        Status::Broken(reason, place) => broken_line(alloc, reason, place),
+        Status::NoFile(file) => no_file_line(alloc, file_at(files, file)),
+        _ => unreachable!(),
+    }
+}
+
+/// The name of a file by its place.
+fn file_at<'a>(files: &[&'a str], place: u32) -> &'a str
+    ensures { result.now ≡ file_at (map (λ s. s.now) files.now) place }
+{
+    match files.get(place as usize) {
+        Some(name) => name,
+        None => "",
+    }
+}
+
+/// The line of a refused registry.
+fn registry_line(
+    alloc: Global,
+    name: &str,
+    line: u32,
+    reason: RegistryReason,
+) -> Result<String, NoMemory>
+    ensures { IfOk result (λ text. string_bytes text ≡ name.now ++ (codes ":" ++ (decimal line ++ (codes ": " ++ (reason_of reason ++ 10 ∷ []))))) }
+{
+    if let RegistryReason::Rule(rule) = reason {
+        let text = format!(in alloc; "{name}:{line}: Rule {rule}\n")?;
+        return Ok(text);
+    }
+    let reason = plain_reason(reason);
+    let text = format!(in alloc; "{name}:{line}: {reason}\n")?;
+    Ok(text)
+}
+
+/// A reason that is no rule.
+fn plain_reason(reason: RegistryReason) -> &'static str
+    requires { (rule : ℕ) → reason ≢ Rule rule }
+    ensures { result.now ≡ reason_of reason }
+{
+    match reason {
+        RegistryReason::BadLine => "BadLine",
+        RegistryReason::Order => "Order",
+        RegistryReason::Rule(_) => unreachable!(),
+        RegistryReason::TooLong => "TooLong",
     }
 }
 
 /// The line of a broken bridge.
 fn broken_line(alloc: Global, reason: Refusal, place: u64) -> Result<String, NoMemory>
-    ensures { IfOk result (λ line. string_bytes line ≡ line_of (Broken reason place)) }
+    ensures { IfOk result (λ line. string_bytes line ≡ codes "uno: broken " ++ (name_of reason ++ (codes " at " ++ (decimal place ++ 10 ∷ [])))) }
 {
     let name = reason_name(reason);
     let line = format!(in alloc; "uno: broken {name} at {place}\n")?;
+    Ok(line)
+}
+
+/// The line of a file that is not there.
+fn no_file_line(alloc: Global, name: &str) -> Result<String, NoMemory>
+    ensures { IfOk result (λ line. string_bytes line ≡ codes "uno: no file " ++ (name.now ++ 10 ∷ [])) }
+{
+    let line = format!(in alloc; "uno: no file {name}\n")?;
     Ok(line)
 }
 

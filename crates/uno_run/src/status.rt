@@ -2,20 +2,28 @@
 ghost use Rattle.std.specs.Prelude.{◌≡◌};
 ghost use Rattle.uno_run.specs.Lines.{code_of};
 
+use crate::RegistryReason;
 use urp_message::first::Refusal;
 
-/// How a run ended; one line on `errors` says so, but after `Done`.
+/// How a run ended; one line on `errors` says so, but after `Done`. A file is told by its place among the files that the words name, from 0.
 #[derive(Clone, Copy, Debug, PartialEq, Eq)]
 pub enum Status {
     Done,
     /// The words are in none of the forms.
     Words,
-    /// The input failed.
+    /// A file is not the text of a registry, first at this line.
+    BadRegistry {
+        file: u32,
+        line: u32,
+        reason: RegistryReason,
+    },
+    /// The input or a file failed.
     ReadFault,
     /// The output failed.
     WriteFault,
     /// The bytes at this place of the input break the protocol.
     Broken(Refusal, u64),
+    NoFile(u32),
     NoMemory,
 }
 
@@ -27,9 +35,11 @@ impl Status {
         match self {
             Status::Done => 0,
             Status::Words => 1,
+            Status::BadRegistry { .. } => 3,
             Status::ReadFault => 4,
             Status::WriteFault => 5,
             Status::Broken(..) => 6,
+            Status::NoFile(_) => 11,
             Status::NoMemory => 70,
         }
     }

@@ -5,7 +5,7 @@ use crate::talk::{ASK, CALL, DOUBLE, OBJECT};
 use std::alloc::Global;
 use std::process::Abort;
 use uno_base::NoMemory;
-use uno_io::{MemSink, MemSource, Source};
+use uno_io::{MemFiles, MemSink, MemSource, Source};
 use uno_run::Status::{Broken, Done, ReadFault, Words, WriteFault};
 use uno_run::{Status, run};
 use urp_message::Tag;
@@ -348,7 +348,8 @@ fn goes(
     output: &mut MemSink,
     errors: &mut MemSink,
 ) -> bool {
-    let status = run(&(), alloc, words, tag, input, output, errors);
+    let mut files = MemFiles::new(alloc, Vec::new(alloc), Vec::new(alloc));
+    let status = run(&(), alloc, words, tag, &mut files, input, output, errors);
     if status != row.status || errors.as_bytes() != row.line.as_bytes() {
         return false;
     }

@@ -1,0 +1,9 @@
+pub mod ClapLaw
+pub mod Digits
+pub mod Exits
+pub mod FineLemmas
+pub mod Orders
+pub mod Rows
+pub mod Taking
+pub mod Values
+pub mod Walking

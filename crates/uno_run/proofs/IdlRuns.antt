@@ -1,0 +1,81 @@
+-- A run of `idl` ends as the printing of its text does.
+use Rattle.std.proofs.Common.{true, false, ◌≡◌, ◌≢◌, ℕ, ◌⊎◌, List, Option, None, Some, refl, sym, subst, ◌∙◌, inl, inr}
+use Rattle.uno_base.specs.Causes.{Rose}
+use Rattle.uno_io.specs.Files.{Stored, read_at}
+use Rattle.command_words.specs.Names.{Text}
+use Rattle.uno_run.specs.Idl.{IdlRun, IsRefused, Tells}
+use Rattle.uno_run.specs.Printing.{TextPrinted}
+use Rattle.uno_run.specs.Lines.{has_own_line}
+use Rattle.uno_run.specs.declared.reason.RegistryReason.{RegistryReason}
+use Rattle.uno_run.specs.declared.status.Status.{Status}
+use Rattle.uno_run.specs.declared.status.Status.TheVariants.{Done, Words, BadRegistry, ReadFault, WriteFault, Broken, NoFile, NoMemory}
+use Rattle.uno_run.proofs.Running.{Kept}
+
+-- the output did not fail, but where it is said so
+quiet : (text : List ℕ) (old new : Option (List ℕ)) (before now : ℕ) (status : Status) → TextPrinted text old new before now status → status ≢ WriteFault → now ≡ before
+quiet text old new before now Done p no_fault = p.printed.1
+quiet text old new before now Words p no_fault = absurd p
+quiet text old new before now (BadRegistry file line reason) p no_fault = p.3
+quiet text old new before now ReadFault p no_fault = absurd p
+quiet text old new before now WriteFault p no_fault = absurd (no_fault refl)
+quiet text old new before now (Broken reason place) p no_fault = absurd p
+quiet text old new before now (NoFile file) p no_fault = absurd p
+quiet text old new before now NoMemory p no_fault = p.1
+
+-- a text that is not refused is printed, where the output does not fail and memory is enough
+well_printed : (text : List ℕ) (old new : Option (List ℕ)) (before now : ℕ) (status : Status) → TextPrinted text old new before now status
+    → ((line : ℕ) (reason : RegistryReason) → IsRefused text line reason → ⊥) → (Rose before now → ⊥) → (status ≡ Done) ⊎ (status ≡ NoMemory)
+well_printed text old new before now Done p none no_fault = inl refl
+well_printed text old new before now Words p none no_fault = absurd p
+well_printed text old new before now (BadRegistry file line reason) p none no_fault = absurd (none line reason p.1)
+well_printed text old new before now ReadFault p none no_fault = absurd p
+well_printed text old new before now WriteFault p none no_fault = absurd (no_fault p.printed.1)
+well_printed text old new before now (Broken reason place) p none no_fault = absurd p
+well_printed text old new before now (NoFile file) p none no_fault = absurd p
+well_printed text old new before now NoMemory p none no_fault = inr refl
+
+own_differs : (status s : Status) → has_own_line status ≡ true → has_own_line s ≡ false → status ≡ s → ⊥
+own_differs status s own none e = let line : has_own_line s ≡ true = subst (λ t. has_own_line t ≡ true) e own in cc
+
+module _ {F O : Type 0} (stored : F → Option Stored) (reads : F → ℕ) (taken : O → Option (List ℕ)) (writes : O → ℕ) (name : Text) (files_old files_new : F) (output_old output_new : O) where
+  pub text_ran : (status : Status) (text : List ℕ) → Tells (stored files_old) name (Some text) → reads files_new ≡ reads files_old
+      → TextPrinted text (taken output_old) (taken output_new) (writes output_old) (writes output_new) status → (status ≢ Done → status ≢ WriteFault → output_new ≡ output_old)
+      → IdlRun stored reads taken writes name files_old files_new output_old output_new status
+  text_ran status text told same printed silent =
+      let as_is = λ (s : Status) (e : status ≡ s). subst (TextPrinted text (taken output_old) (taken output_new) (writes output_old) (writes output_new)) e printed in
+      record {
+        done = λ e. let p = as_is Done e in record { text = text; registry = p.registry; told = told; is_text = p.is_text; written = p.printed.0 };
+        refused = λ file line reason e. let p = as_is (BadRegistry file line reason) e in (p.0, record { text = text; told = told; refused = p.1 });
+        read_fault = λ e. absurd (as_is ReadFault e);
+        write_fault = λ e. let p = as_is WriteFault e in (p.printed.1, record { text = text; registry = p.registry; told = told; is_text = p.is_text; written = p.printed.0 });
+        no_file = λ file e. absurd (as_is (NoFile file) e);
+        no_read_fault = λ no_fault. same;
+        no_write_fault = quiet text _ _ _ _ status printed;
+        silent = silent;
+        well = λ files other stores reads_so none no_read no_write.
+            let both : Some text ≡ Some other = sym (told files stores) ∙ reads_so in
+            let is : text ≡ other = cc in
+            well_printed text _ _ _ _ status printed (λ line reason refused. none line reason (subst (λ t. IsRefused t line reason) is refused)) no_write;
+      }
+
+  -- where memory is wanted for the line, that is the status
+  lost : (status : Status) → has_own_line status ≡ true → IdlRun stored reads taken writes name files_old files_new output_old output_new status
+      → IdlRun stored reads taken writes name files_old files_new output_old output_new NoMemory
+  lost status own run =
+      let plain = λ (s : Status) (none : has_own_line s ≡ false) (e : status ≡ s). own_differs status s own none e in
+      record {
+        done = λ e. let bad : ⊥ = cc in absurd bad;
+        refused = λ file line reason e. let bad : ⊥ = cc in absurd bad;
+        read_fault = λ e. let bad : ⊥ = cc in absurd bad;
+        write_fault = λ e. let bad : ⊥ = cc in absurd bad;
+        no_file = λ file e. let bad : ⊥ = cc in absurd bad;
+        no_read_fault = λ no_fault. run.no_read_fault (plain ReadFault refl);
+        no_write_fault = λ no_fault. run.no_write_fault (plain WriteFault refl);
+        silent = λ not_done no_fault. run.silent (plain Done refl) (plain WriteFault refl);
+        well = λ files text stores reads_so none no_read no_write. inr refl;
+      }
+
+  pub kept_run : (result status : Status) → Kept result status → IdlRun stored reads taken writes name files_old files_new output_old output_new status
+      → IdlRun stored reads taken writes name files_old files_new output_old output_new result
+  kept_run result status (inl same) run = subst (IdlRun stored reads taken writes name files_old files_new output_old output_new) (sym same) run
+  kept_run result status (inr gone) run = subst (IdlRun stored reads taken writes name files_old files_new output_old output_new) (sym gone.0) (lost status gone.1 run)

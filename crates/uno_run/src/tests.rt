@@ -1,0 +1,222 @@
+//! Each status of `idl`, over files and streams in memory.
+use crate::Status::{BadRegistry, Done, NoFile, ReadFault, Words, WriteFault};
+use crate::{RegistryReason, Status, run};
+use std::alloc::Global;
+use std::process::Abort;
+use uno_base::NoMemory;
+use uno_io::{MemFile, MemFiles, MemSink, MemSource};
+use urp_message::Tag;
+
+/// A constant group, and its canonical UNOIDL.
+const GROUP: &str = "unoreg 1\nconstants demo.Limits\nconst LEAST -1 long\nend\n";
+
+const UNOIDL: &str = "module demo { constants Limits { const long LEAST = - 1 ; } ; } ;\n";
+
+#[derive(Clone, Copy)]
+struct Row {
+    words: &'static [&'static str],
+    /// The bytes of the file `x.reg`.
+    file: &'static [u8],
+    /// The numbers of the readings and of the writes that fail.
+    reads: &'static [u64],
+    writes: &'static [u64],
+    status: Status,
+    output: &'static [u8],
+    line: &'static str,
+}
+
+/// A refused text.
+fn refused(file: &'static [u8], line: u32, reason: RegistryReason, error: &'static str) -> Row {
+    Row {
+        words: &["idl", "x.reg"],
+        file,
+        reads: &[],
+        writes: &[],
+        status: BadRegistry {
+            file: 0,
+            line,
+            reason,
+        },
+        output: b"",
+        line: error,
+    }
+}
+
+/// A text that is no refusal's cause, with these words, failing calls, status, output and line.
+fn ended(
+    words: &'static [&'static str],
+    reads: &'static [u64],
+    writes: &'static [u64],
+    status: Status,
+    output: &'static [u8],
+    line: &'static str,
+) -> Row {
+    Row {
+        words,
+        file: GROUP.as_bytes(),
+        reads,
+        writes,
+        status,
+        output,
+        line,
+    }
+}
+
+const IDL: &[&str] = &["idl", "x.reg"];
+
+fn owned(alloc: Global, words: &[&str]) -> Result<Vec<String>, NoMemory> {
+    let mut all = Vec::new(alloc);
+    for word in words {
+        all.push(String::from_str(alloc, word)?)?;
+    }
+    Ok(all)
+}
+
+/// The file `x.reg` with these bytes.
+fn files_of(alloc: Global, bytes: &[u8], failing: &[u64]) -> Result<MemFiles, NoMemory> {
+    let mut files = Vec::new(alloc);
+    let name = String::from_str(alloc, "x.reg")?;
+    let bytes = Vec::from_slice(alloc, bytes)?;
+    files.push(MemFile { name, bytes })?;
+    let failing = Vec::from_slice(alloc, failing)?;
+    Ok(MemFiles::new(alloc, files, failing))
+}
+
+fn sink_of(alloc: Global, failing: &[u64]) -> Result<MemSink, NoMemory> {
+    let failing = Vec::from_slice(alloc, failing)?;
+    Ok(MemSink::new(alloc, failing))
+}
+
+fn input_of(alloc: Global) -> MemSource {
+    MemSource::new(Vec::new(alloc), Vec::new(alloc), Vec::new(alloc))
+}
+
+/// Whether a run ends as the row says.
+fn goes(alloc: Global, row: &Row) -> Result<bool, NoMemory> {
+    goes_with(alloc, row, row.file)
+}
+
+/// The same with these bytes in the file.
+fn goes_with(alloc: Global, row: &Row, file: &[u8]) -> Result<bool, NoMemory> {
+    let Ok(tag) = Tag::read(alloc, "S") else {
+        return Err(NoMemory);
+    };
+    let words = owned(alloc, row.words)?;
+    let mut files = files_of(alloc, file, row.reads)?;
+    let mut input = input_of(alloc);
+    let mut output = sink_of(alloc, row.writes)?;
+    let mut errors = sink_of(alloc, &[])?;
+    let status = run(
+        &(),
+        alloc,
+        words.as_slice(),
+        &tag,
+        &mut files,
+        &mut input,
+        &mut output,
+        &mut errors,
+    );
+    Ok(
+        status == row.status
+            && output.as_bytes() == row.output
+            && errors.as_bytes() == row.line.as_bytes(),
+    )
+}
+
+fn long_text(alloc: Global) -> Result<Vec<u8>, NoMemory> {
+    let mut bytes = Vec::with_capacity(alloc, 4_194_305)?;
+    bytes.resize(4_194_305, b'a')?;
+    Ok(bytes)
+}
+
+fn made(rt: &impl Abort, bytes: Result<Vec<u8>, NoMemory>) -> Vec<u8> {
+    match bytes {
+        Ok(bytes) => bytes,
+        Err(_) => panic!(rt; "no memory"),
+    }
+}
+
+fn judge(rt: &impl Abort, alloc: Global, row: &Row) {
+    match goes(alloc, row) {
+        Ok(true) => {}
+        Ok(false) => {
+            let line = row.line;
+            panic!(rt; "the run that awaits {line} ends otherwise");
+        }
+        Err(_) => panic!(rt; "no memory"),
+    }
+}
+
+#[test]
+fn idl_ends_as_each_row_says(rt: HostRuntime) {
+    let rows = [
+        ended(IDL, &[], &[], Done, UNOIDL.as_bytes(), ""),
+        ended(
+            &["idl", "--", "x.reg"],
+            &[],
+            &[],
+            Done,
+            UNOIDL.as_bytes(),
+            "",
+        ),
+        ended(&["idl"], &[], &[], Words, b"", "uno: words\n"),
+        ended(
+            &["idl", "x.reg", "y.reg"],
+            &[],
+            &[],
+            Words,
+            b"",
+            "uno: words\n",
+        ),
+        ended(&["idl", "-x"], &[], &[], Words, b"", "uno: words\n"),
+        ended(&["compile", "x.idl"], &[], &[], Words, b"", "uno: words\n"),
+        ended(IDL, &[0], &[], ReadFault, b"", "uno: read fault\n"),
+        ended(IDL, &[], &[0], WriteFault, b"", "uno: write fault\n"),
+        ended(
+            &["idl", "y.reg"],
+            &[],
+            &[],
+            NoFile(0),
+            b"",
+            "uno: no file y.reg\n",
+        ),
+    ];
+    for row in &rows {
+        judge(&rt, rt.alloc(), row);
+    }
+}
+
+#[test]
+fn texts_are_refused_with_line_and_reason(rt: HostRuntime) {
+    let rows = [
+        refused(
+            b"unoreg 2\n",
+            1,
+            RegistryReason::BadLine,
+            "x.reg:1: BadLine\n",
+        ),
+        refused(
+            b"unoreg 1\nconstants demo.B\nend\nconstants demo.A\nend\n",
+            4,
+            RegistryReason::Order,
+            "x.reg:4: Order\n",
+        ),
+        refused(
+            b"unoreg 1\nconstants demo.A\nend\nsingleton demo.S old demo.None\nend\n",
+            4,
+            RegistryReason::Rule(9),
+            "x.reg:4: Rule 9\n",
+        ),
+    ];
+    for row in &rows {
+        judge(&rt, rt.alloc(), row);
+    }
+}
+
+/// A byte more than a text may have.
+#[test]
+fn a_text_that_is_too_long_is_refused_at_line_0(rt: HostRuntime) {
+    let bytes = made(&rt, long_text(rt.alloc()));
+    let row = refused(b"", 0, RegistryReason::TooLong, "x.reg:0: TooLong\n");
+    assert!(rt; goes_with(rt.alloc(), &row, bytes.as_slice()) == Ok(true));
+}
