@@ -1,3 +1,5 @@
+pub mod Evaluation
 pub mod Expressions
+pub mod Frames
 pub mod Plans
 pub mod Statements
