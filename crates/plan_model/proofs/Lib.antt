@@ -1,0 +1,2 @@
+mod DemoPlans
+mod EffectRows
