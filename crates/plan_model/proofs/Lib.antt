@@ -1,2 +1,3 @@
 mod DemoPlans
 mod EffectRows
+mod ServiceRows

@@ -2,6 +2,9 @@ pub mod Effects
 pub mod Evaluation
 pub mod Expressions
 pub mod Frames
+pub mod Holdings
+pub mod Lines
+pub mod PlanText
 pub mod Plans
 pub mod Services
 pub mod Statements
