@@ -1,6 +1,8 @@
+pub mod Contexts
 pub mod Effects
 pub mod Evaluation
 pub mod Expressions
+pub mod Forms
 pub mod Frames
 pub mod Holdings
 pub mod Lines
@@ -8,3 +10,4 @@ pub mod PlanText
 pub mod Plans
 pub mod Services
 pub mod Statements
+pub mod Typing
