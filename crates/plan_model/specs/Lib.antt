@@ -5,7 +5,12 @@ pub mod Expressions
 pub mod Forms
 pub mod Frames
 pub mod Holdings
+pub mod Keeps
+pub mod KnownNames
+pub mod Limits
+pub mod LinePlaces
 pub mod Lines
+pub mod NewNames
 pub mod PlanText
 pub mod Plans
 pub mod Services
