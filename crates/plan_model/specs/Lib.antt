@@ -1,7 +1,9 @@
+pub mod Building
 pub mod Contexts
 pub mod Effects
 pub mod Evaluation
 pub mod Expressions
+pub mod Fitting
 pub mod Forms
 pub mod Frames
 pub mod Holdings
