@@ -1,3 +1,4 @@
 mod DemoPlans
 mod EffectRows
 mod ServiceRows
+mod LineRows
