@@ -1,7 +1,7 @@
 -- The registry and the two plans of the rows.
-use Rattle.std.proofs.Common.{ℕ, pos, true, false, List, [], ◌∷◌, ◌++◌, None, Some, codes}
+use Rattle.std.proofs.Common.{ℕ, pos, true, false, List, [], ◌∷◌, ◌++◌, Option, None, Some, codes}
 use Rattle.uno_model.specs.BuiltIn.{built_in, exception_name, x_interface_name}
-use Rattle.uno_model.specs.Entities.{Entity, Param, Method, method, interface, exception, new_service}
+use Rattle.uno_model.specs.Entities.{Entity, Field, Param, Constructor, Method, method, interface, exception, new_service, new_singleton}
 use Rattle.uno_model.specs.Kinds as kd
 use Rattle.uno_model.specs.Values.{Plain, null}
 use Rattle.uno_model.specs.Values as v
@@ -75,6 +75,34 @@ node_entity =
 
 abbrev pub demo : List Entity
 demo = built_in ++ (refused_entity ∷ (echo_entity ∷ (node_entity ∷ [])))
+
+-- ---- the same with a service, which has three constructors, and a singleton
+
+abbrev pub param : List ℕ → kd.Kind → Field
+param name k = record { name = name; kind = k }
+
+abbrev pub constructor : List ℕ → List Field → Option (List ℕ) → Constructor
+constructor name ps rest = record { name = name; params = ps; rest = rest; raises = [] }
+
+-- the last of its constructors has a rest parameter
+abbrev pub part : Entity
+part =
+    record {
+      name = codes "demo.Part";
+      published = false;
+      body =
+        new_service
+          x_interface_name
+          (constructor (codes "create") [] None
+          ∷ (constructor (codes "withId") (param (codes "id") kd.long ∷ []) None
+          ∷ (constructor (codes "withAll") (param (codes "id") kd.long ∷ (param (codes "what") kd.any ∷ [])) (Some (codes "more")) ∷ [])));
+    }
+
+abbrev pub only : Entity
+only = record { name = codes "demo.Only"; published = false; body = new_singleton x_interface_name }
+
+abbrev pub parts_registry : List Entity
+parts_registry = demo ++ (only ∷ (part ∷ []))
 
 -- ---- the echo plan
 

@@ -1,4 +1,6 @@
+mod DemoLines
 mod DemoPlans
 mod EffectRows
-mod ServiceRows
 mod LineRows
+mod ServiceRows
+mod WrongLineRows

@@ -1,4 +1,4 @@
--- The lines of the two plans, and lines that are wrong.
+-- The lines of the node plan: their text, and the plan that they make.
 use Rattle.std.proofs.Common.{◌≡◌, refl, ℕ, suc, pos, negsuc, true, false, List, [], ◌∷◌, ◌++◌, map, Option, None, Some, codes}
 use Rattle.literal_model.specs.Literals.{number, string}
 use Rattle.literal_model.specs.Literals as token
@@ -30,48 +30,8 @@ use Rattle.plan_model.specs.Typing.{expression_of, all_at, each_at, argument_of,
 use Rattle.plan_model.specs.declared.comparison.Comparison.TheVariants.{Equal}
 use Rattle.plan_model.specs.declared.line_reason.LineReason.TheVariants.{Form, Unknown, Twice, Misfit, Limit, Open}
 use Rattle.plan_model.specs.declared.operation.Operation.TheVariants.{Add, Sub}
-use Rattle.plan_model.proofs.DemoPlans.{demo, node_plan, echo_plan}
-
-abbrev num : ℕ → Term
-num n = leaf (number (pos n))
-
-abbrev named : List ℕ → Term
-named name = word (variable name)
-
-abbrev new_variable : List ℕ → List ℕ → Declared
-new_variable name k = record { name = name; kind = k }
-
-abbrev node_method : List ℕ → Line
-node_method name = method (codes "demo.XNode") name
-
-abbrev refuses : Line
-refuses = raise (codes "demo.Refused") (members (terms (leaf (string (codes "no")) ∷ (leaf (token.word (codes "null")) ∷ (num 7 ∷ [])))))
-
-abbrev node_lines : List Line
-node_lines =
-    behaviour (codes "Node") (codes "demo.XNode" ∷ [])
-    ∷ (field (new_variable (codes "kept") (codes "demo.XNode"))
-    ∷ (node_method (codes "relay")
-    ∷ (when (variable (codes "depth")) Equal (num 0) (Some (num 0))
-    ∷ (call (Some (new_variable (codes "r") (codes "long"))) (variable (codes "back")) (codes "relay") (word own ∷ (operation Sub (named (codes "depth")) (num 1) ∷ []))
-    ∷ (return (Some (operation Add (named (codes "r")) (num 1)))
-    ∷ (end_line
-    ∷ (node_method (codes "turn")
-    ∷ (set_field (codes "kept") (named (codes "n"))
-    ∷ (return (Some (named (codes "n")))
-    ∷ (end_line
-    ∷ (node_method (codes "check")
-    ∷ (when (variable (codes "a")) Equal (num 0) None
-    ∷ (refuses
-    ∷ (end_line
-    ∷ (node_method (codes "forget")
-    ∷ (refuses
-    ∷ (end_line
-    ∷ (node_method (codes "shut")
-    ∷ (dispose
-    ∷ (end_line
-    ∷ (end_line
-    ∷ (export (codes "node") (codes "Node") ∷ []))))))))))))))))))))))
+use Rattle.plan_model.proofs.DemoLines.{node_lines}
+use Rattle.plan_model.proofs.DemoPlans.{demo, node_plan}
 
 -- the text of the node plan's lines
 node_text_row : map line_text node_lines

@@ -19,33 +19,7 @@ use Rattle.plan_model.specs.Plans.{Plan, Behaviour, manager}
 use Rattle.plan_model.specs.Services.{Created, fresh, singleton, all_taken, first_taken, fields_with, created, service_names}
 use Rattle.plan_model.specs.declared.refusal.Refusal.{Refusal}
 use Rattle.plan_model.specs.declared.refusal.Refusal.TheVariants.{UnknownService, BadArguments}
-use Rattle.plan_model.proofs.DemoPlans.{demo, long}
-
-abbrev param : List ℕ → kd.Kind → Field
-param name k = record { name = name; kind = k }
-
-abbrev constructor : List ℕ → List Field → Option (List ℕ) → Constructor
-constructor name ps rest = record { name = name; params = ps; rest = rest; raises = [] }
-
--- a service with three constructors, the last of them with a rest parameter, and a singleton
-abbrev part : Entity
-part =
-    record {
-      name = codes "demo.Part";
-      published = false;
-      body =
-        new_service
-          x_interface_name
-          (constructor (codes "create") [] None
-          ∷ (constructor (codes "withId") (param (codes "id") kd.long ∷ []) None
-          ∷ (constructor (codes "withAll") (param (codes "id") kd.long ∷ (param (codes "what") kd.any ∷ [])) (Some (codes "more")) ∷ [])));
-    }
-
-abbrev only : Entity
-only = record { name = codes "demo.Only"; published = false; body = new_singleton x_interface_name }
-
-abbrev registry : List Entity
-registry = demo ++ (only ∷ (part ∷ []))
+use Rattle.plan_model.proofs.DemoPlans.{long, param, parts_registry}
 
 abbrev part_behaviour : Behaviour
 part_behaviour =
@@ -77,43 +51,43 @@ abbrev a_part : Plain → Plain → List Plain → Result Created Refusal
 a_part id what more = Ok (fresh 0 (id ∷ (what ∷ (v.list kd.any (plains more) ∷ []))))
 
 -- without arguments all fields have their defaults
-no_arguments_row : created parts_plan registry (codes "demo.Part") [] ≡ a_part (long 0) (v.any kd.void v.void) []
+no_arguments_row : created parts_plan parts_registry (codes "demo.Part") [] ≡ a_part (long 0) (v.any kd.void v.void) []
 unfolding created first_taken all_taken fields_with find_entity default_of_kind default_within does_fit same_kind
 no_arguments_row = refl
 
 -- an any whose content fits a parameter
-one_argument_row : created parts_plan registry (codes "demo.Part") (any_long 5 ∷ []) ≡ a_part (long 5) (v.any kd.void v.void) []
+one_argument_row : created parts_plan parts_registry (codes "demo.Part") (any_long 5 ∷ []) ≡ a_part (long 5) (v.any kd.void v.void) []
 unfolding created first_taken all_taken fields_with find_entity default_of_kind default_within does_fit same_kind
 one_argument_row = refl
 
 -- a parameter of type any gets the any whole, and the rest parameter what is left, which is nothing
-two_arguments_row : created parts_plan registry (codes "demo.Part") (any_long 5 ∷ (any_text (codes "a") ∷ [])) ≡ a_part (long 5) (any_text (codes "a")) []
+two_arguments_row : created parts_plan parts_registry (codes "demo.Part") (any_long 5 ∷ (any_text (codes "a") ∷ [])) ≡ a_part (long 5) (any_text (codes "a")) []
 unfolding created first_taken all_taken fields_with find_entity default_of_kind default_within does_fit same_kind
 two_arguments_row = refl
 
 -- the rest parameter gets all that follow, each whole
-rest_row : created parts_plan registry (codes "demo.Part") (any_long 5 ∷ (any_text (codes "a") ∷ (any_long 6 ∷ (any_text (codes "b") ∷ []))))
+rest_row : created parts_plan parts_registry (codes "demo.Part") (any_long 5 ∷ (any_text (codes "a") ∷ (any_long 6 ∷ (any_text (codes "b") ∷ []))))
     ≡ a_part (long 5) (any_text (codes "a")) (any_long 6 ∷ (any_text (codes "b") ∷ []))
 unfolding created first_taken all_taken fields_with find_entity default_of_kind default_within does_fit same_kind
 rest_row = refl
 
 -- a text is no long
-bad_arguments_row : created parts_plan registry (codes "demo.Part") (any_text (codes "a") ∷ []) ≡ Err BadArguments
+bad_arguments_row : created parts_plan parts_registry (codes "demo.Part") (any_text (codes "a") ∷ []) ≡ Err BadArguments
 unfolding created first_taken all_taken fields_with find_entity default_of_kind default_within does_fit same_kind
 bad_arguments_row = refl
 
 -- a name that the plan has not
-unknown_service_row : created parts_plan registry (codes "x") [] ≡ Err UnknownService
+unknown_service_row : created parts_plan parts_registry (codes "x") [] ≡ Err UnknownService
 unfolding created first_taken all_taken fields_with find_entity default_of_kind default_within does_fit same_kind
 unknown_service_row = refl
 
 -- a singleton, which takes no arguments
-singleton_row : created parts_plan registry (codes "demo.Only") [] ≡ Ok (singleton 0)
+singleton_row : created parts_plan parts_registry (codes "demo.Only") [] ≡ Ok (singleton 0)
 unfolding created first_taken all_taken fields_with find_entity default_of_kind default_within does_fit same_kind
 singleton_row = refl
 
 -- and refuses them
-singleton_arguments_row : created parts_plan registry (codes "demo.Only") (any_long 5 ∷ []) ≡ Err BadArguments
+singleton_arguments_row : created parts_plan parts_registry (codes "demo.Only") (any_long 5 ∷ []) ≡ Err BadArguments
 unfolding created first_taken all_taken fields_with find_entity default_of_kind default_within does_fit same_kind
 singleton_arguments_row = refl
 
@@ -136,19 +110,19 @@ abbrev given : List Plain → Variable
 given args = record { name = codes "Arguments"; value = v.list kd.any (plains args) }
 
 -- createInstance asks for a name without arguments
-create_instance_row : effect parts_plan registry (asked 3 (named_part ∷ [])) ≡ creates (codes "demo.Part") []
+create_instance_row : effect parts_plan parts_registry (asked 3 (named_part ∷ [])) ≡ creates (codes "demo.Part") []
 unfolding effect numbered met_within is_met visit_all find_entity body_effect manager manager_effect service_names value_under is_heavy is_deep weight weights
     depth depth_in leaving out_values
 create_instance_row = refl
 
 -- createInstanceWithArguments with those that it got
-create_with_arguments_row : effect parts_plan registry (asked 4 (named_part ∷ (given (any_long 5 ∷ []) ∷ []))) ≡ creates (codes "demo.Part") (any_long 5 ∷ [])
+create_with_arguments_row : effect parts_plan parts_registry (asked 4 (named_part ∷ (given (any_long 5 ∷ []) ∷ []))) ≡ creates (codes "demo.Part") (any_long 5 ∷ [])
 unfolding effect numbered met_within is_met visit_all find_entity body_effect manager manager_effect service_names value_under is_heavy is_deep weight weights
     depth depth_in leaving out_values
 create_with_arguments_row = refl
 
 -- the names of the services alone
-names_row : effect parts_plan registry (asked 5 []) ≡ returns (v.list kd.str (plains (v.str (codes "demo.Part") ∷ []))) []
+names_row : effect parts_plan parts_registry (asked 5 []) ≡ returns (v.list kd.str (plains (v.str (codes "demo.Part") ∷ []))) []
 unfolding effect numbered met_within is_met visit_all find_entity body_effect manager manager_effect service_names value_under is_heavy is_deep weight weights
     depth depth_in leaving out_values
 names_row = refl
