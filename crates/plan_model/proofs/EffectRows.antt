@@ -10,9 +10,10 @@ use Rattle.uno_model.specs.Registry.{find_entity, members_within}
 use Rattle.uno_model.specs.Values.{Plain, Ref, null, own, peer, depth, depth_in}
 use Rattle.uno_model.specs.Values as v
 use Rattle.uno_model.specs.Weights.{weight, weights}
-use Rattle.plan_model.specs.Effects.{Effect, effect, returns, raises, calls, skips, sets_field, disposes}
-use Rattle.plan_model.specs.Effects.{message_of, leaving, out_values, return_effect, default_effect, given_values, number_in, is_full, call_effect, let_effect}
-use Rattle.plan_model.specs.Effects.{set_field_effect, when_effect, raise_effect, statement_effect, manager_effect, body_effect}
+use Rattle.plan_model.specs.Asking.{Effect, returns, raises, calls, skips, sets_field, disposes, out_values}
+use Rattle.plan_model.specs.Calling.{given_values, number_in, is_full, call_effect}
+use Rattle.plan_model.specs.Effects.{effect, return_effect, default_effect, set_field_effect, when_effect, raise_effect, statement_effect, body_effect}
+use Rattle.plan_model.specs.Leaving.{message_of, leaving}
 use Rattle.plan_model.specs.Evaluation.{value_under, value_of, values_of, is_heavy, is_deep, evaluated, same_value, same_values}
 use Rattle.plan_model.specs.Frames.{Variable, Job, body}
 use Rattle.plan_model.specs.Plans.{Plan, manager}

@@ -21,12 +21,14 @@ use Rattle.plan_model.specs.Fitting.{all_fits}
 use Rattle.plan_model.specs.Forms.{is_type_text, is_behind_bracket, is_function_text, is_export_name, is_term, are_terms, is_line, is_root_term, are_root_terms}
 use Rattle.plan_model.specs.Keeps.{has_form, reason_of, first_wrong, closed}
 use Rattle.plan_model.specs.KnownNames.{is_term_known, are_terms_known, names_are_known}
-use Rattle.plan_model.specs.Limits.{term_depth, terms_depth, parentheses, parentheses_in, is_flat, terms_are_flat, has_room, block_has_room, plan_has_room, is_within_limits}
+use Rattle.plan_model.specs.Limits.{term_depth, terms_depth, parentheses, parentheses_in, is_flat, terms_are_flat, has_room, block_has_room, plan_has_room, keeps_limits}
 use Rattle.plan_model.specs.LinePlaces.{last_ends, may_stand}
 use Rattle.plan_model.specs.Lines.{Term, leaf, operation, members, word, terms, Line, Declared, behaviour, field, method, export, end_line, set_field, call, when, return, raise, dispose, let_variable}
 use Rattle.plan_model.specs.NewNames.{names_are_new}
 use Rattle.plan_model.specs.PlanText.{line_text, line_words, term_text, terms_text, behind_comma}
-use Rattle.plan_model.specs.Typing.{expression_of, all_at, each_at, argument_of, arguments_of, call_of, query_of, making_of, statement_of, root_statement_of}
+use Rattle.plan_model.specs.Plans.{supports}
+use Rattle.plan_model.specs.TypedStatements.{call_of, query_of, making_of, statement_of, root_statement_of}
+use Rattle.plan_model.specs.Typing.{expression_of, all_at, each_at, argument_of, arguments_of}
 use Rattle.plan_model.specs.declared.comparison.Comparison.TheVariants.{Equal}
 use Rattle.plan_model.specs.declared.line_reason.LineReason.TheVariants.{Form, Unknown, Twice, Misfit, Limit, Open}
 use Rattle.plan_model.specs.declared.operation.Operation.TheVariants.{Add, Sub}
@@ -64,16 +66,16 @@ node_text_row = refl
 -- they make the node plan
 node_made_row : behind_all demo node_lines opening ≡ closed node_plan
 unfolding behind_all behind declared_function find_entity parameters type_of_text kind_within simple_of statement_of expression_of all_at each_at
-    kind_of_word kind_of_variable kind_of_field call_of called_function arguments_of argument_of met_within is_met visit_all members_within is_base_of
+    kind_of_word kind_of_variable kind_of_field call_of called_function arguments_of argument_of met_within is_met visit_all members_within supports is_base_of
     reaches_within same_kind first_item number_named
 node_made_row = refl
 
 -- and none of them is wrong
 node_right_row : first_wrong demo opening node_lines ≡ None
 unfolding first_wrong reason_of has_form is_line is_type_text is_behind_bracket is_function_text is_export_name is_term are_terms is_root_term are_root_terms
-    parts_of all_differ may_stand last_ends names_are_known is_term_known are_terms_known names_are_new all_fits is_within_limits terms_are_flat plan_has_room
+    parts_of all_differ may_stand last_ends names_are_known is_term_known are_terms_known names_are_new all_fits keeps_limits terms_are_flat plan_has_room
     block_has_room has_room is_flat term_depth terms_depth parentheses parentheses_in behind_all behind declared_function find_entity parameters
     type_of_text kind_within simple_of statement_of root_statement_of expression_of all_at each_at kind_of_word kind_of_variable kind_of_field call_of query_of
-    making_of called_function arguments_of argument_of met_within is_met visit_all members_within is_base_of reaches_within same_kind first_item number_named
+    making_of called_function arguments_of argument_of met_within is_met visit_all members_within supports is_base_of reaches_within same_kind first_item number_named
     is_utf8 chars encode
 node_right_row = refl

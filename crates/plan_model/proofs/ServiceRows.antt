@@ -12,11 +12,13 @@ use Rattle.uno_model.specs.Registry.{find_entity}
 use Rattle.uno_model.specs.Values.{Plain, plains, depth, depth_in}
 use Rattle.uno_model.specs.Values as v
 use Rattle.uno_model.specs.Weights.{weight, weights}
-use Rattle.plan_model.specs.Effects.{effect, creates, returns, body_effect, manager_effect, leaving, out_values}
+use Rattle.plan_model.specs.Asking.{creates, returns, out_values}
+use Rattle.plan_model.specs.Effects.{effect, body_effect, manager_effect}
+use Rattle.plan_model.specs.Leaving.{leaving}
 use Rattle.plan_model.specs.Evaluation.{value_under, is_heavy, is_deep}
 use Rattle.plan_model.specs.Frames.{Variable, Job, body}
 use Rattle.plan_model.specs.Plans.{Plan, Behaviour, manager}
-use Rattle.plan_model.specs.Services.{Created, fresh, singleton, all_taken, first_taken, fields_with, created, service_names}
+use Rattle.plan_model.specs.Services.{Created, fresh, singleton, all_filled, first_filled, fields_with, created, service_names}
 use Rattle.plan_model.specs.declared.refusal.Refusal.{Refusal}
 use Rattle.plan_model.specs.declared.refusal.Refusal.TheVariants.{UnknownService, BadArguments}
 use Rattle.plan_model.proofs.DemoPlans.{long, param, parts_registry}
@@ -52,43 +54,43 @@ a_part id what more = Ok (fresh 0 (id ∷ (what ∷ (v.list kd.any (plains more)
 
 -- without arguments all fields have their defaults
 no_arguments_row : created parts_plan parts_registry (codes "demo.Part") [] ≡ a_part (long 0) (v.any kd.void v.void) []
-unfolding created first_taken all_taken fields_with find_entity default_of_kind default_within does_fit same_kind
+unfolding created first_filled all_filled fields_with find_entity default_of_kind default_within does_fit same_kind
 no_arguments_row = refl
 
 -- an any whose content fits a parameter
 one_argument_row : created parts_plan parts_registry (codes "demo.Part") (any_long 5 ∷ []) ≡ a_part (long 5) (v.any kd.void v.void) []
-unfolding created first_taken all_taken fields_with find_entity default_of_kind default_within does_fit same_kind
+unfolding created first_filled all_filled fields_with find_entity default_of_kind default_within does_fit same_kind
 one_argument_row = refl
 
 -- a parameter of type any gets the any whole, and the rest parameter what is left, which is nothing
 two_arguments_row : created parts_plan parts_registry (codes "demo.Part") (any_long 5 ∷ (any_text (codes "a") ∷ [])) ≡ a_part (long 5) (any_text (codes "a")) []
-unfolding created first_taken all_taken fields_with find_entity default_of_kind default_within does_fit same_kind
+unfolding created first_filled all_filled fields_with find_entity default_of_kind default_within does_fit same_kind
 two_arguments_row = refl
 
 -- the rest parameter gets all that follow, each whole
 rest_row : created parts_plan parts_registry (codes "demo.Part") (any_long 5 ∷ (any_text (codes "a") ∷ (any_long 6 ∷ (any_text (codes "b") ∷ []))))
     ≡ a_part (long 5) (any_text (codes "a")) (any_long 6 ∷ (any_text (codes "b") ∷ []))
-unfolding created first_taken all_taken fields_with find_entity default_of_kind default_within does_fit same_kind
+unfolding created first_filled all_filled fields_with find_entity default_of_kind default_within does_fit same_kind
 rest_row = refl
 
 -- a text is no long
 bad_arguments_row : created parts_plan parts_registry (codes "demo.Part") (any_text (codes "a") ∷ []) ≡ Err BadArguments
-unfolding created first_taken all_taken fields_with find_entity default_of_kind default_within does_fit same_kind
+unfolding created first_filled all_filled fields_with find_entity default_of_kind default_within does_fit same_kind
 bad_arguments_row = refl
 
 -- a name that the plan has not
 unknown_service_row : created parts_plan parts_registry (codes "x") [] ≡ Err UnknownService
-unfolding created first_taken all_taken fields_with find_entity default_of_kind default_within does_fit same_kind
+unfolding created first_filled all_filled fields_with find_entity default_of_kind default_within does_fit same_kind
 unknown_service_row = refl
 
 -- a singleton, which takes no arguments
 singleton_row : created parts_plan parts_registry (codes "demo.Only") [] ≡ Ok (singleton 0)
-unfolding created first_taken all_taken fields_with find_entity default_of_kind default_within does_fit same_kind
+unfolding created first_filled all_filled fields_with find_entity default_of_kind default_within does_fit same_kind
 singleton_row = refl
 
 -- and refuses them
 singleton_arguments_row : created parts_plan parts_registry (codes "demo.Only") (any_long 5 ∷ []) ≡ Err BadArguments
-unfolding created first_taken all_taken fields_with find_entity default_of_kind default_within does_fit same_kind
+unfolding created first_filled all_filled fields_with find_entity default_of_kind default_within does_fit same_kind
 singleton_arguments_row = refl
 
 -- a job of the service manager

@@ -12,36 +12,36 @@ use Rattle.plan_model.specs.Lines.{Line}
 use Rattle.plan_model.specs.Lines as line
 use Rattle.plan_model.specs.Plans.{Plan, Behaviour, Method}
 use Rattle.plan_model.specs.Statements.{Statement, RootStatement, let_variable, call, query, make, drop_variable, ask, ask_instance, root_call, root_query, root_make, root_drop}
-use Rattle.plan_model.specs.Typing.{statement_of, root_statement_of}
+use Rattle.plan_model.specs.TypedStatements.{statement_of, root_statement_of}
 
 -- ---- variables
 
-abbrev pub with_variable : List ℕ → Kind → Context → Context
-with_variable name k c = record c { variables = c.variables ++ record { name = name; kind = k; comes_out = false } ∷ [] }
+abbrev pub with_scoped : List ℕ → Kind → Context → Context
+with_scoped name k c = record c { variables = c.variables ++ record { name = name; kind = k; comes_out = false } ∷ [] }
 
-abbrev pub without_variable : List ℕ → Context → Context
-without_variable name c = record c { variables = filter (λ x. not (bytes_eq name x.name)) c.variables }
+abbrev pub without_scoped : List ℕ → Context → Context
+without_scoped name c = record c { variables = filter (λ x. not (bytes_eq name x.name)) c.variables }
 
 abbrev pub with_result : Option Field → Context → Context
 with_result None c = c
-with_result (Some f) c = with_variable f.name f.kind c
+with_result (Some f) c = with_scoped f.name f.kind c
 
 -- the variables behind a statement
 abbrev pub behind_statement : Statement → Context → Context
-behind_statement (let_variable f a) c = with_variable f.name f.kind c
+behind_statement (let_variable f a) c = with_scoped f.name f.kind c
 behind_statement (call x) c = with_result x.to c
-behind_statement (query q) c = with_variable q.to (kd.interface q.wanted) c
-behind_statement (make m) c = with_variable m.to (kd.interface m.face) c
-behind_statement (drop_variable name) c = without_variable name c
+behind_statement (query q) c = with_scoped q.to (kd.interface q.wanted) c
+behind_statement (make m) c = with_scoped m.to (kd.interface m.face) c
+behind_statement (drop_variable name) c = without_scoped name c
 behind_statement s c = c
 
 abbrev pub behind_root_statement : RootStatement → Context → Context
-behind_root_statement (ask to wanted name) c = with_variable to (kd.interface wanted) c
-behind_root_statement (ask_instance to wanted) c = with_variable to (kd.interface wanted) c
+behind_root_statement (ask to wanted name) c = with_scoped to (kd.interface wanted) c
+behind_root_statement (ask_instance to wanted) c = with_scoped to (kd.interface wanted) c
 behind_root_statement (root_call x) c = with_result x.to c
-behind_root_statement (root_query q) c = with_variable q.to (kd.interface q.wanted) c
-behind_root_statement (root_make m) c = with_variable m.to (kd.interface m.face) c
-behind_root_statement (root_drop name) c = without_variable name c
+behind_root_statement (root_query q) c = with_scoped q.to (kd.interface q.wanted) c
+behind_root_statement (root_make m) c = with_scoped m.to (kd.interface m.face) c
+behind_root_statement (root_drop name) c = without_scoped name c
 behind_root_statement s c = c
 
 -- ---- blocks

@@ -17,7 +17,7 @@ use Rattle.plan_model.specs.Plans.{Plan, empty_plan, Behaviour, Method, Offer}
 use Rattle.plan_model.specs.Statements.{RootStatement}
 
 -- a variable that is known, its type, and whether it is a parameter whose value comes out
-pub record Known : Type 0 where
+pub record Scoped : Type 0 where
   pub name : List ℕ
   pub kind : Kind
   pub comes_out : Bool
@@ -32,7 +32,7 @@ pub data Block : Type 0 where
 pub record Context : Type 0 where
   pub plan : Plan
   pub block : Block
-  pub variables : List Known
+  pub variables : List Scoped
 
 abbrev pub opening : Context
 opening = record { plan = empty_plan; block = at_top; variables = [] }
@@ -66,7 +66,7 @@ known_fields c = first_fields (open_behaviours c.block)
 
 -- ---- words
 
-abbrev pub known_variable : Context → List ℕ → Option Known
+abbrev pub known_variable : Context → List ℕ → Option Scoped
 known_variable c name = find (λ x. bytes_eq name x.name) c.variables
 
 -- the own object is of the interface that declares the function
@@ -108,6 +108,6 @@ kind_fits reg (kd.interface wanted) (kd.interface from) = is_base_of reg wanted 
 kind_fits reg wanted from = same_kind wanted from
 
 -- the parameters of a function as variables
-unfoldable pub parameters : List Param → List Known
+unfoldable pub parameters : List Param → List Scoped
 parameters [] = []
 parameters (p ∷ ps) = record { name = p.name; kind = p.kind; comes_out = comes p.way } ∷ parameters ps

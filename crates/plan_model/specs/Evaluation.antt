@@ -39,19 +39,19 @@ value_of_word s e.own = v.ref s.own
 
 -- ---- operations
 
-abbrev pub result_of : Operation → ℤ → ℤ → ℤ
-result_of Add a b = a +ℤ b
-result_of Sub a b = a -ℤ b
+abbrev pub combined : Operation → ℤ → ℤ → ℤ
+combined Add a b = a +ℤ b
+combined Sub a b = a -ℤ b
 
 -- the result of an operation on two numbers of one whole type, where it is one of that type
 abbrev pub operated : Operation → Plain → Plain → Option Plain
-operated op (v.byte a) (v.byte b) = numeric kd.byte (number (result_of op a b))
-operated op (v.short a) (v.short b) = numeric kd.short (number (result_of op a b))
-operated op (v.unsigned_short a) (v.unsigned_short b) = numeric kd.unsigned_short (number (result_of op (pos a) (pos b)))
-operated op (v.long a) (v.long b) = numeric kd.long (number (result_of op a b))
-operated op (v.unsigned_long a) (v.unsigned_long b) = numeric kd.unsigned_long (number (result_of op (pos a) (pos b)))
-operated op (v.hyper a) (v.hyper b) = numeric kd.hyper (number (result_of op a b))
-operated op (v.unsigned_hyper a) (v.unsigned_hyper b) = numeric kd.unsigned_hyper (number (result_of op (pos a) (pos b)))
+operated op (v.byte a) (v.byte b) = numeric kd.byte (number (combined op a b))
+operated op (v.short a) (v.short b) = numeric kd.short (number (combined op a b))
+operated op (v.unsigned_short a) (v.unsigned_short b) = numeric kd.unsigned_short (number (combined op (pos a) (pos b)))
+operated op (v.long a) (v.long b) = numeric kd.long (number (combined op a b))
+operated op (v.unsigned_long a) (v.unsigned_long b) = numeric kd.unsigned_long (number (combined op (pos a) (pos b)))
+operated op (v.hyper a) (v.hyper b) = numeric kd.hyper (number (combined op a b))
+operated op (v.unsigned_hyper a) (v.unsigned_hyper b) = numeric kd.unsigned_hyper (number (combined op (pos a) (pos b)))
 operated op x y = None
 
 -- ---- values

@@ -10,9 +10,9 @@ use Rattle.uno_model.specs.Registry.{find_entity}
 use Rattle.plan_model.specs.Contexts.{Context, Block, in_behaviour, in_thread, behaviour_named}
 use Rattle.plan_model.specs.Lines.{Line}
 use Rattle.plan_model.specs.Lines as line
-use Rattle.plan_model.specs.Plans.{Behaviour}
+use Rattle.plan_model.specs.Plans.{Behaviour, supports}
 use Rattle.plan_model.specs.Services.{constructors_of}
-use Rattle.plan_model.specs.Typing.{has_face, supports_named, statement_of, root_statement_of}
+use Rattle.plan_model.specs.TypedStatements.{supports_named, statement_of, root_statement_of}
 
 -- the interface of a service or a singleton of the new form
 abbrev pub base_in : plain.Body → List ℕ
@@ -45,7 +45,7 @@ service_fits reg b e = supports_named reg b (base_of e) && serves_all b (constru
 
 -- a method is of a behaviour that supports the interface
 abbrev pub method_fits : List Entity → Block → List ℕ → Bool
-method_fits reg (in_behaviour b) face = has_face reg b face
+method_fits reg (in_behaviour b) face = supports reg b.faces face
 method_fits reg b face = false
 
 abbrev pub statement_fits : List Entity → Context → Line → Block → Bool

@@ -10,10 +10,11 @@ use Rattle.uno_model.specs.Kinds as kd
 use Rattle.uno_model.specs.Reaches.{is_base_of}
 use Rattle.uno_model.specs.Values.{Ref, null, own, Plain, refs}
 use Rattle.uno_model.specs.Values as v
-use Rattle.plan_model.specs.Effects.{Effect, lets, sets, sets_field, drops}
+use Rattle.plan_model.specs.Asking.{Effect, lets, sets, sets_field, drops}
 use Rattle.plan_model.specs.Evaluation.{value_under}
 use Rattle.plan_model.specs.Expressions.{Argument, into, out, both}
 use Rattle.plan_model.specs.Frames.{Variable, Body}
+use Rattle.plan_model.specs.Plans.{supports}
 use Rattle.plan_model.specs.Statements.{Call}
 
 -- ---- variables
@@ -107,10 +108,6 @@ unfoldable pub takes_answer : Call → Plain → List Plain → List Variable �
 takes_answer c x outs xs = takes_outs c.arguments outs (takes_result c.to x xs)
 
 -- ---- what the answer to a query does
-
--- an object supports the interfaces to which one of the faces of its behaviour is assignable
-unfoldable pub supports : List Entity → List (List ℕ) → List ℕ → Bool
-supports reg faces wanted = list_any (is_base_of reg wanted) faces
 
 -- the answer to a query of an own object: an any of the wanted interface with the object where it supports it, else the void any
 abbrev pub no_object : Plain

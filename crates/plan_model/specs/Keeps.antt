@@ -7,7 +7,7 @@ use Rattle.plan_model.specs.Contexts.{Context, Block, at_top, opening}
 use Rattle.plan_model.specs.Fitting.{all_fits}
 use Rattle.plan_model.specs.Forms.{is_line}
 use Rattle.plan_model.specs.KnownNames.{names_are_known}
-use Rattle.plan_model.specs.Limits.{is_within_limits}
+use Rattle.plan_model.specs.Limits.{keeps_limits}
 use Rattle.plan_model.specs.LinePlaces.{may_stand}
 use Rattle.plan_model.specs.Lines.{Line}
 use Rattle.plan_model.specs.NewNames.{names_are_new}
@@ -29,7 +29,7 @@ reason_of reg c l =
     else (if not (names_are_known reg c l) then Some Unknown
     else (if not (names_are_new c l) then Some Twice
     else (if not (all_fits reg c l) then Some Misfit
-    else (if not (is_within_limits c l) then Some Limit
+    else (if not (keeps_limits c l) then Some Limit
     else None))))
 
 -- the first line that is wrong, by its place among the lines from 0

@@ -1,4 +1,6 @@
+pub mod Asking
 pub mod Building
+pub mod Calling
 pub mod Contexts
 pub mod Effects
 pub mod Evaluation
@@ -9,6 +11,7 @@ pub mod Frames
 pub mod Holdings
 pub mod Keeps
 pub mod KnownNames
+pub mod Leaving
 pub mod Limits
 pub mod LinePlaces
 pub mod Lines
@@ -17,4 +20,5 @@ pub mod PlanText
 pub mod Plans
 pub mod Services
 pub mod Statements
+pub mod TypedStatements
 pub mod Typing

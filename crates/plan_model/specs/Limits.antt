@@ -72,5 +72,5 @@ plan_has_room c (export name b) = has_room c.plan.exports 256
 plan_has_room c thread = has_room c.plan.threads 32
 plan_has_room c l = block_has_room c.block l
 
-unfoldable pub is_within_limits : Context → Line → Bool
-is_within_limits c l = terms_are_flat l && plan_has_room c l
+unfoldable pub keeps_limits : Context → Line → Bool
+keeps_limits c l = terms_are_flat l && plan_has_room c l

@@ -31,43 +31,43 @@ content_of (v.any k x) = x
 content_of x = x
 
 -- a parameter of type any takes an any whole, another one takes the content that fits it
-abbrev pub taken : List Entity → Field → Plain → Option Variable
-taken reg p arg = whole p.kind
+abbrev pub filled : List Entity → Field → Plain → Option Variable
+filled reg p arg = whole p.kind
   where
     whole : Kind → Option Variable
     whole kd.any = Some (record { name = p.name; value = arg })
     whole k = if does_fit reg (content_of arg) k then Some (record { name = p.name; value = content_of arg }) else None
 
 -- the arguments behind the parameters: none, or those of the rest parameter, each whole
-abbrev pub rest_taken : Option (List ℕ) → List Plain → Option (List Variable)
-rest_taken None [] = Some []
-rest_taken None (arg ∷ args) = None
-rest_taken (Some name) args = Some (record { name = name; value = v.list kd.any (plains args) } ∷ [])
+abbrev pub rest_filled : Option (List ℕ) → List Plain → Option (List Variable)
+rest_filled None [] = Some []
+rest_filled None (arg ∷ args) = None
+rest_filled (Some name) args = Some (record { name = name; value = v.list kd.any (plains args) } ∷ [])
 
 -- the arguments under the names of the parameters, where they fit them in number and type
-unfoldable pub all_taken : List Entity → List Field → Option (List ℕ) → List Plain → Option (List Variable)
-all_taken reg [] rest args = rest_taken rest args
-all_taken reg (p ∷ ps) rest [] = None
-all_taken reg (p ∷ ps) rest (arg ∷ args) = with_first (taken reg p arg) (all_taken reg ps rest args)
+unfoldable pub all_filled : List Entity → List Field → Option (List ℕ) → List Plain → Option (List Variable)
+all_filled reg [] rest args = rest_filled rest args
+all_filled reg (p ∷ ps) rest [] = None
+all_filled reg (p ∷ ps) rest (arg ∷ args) = with_first (filled reg p arg) (all_filled reg ps rest args)
   where
     with_first : Option Variable → Option (List Variable) → Option (List Variable)
     with_first (Some x) (Some xs) = Some (x ∷ xs)
     with_first x xs = None
 
 -- what the first constructor that takes the arguments takes
-unfoldable pub first_taken : List Entity → List Constructor → List Plain → Option (List Variable)
-first_taken reg [] args = None
-first_taken reg (c ∷ cs) args = option_or (all_taken reg c.params c.rest args) (first_taken reg cs args)
+unfoldable pub first_filled : List Entity → List Constructor → List Plain → Option (List Variable)
+first_filled reg [] args = None
+first_filled reg (c ∷ cs) args = option_or (all_filled reg c.params c.rest args) (first_filled reg cs args)
 
 -- ---- the fields of what is made
 
 -- the value that was taken under a field's name, or the default of its type
 abbrev pub field_value : List Entity → List Variable → Field → Plain
-field_value reg xs f = of_taken (find (λ x. bytes_eq f.name x.name) xs)
+field_value reg xs f = of_filled (find (λ x. bytes_eq f.name x.name) xs)
   where
-    of_taken : Option Variable → Plain
-    of_taken (Some x) = x.value
-    of_taken None = default_of_kind reg f.kind
+    of_filled : Option Variable → Plain
+    of_filled (Some x) = x.value
+    of_filled None = default_of_kind reg f.kind
 
 unfoldable pub fields_with : List Entity → List Variable → List Field → List Plain
 fields_with reg xs fs = map (field_value reg xs) fs
@@ -88,7 +88,7 @@ constructors_of (Some e) = of_body e.body
     of_body _ = []
 
 abbrev pub of_service : List Entity → Plan → Offer → List Plain → Result Created Refusal
-of_service reg plan o args = made (first_taken reg (constructors_of (find_entity o.name reg)) args)
+of_service reg plan o args = made (first_filled reg (constructors_of (find_entity o.name reg)) args)
   where
     made : Option (List Variable) → Result Created Refusal
     made None = Err BadArguments
