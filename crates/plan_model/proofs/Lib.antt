@@ -5,4 +5,5 @@ mod HoldingRows
 mod LineRows
 mod ServiceRows
 mod StackRows
+mod TextRows
 mod WrongLineRows
