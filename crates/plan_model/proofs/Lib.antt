@@ -3,6 +3,7 @@ mod DemoPlans
 mod EffectRows
 mod HoldingRows
 mod LineRows
+mod RootRows
 mod ServiceRows
 mod StackRows
 mod TextRows

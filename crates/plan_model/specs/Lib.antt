@@ -18,6 +18,7 @@ pub mod Lines
 pub mod NewNames
 pub mod PlanText
 pub mod Plans
+pub mod Roots
 pub mod Services
 pub mod Statements
 pub mod TypedStatements
