@@ -15,11 +15,11 @@ use Rattle.uno_model.specs.Reaches.{reaches_within, is_base_of}
 use Rattle.uno_model.specs.Registry.{find_entity, members_within}
 use Rattle.uno_model.specs.Sound.{all_differ}
 use Rattle.plan_model.specs.Building.{behind, behind_all}
-use Rattle.plan_model.specs.Contexts.{opening, kind_of_variable, kind_of_field, kind_of_word, declared_function, called_function, parameters}
+use Rattle.plan_model.specs.Contexts.{Context, at_top, opening, kind_of_variable, kind_of_field, kind_of_word, declared_function, called_function, parameters}
 use Rattle.plan_model.specs.Expressions.{variable, own}
 use Rattle.plan_model.specs.Fitting.{all_fits}
 use Rattle.plan_model.specs.Forms.{is_type_text, is_behind_bracket, is_function_text, is_export_name, is_term, are_terms, is_line, is_root_term, are_root_terms}
-use Rattle.plan_model.specs.Keeps.{has_form, reason_of, first_wrong, closed}
+use Rattle.plan_model.specs.Keeps.{has_form, reason_of, first_wrong}
 use Rattle.plan_model.specs.KnownNames.{is_term_known, are_terms_known, names_are_known}
 use Rattle.plan_model.specs.Limits.{term_depth, terms_depth, parentheses, parentheses_in, is_flat, terms_are_flat, has_room, block_has_room, plan_has_room, keeps_limits}
 use Rattle.plan_model.specs.LinePlaces.{last_ends, may_stand}
@@ -64,7 +64,7 @@ unfolding line_words term_text terms_text behind_comma digits
 node_text_row = refl
 
 -- they make the node plan
-node_made_row : behind_all demo node_lines opening ≡ closed node_plan
+node_made_row : behind_all demo node_lines opening ≡ record { plan = node_plan; block = at_top; variables = [] }
 unfolding behind_all behind declared_function find_entity parameters type_of_text kind_within simple_of statement_of expression_of all_at each_at
     kind_of_word kind_of_variable kind_of_field call_of called_function arguments_of argument_of met_within is_met visit_all members_within supports is_base_of
     reaches_within same_kind first_item number_named

@@ -13,11 +13,11 @@ use Rattle.uno_model.specs.Values.{Plain, plains, depth, depth_in}
 use Rattle.uno_model.specs.Values as v
 use Rattle.uno_model.specs.Weights.{weight, weights}
 use Rattle.plan_model.specs.Asking.{creates, returns, out_values}
-use Rattle.plan_model.specs.Effects.{effect, body_effect, manager_effect}
+use Rattle.plan_model.specs.Effects.{effect, body_effect, manager_effect, values_in}
 use Rattle.plan_model.specs.Leaving.{leaving}
 use Rattle.plan_model.specs.Evaluation.{value_under, is_heavy, is_deep}
 use Rattle.plan_model.specs.Frames.{Variable, Job, body}
-use Rattle.plan_model.specs.Plans.{Plan, Behaviour, manager}
+use Rattle.plan_model.specs.Plans.{Plan, Behaviour, manager, first_objects, exported, singleton_object}
 use Rattle.plan_model.specs.Services.{Created, fresh, singleton, all_filled, first_filled, fields_with, created, service_names}
 use Rattle.plan_model.specs.declared.refusal.Refusal.{Refusal}
 use Rattle.plan_model.specs.declared.refusal.Refusal.TheVariants.{UnknownService, BadArguments}
@@ -114,17 +114,30 @@ given args = record { name = codes "Arguments"; value = v.list kd.any (plains ar
 -- createInstance asks for a name without arguments
 create_instance_row : effect parts_plan parts_registry (asked 3 (named_part ∷ [])) ≡ creates (codes "demo.Part") []
 unfolding effect numbered met_within is_met visit_all find_entity body_effect manager manager_effect service_names value_under is_heavy is_deep weight weights
-    depth depth_in leaving out_values
+    depth depth_in leaving out_values values_in
 create_instance_row = refl
 
 -- createInstanceWithArguments with those that it got
 create_with_arguments_row : effect parts_plan parts_registry (asked 4 (named_part ∷ (given (any_long 5 ∷ []) ∷ []))) ≡ creates (codes "demo.Part") (any_long 5 ∷ [])
 unfolding effect numbered met_within is_met visit_all find_entity body_effect manager manager_effect service_names value_under is_heavy is_deep weight weights
-    depth depth_in leaving out_values
+    depth depth_in leaving out_values values_in
 create_with_arguments_row = refl
 
 -- the names of the services alone
 names_row : effect parts_plan parts_registry (asked 5 []) ≡ returns (v.list kd.str (plains (v.str (codes "demo.Part") ∷ []))) []
 unfolding effect numbered met_within is_met visit_all find_entity body_effect manager manager_effect service_names value_under is_heavy is_deep weight weights
-    depth depth_in leaving out_values
+    depth depth_in leaving out_values values_in
 names_row = refl
+
+-- the service manager and the singleton are there from the beginning
+objects_row : first_objects parts_plan ≡ manager ∷ (0 ∷ [])
+unfolding first_objects
+objects_row = refl
+
+manager_row : exported parts_plan (codes "ServiceManager") ≡ Some 1
+unfolding exported
+manager_row = refl
+
+singleton_object_row : singleton_object parts_plan 0 ≡ 2
+unfolding singleton_object
+singleton_object_row = refl

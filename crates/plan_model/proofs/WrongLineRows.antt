@@ -19,7 +19,7 @@ use Rattle.plan_model.specs.Contexts.{opening, kind_of_variable, kind_of_field, 
 use Rattle.plan_model.specs.Expressions.{variable, own}
 use Rattle.plan_model.specs.Fitting.{all_fits}
 use Rattle.plan_model.specs.Forms.{is_type_text, is_behind_bracket, is_function_text, is_export_name, is_term, are_terms, is_line, is_root_term, are_root_terms}
-use Rattle.plan_model.specs.Keeps.{has_form, reason_of, first_wrong, closed}
+use Rattle.plan_model.specs.Keeps.{has_form, reason_of, first_wrong}
 use Rattle.plan_model.specs.KnownNames.{is_term_known, are_terms_known, names_are_known}
 use Rattle.plan_model.specs.Limits.{term_depth, terms_depth, parentheses, parentheses_in, is_flat, terms_are_flat, has_room, block_has_room, plan_has_room, keeps_limits}
 use Rattle.plan_model.specs.LinePlaces.{last_ends, may_stand}

@@ -75,7 +75,7 @@ abbrev pub text_of : Plain → List ℕ
 text_of (v.str s) = s
 text_of x = []
 
-abbrev pub values_in : Plains → List Plain
+unfoldable pub values_in : Plains → List Plain
 values_in v.none = []
 values_in (v.more x xs) = x ∷ values_in xs
 

@@ -61,7 +61,7 @@ abbrev pub byte_of : Plain → ℕ
 byte_of (v.byte n) = cast_unsigned w8 n
 byte_of x = 0
 
-abbrev pub bytes_of : Plains → List ℕ
+unfoldable pub bytes_of : Plains → List ℕ
 bytes_of v.none = []
 bytes_of (v.more x xs) = byte_of x ∷ bytes_of xs
 

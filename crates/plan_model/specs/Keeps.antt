@@ -43,15 +43,12 @@ first_wrong reg c (l ∷ ls) = or_later (reason_of reg c l) (first_wrong reg (be
 
 -- ---- plans that keep the rules
 
--- all blocks are closed
-abbrev pub closed : Plan → Context
-closed p = record { plan = p; block = at_top; variables = [] }
-
--- a plan that lines make, of which none is wrong
+-- a plan that lines make, of which none is wrong, and at whose end no block is open
 pub record KeepsTheRules (reg : List Entity) (p : Plan) : Type 0 where
   pub lines : List Line
   pub right : first_wrong reg opening lines ≡ None
-  pub made : behind_all reg lines opening ≡ closed p
+  pub closed : (behind_all reg lines opening).block ≡ at_top
+  pub made : (behind_all reg lines opening).plan ≡ p
 
 -- ---- what comes of a text
 

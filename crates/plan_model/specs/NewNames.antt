@@ -2,17 +2,10 @@
 use Rattle.std.specs.Prelude.{ℕ, Bool, true, false, not, ◌&&◌, ◌||◌, List, [], ◌∷◌, ◌++◌, Option, None, Some, codes}
 use Rattle.std.specs.List.{list_any}
 use Rattle.std.specs.Str.{bytes_eq}
-use Rattle.uno_model.specs.Sound.{is_some_list, all_differ}
+use Rattle.uno_model.specs.Sound.{all_differ}
 use Rattle.plan_model.specs.Contexts.{Context, Block, open_behaviours, behaviours_before, known_fields}
 use Rattle.plan_model.specs.Lines.{Declared, Line, behaviour, field, method, service, singleton, export, let_variable, call, query, make, ask, ask_instance}
-use Rattle.plan_model.specs.Plans.{Plan, Behaviour, Method, Export, Offer}
-
--- the export of the service manager, which a plan with a service or a singleton has
-abbrev pub manager_name : List ℕ
-manager_name = codes "ServiceManager"
-
-abbrev pub has_offers : Plan → Bool
-has_offers p = is_some_list p.services || is_some_list p.singletons
+use Rattle.plan_model.specs.Plans.{Plan, manager_name, has_offers, Behaviour, Method, Export, Offer}
 
 abbrev pub has_export : Plan → List ℕ → Bool
 has_export p name = list_any (λ e. bytes_eq name e.name) p.exports

@@ -5,7 +5,7 @@ use Rattle.std.specs.Str.{bytes_eq}
 use Rattle.literal_model.specs.Literals.{Token, opens, closes, comma, square, curly, string, spell, quoted}
 use Rattle.plan_model.specs.Expressions.{Word, variable, own}
 use Rattle.plan_model.specs.Expressions as expression
-use Rattle.plan_model.specs.Lines.{Term, Terms, leaf, type_named, void_any, typed, elements, members, word, operation, none, more, Declared}
+use Rattle.plan_model.specs.Lines.{Term, Terms, leaf, type_named, void_any, typed, elements, members, word, operation, none, more, terms, Declared}
 use Rattle.plan_model.specs.Lines.{Line, behaviour, field, method, service, singleton, export, thread, end_line, let_variable, set_variable, set_field}
 use Rattle.plan_model.specs.Lines.{call, query, make, drop_variable, when, return, raise, dispose, ask, ask_instance, same}
 use Rattle.plan_model.specs.declared.comparison.Comparison.{Comparison}
@@ -60,7 +60,7 @@ abbrev pub declared_words : Declared → List (List ℕ)
 declared_words d = d.name ∷ (d.kind ∷ (codes "=" ∷ []))
 
 abbrev pub call_text : Word → List ℕ → List Term → List ℕ
-call_text target function args = word_text target ++ (codes "." ++ (function ++ (codes "(" ++ (join_with_byte 44 (map term_text args) ++ codes ")"))))
+call_text target function args = word_text target ++ (codes "." ++ (function ++ (codes "(" ++ (terms_text (terms args) ++ codes ")"))))
 
 abbrev pub result_words : Option Declared → List (List ℕ)
 result_words None = []

@@ -1,9 +1,12 @@
 -- Plans as plain trees: what objects do, which are exported, which services make them, and what each root does.
-use Rattle.std.specs.Prelude.{ℕ, Bool, ◌==◌, List, [], ◌∷◌, Option, None, Some, slice_get, if◌then◌else◌}
-use Rattle.std.specs.List.{list_any}
+use Rattle.std.specs.Prelude.{ℕ, suc, ◌+◌, Bool, ◌&&◌, ◌||◌, ◌==◌, List, [], ◌∷◌, ◌++◌, length, map, Option, None, Some, slice_get, codes, if◌then◌else◌}
+use Rattle.std.specs.List.{list_any, position}
+use Rattle.std.specs.Option.{option_map, option_or}
+use Rattle.std.specs.Str.{bytes_eq}
 use Rattle.uno_model.specs.BuiltIn.{factory_name}
 use Rattle.uno_model.specs.Entities.{Entity, Field}
 use Rattle.uno_model.specs.Reaches.{is_base_of}
+use Rattle.uno_model.specs.Sound.{is_some_list}
 use Rattle.plan_model.specs.Statements.{Statement, RootStatement}
 
 -- the statements of a function, which the interface `face` declares
@@ -56,3 +59,27 @@ faces_of p n = if n == manager then factory_name ∷ [] else faces_in (slice_get
 -- an object supports the interfaces to which one of its faces is assignable
 unfoldable pub supports : List Entity → List (List ℕ) → List ℕ → Bool
 supports reg faces wanted = list_any (is_base_of reg wanted) faces
+
+-- ---- the objects that are there from the beginning
+
+-- the name of the service manager, which a plan with a service or a singleton exports
+abbrev pub manager_name : List ℕ
+manager_name = codes "ServiceManager"
+
+abbrev pub has_offers : Plan → Bool
+has_offers p = is_some_list p.services || is_some_list p.singletons
+
+-- the numbers of their behaviours: those of the exports, and behind them the service manager and the singletons; objects are numbered from 1
+unfoldable pub first_objects : Plan → List ℕ
+first_objects p = map (λ e. e.behaviour) p.exports ++ (if has_offers p then manager ∷ map (λ o. o.behaviour) p.singletons else [])
+
+-- the number of the object that is exported under a name
+abbrev pub manager_named : Plan → List ℕ → Option ℕ
+manager_named p name = if bytes_eq name manager_name && has_offers p then Some (suc (length p.exports)) else None
+
+unfoldable pub exported : Plan → List ℕ → Option ℕ
+exported p name = option_or (option_map suc (position (λ e. bytes_eq name e.name) p.exports)) (manager_named p name)
+
+-- the number of a singleton, by its place among the singletons
+unfoldable pub singleton_object : Plan → ℕ → ℕ
+singleton_object p place = length p.exports + suc (suc place)
