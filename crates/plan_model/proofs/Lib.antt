@@ -3,6 +3,7 @@ mod DemoPlans
 mod EffectRows
 mod HoldingRows
 mod LineRows
+pub mod PlanLaws
 mod RootRows
 mod ServiceRows
 mod StackRows

@@ -33,22 +33,25 @@ reason_of reg c l =
     else None))))
 
 -- the first line that is wrong, by its place among the lines from 0
+abbrev pub or_later : Option LineReason → Option (ℕ × LineReason) → Option (ℕ × LineReason)
+or_later (Some why) later = Some (0, why)
+or_later None later = option_map (λ x. (suc x.0, x.1)) later
+
 unfoldable pub first_wrong : List Entity → Context → List Line → Option (ℕ × LineReason)
 first_wrong reg c [] = None
 first_wrong reg c (l ∷ ls) = or_later (reason_of reg c l) (first_wrong reg (behind reg l c) ls)
-  where
-    or_later : Option LineReason → Option (ℕ × LineReason) → Option (ℕ × LineReason)
-    or_later (Some why) later = Some (0, why)
-    or_later None later = option_map (λ x. (suc x.0, x.1)) later
 
 -- ---- plans that keep the rules
 
--- a plan that lines make, of which none is wrong, and at whose end no block is open
-pub record KeepsTheRules (reg : List Entity) (p : Plan) : Type 0 where
+-- lines behind others, none of which is wrong, and at whose end no block is open, make a plan
+pub record Makes (reg : List Entity) (c : Context) (p : Plan) : Type 0 where
   pub lines : List Line
-  pub right : first_wrong reg opening lines ≡ None
-  pub closed : (behind_all reg lines opening).block ≡ at_top
-  pub made : (behind_all reg lines opening).plan ≡ p
+  pub right : first_wrong reg c lines ≡ None
+  pub closed : (behind_all reg lines c).block ≡ at_top
+  pub made : (behind_all reg lines c).plan ≡ p
+
+abbrev pub KeepsTheRules : List Entity → Plan → Type 0
+KeepsTheRules reg p = Makes reg opening p
 
 -- ---- what comes of a text
 
@@ -66,12 +69,12 @@ pub record Wrong : Type 0 where
   pub reason : LineReason
 
 -- behind the last line: the plan, where no block is open
+abbrev pub end_of : ℕ → Plan → Block → Result Plan Wrong
+end_of last p at_top = Ok p
+end_of last p b = Err (record { line = last; reason = Open })
+
 abbrev pub at_end : ℕ → Context → Result Plan Wrong
-at_end last c = of_block c.block
-  where
-    of_block : Block → Result Plan Wrong
-    of_block at_top = Ok c.plan
-    of_block b = Err (record { line = last; reason = Open })
+at_end last c = end_of last c.plan c.block
 
 -- a line that is not wrong hands on to those behind it
 abbrev pub ByReason : Option LineReason → ℕ → Result Plan Wrong → Type 0 → Type 0
