@@ -3,9 +3,11 @@ mod DemoPlans
 mod EffectRows
 mod HoldingRows
 mod LineRows
+pub mod LeavingLaws
 pub mod PlanLaws
 mod RootRows
 mod ServiceRows
 mod StackRows
 mod TextRows
+pub mod VerdictLaws
 mod WrongLineRows

@@ -72,7 +72,7 @@ is_number (negsuc n) = nat_lt n lowest
 
 abbrev pub is_leaf : List Entity → Token → Bool
 is_leaf reg (number n) = is_number n
-is_leaf reg (token.word w) = is_known_word reg w
+is_leaf reg (token.word w) = is_word w && is_known_word reg w
 is_leaf reg (string s) = is_utf8 s
 is_leaf reg _ = false
 

@@ -63,6 +63,10 @@ pub record Says (reg : List Entity) (text : List ℕ) (l : Line) : Type 0 where
 abbrev pub SaysNothing : List Entity → List ℕ → Type 0
 SaysNothing reg text = (l : Line) → Says reg text l → ⊥
 
+-- no text says two lines
+abbrev pub SaysOne : List Entity → Type 0
+SaysOne reg = (text : List ℕ) (l m : Line) → Says reg text l → Says reg text m → l ≡ m
+
 -- a line that is wrong, by its number in the text, and why
 pub record Wrong : Type 0 where
   pub line : ℕ

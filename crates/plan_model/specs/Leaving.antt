@@ -1,5 +1,5 @@
 -- What leaves a frame: its answer, an exception that its function may raise, or a RuntimeException in the place of another answer.
-use Rattle.std.specs.Prelude.{ℕ, suc, max, List, ◌++◌, Option, None, Some, codes, if◌then◌else◌}
+use Rattle.std.specs.Prelude.{◌≡◌, ℕ, suc, max, false, IsTrue, List, ◌++◌, Option, None, Some, codes, if◌then◌else◌}
 use Rattle.message_model.specs.Calls.{numbered, may_raise}
 use Rattle.message_model.specs.Messages.{Answer, returned, raised, reply}
 use Rattle.message_model.specs.Sayable.{message_weight}
@@ -55,3 +55,13 @@ leaving_frame reg tid b a = of_function (numbered reg b.face b.function)
     of_function : Option Function → Answer
     of_function None = a
     of_function (Some f) = leaving reg tid b.face b.function f a
+
+-- what may leave the frame of a function: anything that is returned, and an exception that the function may raise
+abbrev pub MayLeave : List Entity → Function → Answer → Type 0
+MayLeave reg f (returned x outs) = Unit
+MayLeave reg f (raised k x) = IsTrue (may_raise reg f k)
+
+-- an answer is within the limits of replies
+pub record IsWithinReply (tid face : List ℕ) (number : ℕ) (a : Answer) : Type 0 where
+  pub light : is_heavy (message_weight (reply tid face number a)) ≡ false
+  pub flat : is_deep (answer_depth a) ≡ false
