@@ -1,5 +1,5 @@
 -- The registry and the two plans of the rows.
-use Rattle.std.proofs.Common.{ℕ, pos, true, false, List, [], ◌∷◌, ◌++◌, Option, None, Some, codes}
+use Rattle.std.proofs.Common.{ℕ, pos, false, List, [], ◌∷◌, ◌++◌, Option, None, Some, codes}
 use Rattle.uno_model.specs.BuiltIn.{built_in, exception_name, x_interface_name}
 use Rattle.uno_model.specs.Entities.{Entity, Field, Param, Constructor, Method, method, interface, exception, new_service, new_singleton}
 use Rattle.uno_model.specs.Kinds as kd
@@ -7,7 +7,6 @@ use Rattle.uno_model.specs.Values.{Plain, null}
 use Rattle.uno_model.specs.Values as v
 use Rattle.uno_model.specs.declared.way.Way.TheVariants.{Into}
 use Rattle.plan_model.specs.Expressions.{Expression, variable, own, constant, word, operation, tuple, none, more, into}
-use Rattle.plan_model.specs.Expressions as e
 use Rattle.plan_model.specs.Plans.{Plan, Behaviour}
 use Rattle.plan_model.specs.Plans as plans
 use Rattle.plan_model.specs.Statements.{set_field, call, when, return, raise, dispose}
@@ -68,7 +67,7 @@ node_entity =
       name = x_node;
       published = false;
       body =
-        interface
+          interface
           (record { optional = false; name = x_interface_name } ∷ [])
           (method relay_method ∷ (method turn_method ∷ (method thrice_method ∷ (method check_method ∷ (method forget_method ∷ (method shut_method ∷ []))))));
     }
@@ -91,7 +90,7 @@ part =
       name = codes "demo.Part";
       published = false;
       body =
-        new_service
+          new_service
           x_interface_name
           (constructor (codes "create") [] None
           ∷ (constructor (codes "withId") (param (codes "id") kd.long ∷ []) None
@@ -119,7 +118,7 @@ echo_behaviour =
       faces = x_echo ∷ [];
       fields = [];
       methods =
-        record { face = x_echo; function = codes "twice"; body = return (Some (operation Add (named (codes "a")) (named (codes "a")))) ∷ [] } ∷ [];
+          record { face = x_echo; function = codes "twice"; body = return (Some (operation Add (named (codes "a")) (named (codes "a")))) ∷ [] } ∷ [];
     }
 
 abbrev pub echo_plan : Plan
@@ -143,15 +142,15 @@ relay_body =
       face = x_node;
       function = codes "relay";
       body =
-        when (record { left = variable (codes "depth"); comparison = Equal; right = constant (long 0) }) (Some (constant (long 0)))
-        ∷ (call
-            (record {
-              target = variable (codes "back");
-              callee = record { owner = x_node; name = codes "relay" };
-              arguments = into (word own) ∷ (into (operation Sub (named (codes "depth")) (constant (long 1))) ∷ []);
-              to = Some (record { name = codes "r"; kind = kd.long });
-            })
-        ∷ (return (Some (operation Add (named (codes "r")) (constant (long 1)))) ∷ []));
+          when (record { left = variable (codes "depth"); comparison = Equal; right = constant (long 0) }) (Some (constant (long 0)))
+          ∷ (call
+          (record {
+            target = variable (codes "back");
+            callee = record { owner = x_node; name = codes "relay" };
+            arguments = into (word own) ∷ (into (operation Sub (named (codes "depth")) (constant (long 1))) ∷ []);
+            to = Some (record { name = codes "r"; kind = kd.long });
+          })
+          ∷ (return (Some (operation Add (named (codes "r")) (constant (long 1)))) ∷ []));
     }
 
 abbrev pub turn_body : plans.Method

@@ -1,5 +1,5 @@
 -- Effects of jobs of the two plans.
-use Rattle.std.proofs.Common.{◌≡◌, refl, ℕ, pos, negsuc, true, false, List, [], ◌∷◌, None, Some, codes}
+use Rattle.std.proofs.Common.{◌≡◌, refl, ℕ, negsuc, true, List, [], ◌∷◌, Some, codes}
 use Rattle.message_model.specs.Calls.{numbered, kinds_on, may_raise}
 use Rattle.uno_model.specs.BuiltIn.{runtime_exception_name}
 use Rattle.uno_model.specs.Defaults.{default_within, default_of_kind}
@@ -16,7 +16,7 @@ use Rattle.plan_model.specs.Effects.{effect, return_effect, default_effect, set_
 use Rattle.plan_model.specs.Leaving.{message_of, leaving}
 use Rattle.plan_model.specs.Evaluation.{value_under, value_of, values_of, is_heavy, is_deep, evaluated, same_value, same_values}
 use Rattle.plan_model.specs.Frames.{Variable, Job, body}
-use Rattle.plan_model.specs.Plans.{Plan, manager}
+use Rattle.plan_model.specs.Plans.{manager}
 use Rattle.plan_model.proofs.DemoPlans.{demo, echo_plan, node_plan, x_echo, x_node, refused, long}
 
 -- a job of the first behaviour at a function and a place

@@ -1,20 +1,19 @@
 -- What frames take and let go.
-use Rattle.std.proofs.Common.{◌≡◌, refl, ℕ, pos, true, false, List, [], ◌∷◌, None, Some, codes}
+use Rattle.std.proofs.Common.{◌≡◌, refl, ℕ, true, List, [], ◌∷◌, None, codes}
 use Rattle.uno_model.specs.BuiltIn.{x_interface_name}
 use Rattle.uno_model.specs.Defaults.{default_of_kind, default_within}
-use Rattle.uno_model.specs.Entities.{Param}
 use Rattle.uno_model.specs.Kinds as kd
 use Rattle.uno_model.specs.Reaches.{is_base_of, reaches_within}
 use Rattle.uno_model.specs.Registry.{find_entity}
 use Rattle.uno_model.specs.Values.{Plain, Ref, null, own, peer, refs, refs_in}
 use Rattle.uno_model.specs.Values as v
 use Rattle.uno_model.specs.declared.way.Way.TheVariants as way
-use Rattle.plan_model.specs.Asking.{lets, sets, sets_field, drops, skips}
+use Rattle.plan_model.specs.Asking.{sets, drops}
 use Rattle.plan_model.specs.Evaluation.{value_under}
 use Rattle.plan_model.specs.Expressions.{constant, into, out, both}
 use Rattle.plan_model.specs.Expressions as expression
-use Rattle.plan_model.specs.Frames.{Variable, Body}
-use Rattle.plan_model.specs.Holdings.{put, refs_under, first_variables, variables_after, fields_after, held_by, let_go_by, let_go_at_end}
+use Rattle.plan_model.specs.Frames.{Variable}
+use Rattle.plan_model.specs.Holdings.{put, refs_under, first_variables, variables_after, held_by, let_go_by, let_go_at_end}
 use Rattle.plan_model.specs.Holdings.{takes_outs, takes_answer, no_object, query_answer, takes_reference}
 use Rattle.plan_model.specs.Plans.{supports}
 use Rattle.plan_model.specs.Statements.{Call}

@@ -1,5 +1,5 @@
 -- What leaves a frame may do so, and what may do so within the limits leaves it as it is.
-use Rattle.std.proofs.Common.{◌≡◌, refl, ℕ, zero, suc, Bool, true, false, IsTrue, List, length, Option, None, Some, Result, Ok, Err, if◌then◌else◌}
+use Rattle.std.proofs.Common.{◌≡◌, refl, ℕ, zero, suc, Bool, true, false, List, length, if◌then◌else◌}
 use Rattle.message_model.specs.Calls.{may_raise}
 use Rattle.message_model.specs.Messages.{Answer, returned, raised, reply}
 use Rattle.message_model.specs.Sayable.{message_weight}
@@ -7,11 +7,10 @@ use Rattle.uno_model.specs.BuiltIn.{runtime_exception_name}
 use Rattle.uno_model.specs.Entities.{Entity}
 use Rattle.uno_model.specs.Functions.{Function}
 use Rattle.uno_model.specs.Kinds.{Kind}
-use Rattle.uno_model.specs.Kinds as kd
 use Rattle.uno_model.specs.Reaches.{reaches_within, is_base_of}
 use Rattle.uno_model.specs.Values.{Plain}
 use Rattle.plan_model.specs.Evaluation.{is_heavy, is_deep}
-use Rattle.plan_model.specs.Leaving.{runtime_raised, message_of, caused, as_declared, answer_depth, sendable, leaving, MayLeave, IsWithinReply}
+use Rattle.plan_model.specs.Leaving.{runtime_raised, message_of, caused, as_declared, answer_depth, leaving, MayLeave, IsWithinReply}
 use Rattle.plan_model.specs.declared.runtime_cause.RuntimeCause.TheVariants.{TooLarge, TooDeep}
 
 -- an exception is a base of itself
@@ -44,9 +43,9 @@ unfolding leaving
 leaving_may reg tid face number f a =
     let b = as_declared reg f a in
     by_limits reg f (is_heavy (message_weight (reply tid face number b))) (is_deep (answer_depth b)) b (caused TooLarge) (caused TooDeep)
-      (runtime_may_leave reg f (message_of TooLarge))
-      (runtime_may_leave reg f (message_of TooDeep))
-      (declared_may_leave reg f a)
+    (runtime_may_leave reg f (message_of TooLarge))
+    (runtime_may_leave reg f (message_of TooDeep))
+    (declared_may_leave reg f a)
 
 declared_stays : (reg : List Entity) (f : Function) (a : Answer) → MayLeave reg f a → as_declared reg f a ≡ a
 declared_stays reg f (returned x outs) may = refl

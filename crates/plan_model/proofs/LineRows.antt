@@ -1,7 +1,5 @@
 -- The lines of the node plan: their text, and the plan that they make.
-use Rattle.std.proofs.Common.{◌≡◌, refl, ℕ, suc, pos, negsuc, true, false, List, [], ◌∷◌, ◌++◌, map, Option, None, Some, codes}
-use Rattle.literal_model.specs.Literals.{number, string}
-use Rattle.literal_model.specs.Literals as token
+use Rattle.std.proofs.Common.{◌≡◌, refl, [], ◌∷◌, map, None, codes}
 use Rattle.literal_model.specs.Readings.{number_named}
 use Rattle.literal_model.specs.Literals.{first_item}
 use Rattle.std.specs.Fmt.{digits}
@@ -15,23 +13,18 @@ use Rattle.uno_model.specs.Reaches.{reaches_within, is_base_of}
 use Rattle.uno_model.specs.Registry.{find_entity, members_within}
 use Rattle.uno_model.specs.Sound.{all_differ}
 use Rattle.plan_model.specs.Building.{behind, behind_all}
-use Rattle.plan_model.specs.Contexts.{Context, at_top, opening, kind_of_variable, kind_of_field, kind_of_word, declared_function, called_function, parameters}
-use Rattle.plan_model.specs.Expressions.{variable, own}
+use Rattle.plan_model.specs.Contexts.{at_top, opening, kind_of_variable, kind_of_field, kind_of_word, declared_function, called_function, parameters}
 use Rattle.plan_model.specs.Fitting.{all_fits}
 use Rattle.plan_model.specs.Forms.{is_type_text, is_behind_bracket, is_function_text, is_export_name, is_term, are_terms, is_line, is_root_term, are_root_terms}
 use Rattle.plan_model.specs.Keeps.{has_form, reason_of, first_wrong}
 use Rattle.plan_model.specs.KnownNames.{is_term_known, are_terms_known, names_are_known}
 use Rattle.plan_model.specs.Limits.{term_depth, terms_depth, parentheses, parentheses_in, is_flat, terms_are_flat, has_room, block_has_room, plan_has_room, keeps_limits}
 use Rattle.plan_model.specs.LinePlaces.{last_ends, may_stand}
-use Rattle.plan_model.specs.Lines.{Term, leaf, operation, members, word, terms, Line, Declared, behaviour, field, method, export, end_line, set_field, call, when, return, raise, dispose, let_variable}
 use Rattle.plan_model.specs.NewNames.{names_are_new}
 use Rattle.plan_model.specs.PlanText.{line_text, line_words, term_text, terms_text, behind_comma}
 use Rattle.plan_model.specs.Plans.{supports}
 use Rattle.plan_model.specs.TypedStatements.{call_of, query_of, making_of, statement_of, root_statement_of}
 use Rattle.plan_model.specs.Typing.{expression_of, all_at, each_at, argument_of, arguments_of}
-use Rattle.plan_model.specs.declared.comparison.Comparison.TheVariants.{Equal}
-use Rattle.plan_model.specs.declared.line_reason.LineReason.TheVariants.{Form, Unknown, Twice, Misfit, Limit, Open}
-use Rattle.plan_model.specs.declared.operation.Operation.TheVariants.{Add, Sub}
 use Rattle.plan_model.proofs.DemoLines.{node_lines}
 use Rattle.plan_model.proofs.DemoPlans.{demo, node_plan}
 

@@ -1,9 +1,9 @@
 -- The plan of a text is made by lines of which none is wrong.
-use Rattle.std.proofs.Common.{◌≡◌, refl, ℕ, Bool, true, false, List, [], ◌∷◌, Option, None, Some, Result, Ok, Err, inl, inr}
+use Rattle.std.proofs.Common.{◌≡◌, refl, ℕ, Bool, true, false, List, [], ◌∷◌, Option, None, Some, Ok, inl, inr}
 use Rattle.uno_model.specs.Entities.{Entity}
 use Rattle.plan_model.specs.Building.{behind, behind_all}
-use Rattle.plan_model.specs.Contexts.{Context, Block, at_top, in_behaviour, in_method, in_thread, opening}
-use Rattle.plan_model.specs.Keeps.{reason_of, first_wrong, Makes, KeepsTheRules, Wrong, end_of, ByReason, Comes, ByFront, is_too_large, IsTextOf}
+use Rattle.plan_model.specs.Contexts.{Context, Block, at_top, in_behaviour, in_method, in_thread}
+use Rattle.plan_model.specs.Keeps.{reason_of, first_wrong, Makes, KeepsTheRules, end_of, ByReason, Comes, ByFront, IsTextOf}
 use Rattle.plan_model.specs.Lines.{Line}
 use Rattle.plan_model.specs.PlanText.{Numbered}
 use Rattle.plan_model.specs.Plans.{Plan}

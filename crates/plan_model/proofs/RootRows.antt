@@ -1,5 +1,5 @@
 -- Roots and what they let go.
-use Rattle.std.proofs.Common.{◌≡◌, refl, ℕ, List, [], ◌∷◌, None, Some, codes}
+use Rattle.std.proofs.Common.{◌≡◌, refl, ℕ, List, [], ◌∷◌, Some, codes}
 use Rattle.uno_model.specs.Kinds as kd
 use Rattle.uno_model.specs.Values.{Plain, null, peer, refs, refs_in}
 use Rattle.uno_model.specs.Values as v

@@ -1,10 +1,9 @@
 -- What the names of services and singletons create.
-use Rattle.std.proofs.Common.{◌≡◌, refl, ℕ, pos, true, false, List, [], ◌∷◌, ◌++◌, Option, None, Some, Result, Ok, Err, codes}
-use Rattle.message_model.specs.Calls.{numbered, kinds_on, may_raise}
+use Rattle.std.proofs.Common.{◌≡◌, refl, ℕ, true, List, [], ◌∷◌, Some, Result, Ok, Err, codes}
+use Rattle.message_model.specs.Calls.{numbered}
 use Rattle.uno_model.specs.BuiltIn.{x_interface_name, factory_name}
 use Rattle.uno_model.specs.Codes.{same_kind}
 use Rattle.uno_model.specs.Defaults.{default_of_kind, default_within}
-use Rattle.uno_model.specs.Entities.{Entity, Field, Constructor, new_service, new_singleton}
 use Rattle.uno_model.specs.Fits.{does_fit}
 use Rattle.uno_model.specs.Functions.{is_met, visit_all, met_within}
 use Rattle.uno_model.specs.Kinds as kd

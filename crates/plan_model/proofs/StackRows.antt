@@ -1,6 +1,6 @@
 -- Stacks of frames.
-use Rattle.std.proofs.Common.{◌≡◌, refl, ℕ, true, List, [], ◌∷◌, None, Some, codes}
-use Rattle.plan_model.specs.Frames.{Frame, Outgoing, Stack, base, outgoing, frames_of, top, depth_of, nth_tid, pushed, popped, with_top, answerable}
+use Rattle.std.proofs.Common.{◌≡◌, refl, ℕ, List, [], ◌∷◌, None, Some, codes}
+use Rattle.plan_model.specs.Frames.{Outgoing, Stack, base, outgoing, frames_of, top, depth_of, nth_tid, pushed, popped, with_top, answerable}
 
 abbrev t : List ℕ
 t = codes "T"

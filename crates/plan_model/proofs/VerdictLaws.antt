@@ -1,11 +1,10 @@
 -- Where a text of a line says one line at most, a text has one verdict at most.
-use Rattle.std.proofs.Common.{◌≡◌, refl, ℕ, Bool, true, false, List, [], ◌∷◌, Option, None, Some, Result, Ok, Err, inl, inr, sym, ◌∙◌, subst}
+use Rattle.std.proofs.Common.{◌≡◌, ℕ, Bool, true, false, List, [], ◌∷◌, Option, None, Some, Result, inl, inr, sym, ◌∙◌, subst}
 use Rattle.uno_model.specs.Entities.{Entity}
 use Rattle.plan_model.specs.Building.{behind}
-use Rattle.plan_model.specs.Contexts.{Context, opening}
-use Rattle.plan_model.specs.Keeps.{reason_of, Says, SaysNothing, SaysOne, Wrong, at_end, ByReason, Comes, ByFront, is_too_large, IsVerdict}
-use Rattle.plan_model.specs.Lines.{Line}
-use Rattle.plan_model.specs.PlanText.{Numbered, lines_of, begins_plan, lines_behind}
+use Rattle.plan_model.specs.Contexts.{Context}
+use Rattle.plan_model.specs.Keeps.{reason_of, SaysOne, Wrong, ByReason, Comes, ByFront, is_too_large, IsVerdict}
+use Rattle.plan_model.specs.PlanText.{Numbered, lines_of, begins_plan}
 use Rattle.plan_model.specs.Plans.{Plan}
 use Rattle.plan_model.specs.declared.line_reason.LineReason.{LineReason}
 
@@ -24,7 +23,7 @@ lines_have_one reg one last c (n ∷ ns) out other (inr (l, said, by)) (inl q) =
 lines_have_one reg one last c (n ∷ ns) out other (inr (l, said, by)) (inr (m, told, to)) =
     let e : m ≡ l = one n.text m l told said in
     let to' : ByReason (reason_of reg c l) n.number other (Comes reg last (behind reg l c) ns other) =
-        subst (λ x. ByReason (reason_of reg c x) n.number other (Comes reg last (behind reg x c) ns other)) e to in
+    subst (λ x. ByReason (reason_of reg c x) n.number other (Comes reg last (behind reg x c) ns other)) e to in
     by_one_reason (reason_of reg c l) n.number out other _ _ (lines_have_one reg one last (behind reg l c) ns out other) by to'
 
 fronts_have_one : (large begins : Bool) (out other : Result Plan Wrong) (Behind OtherBehind : Type 0) → (Behind → OtherBehind → out ≡ other)

@@ -1,12 +1,10 @@
 -- Lines that are wrong behind those before them, each with its place among the lines, from 0, and the reason that counts.
-use Rattle.std.proofs.Common.{◌≡◌, refl, ℕ, zero, suc, pos, negsuc, true, false, List, [], ◌∷◌, ◌++◌, map, Option, None, Some, codes}
+use Rattle.std.proofs.Common.{◌≡◌, refl, ℕ, zero, suc, negsuc, List, [], ◌∷◌, None, Some, codes}
 use Rattle.literal_model.specs.Literals.{number, string}
 use Rattle.literal_model.specs.Literals as token
 use Rattle.literal_model.specs.Readings.{number_named}
 use Rattle.literal_model.specs.Literals.{first_item}
-use Rattle.std.specs.Fmt.{digits}
-use Rattle.std.specs.Str.{is_utf8, chars}
-use lib.Utf8.{encode}
+use Rattle.std.specs.Str.{is_utf8}
 use Rattle.uno_model.specs.Codes.{same_kind}
 use Rattle.uno_model.specs.Functions.{is_met, visit_all, met_within}
 use Rattle.uno_model.specs.Names.{parts_of}
@@ -26,13 +24,12 @@ use Rattle.plan_model.specs.LinePlaces.{last_ends, may_stand}
 use Rattle.plan_model.specs.Lines.{Term, leaf, type_named, typed, operation, elements, members, word, terms, Line, behaviour, field, method, service, singleton, export, thread, end_line}
 use Rattle.plan_model.specs.Lines.{call, make, drop_variable, when, return, raise, let_variable, ask}
 use Rattle.plan_model.specs.NewNames.{names_are_new}
-use Rattle.plan_model.specs.PlanText.{line_text, line_words, term_text, terms_text, behind_comma}
 use Rattle.plan_model.specs.Plans.{supports}
 use Rattle.plan_model.specs.TypedStatements.{call_of, query_of, making_of, statement_of, root_statement_of}
 use Rattle.plan_model.specs.Typing.{expression_of, all_at, each_at, argument_of, arguments_of}
 use Rattle.plan_model.specs.declared.comparison.Comparison.TheVariants.{Equal, Less}
-use Rattle.plan_model.specs.declared.line_reason.LineReason.TheVariants.{Form, Unknown, Twice, Misfit, Limit, Open}
-use Rattle.plan_model.specs.declared.operation.Operation.TheVariants.{Add, Sub}
+use Rattle.plan_model.specs.declared.line_reason.LineReason.TheVariants.{Form, Unknown, Twice, Misfit, Limit}
+use Rattle.plan_model.specs.declared.operation.Operation.TheVariants.{Add}
 use Rattle.plan_model.proofs.DemoLines.{num, named, new_variable}
 use Rattle.plan_model.proofs.DemoPlans.{demo, x_echo, x_node, parts_registry}
 

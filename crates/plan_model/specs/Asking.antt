@@ -62,4 +62,3 @@ out_values (p ∷ ps) xs = if comes p.way then value_under p.name xs ∷ out_val
 
 abbrev pub returns_value : List Entity → Running → Plain → Effect
 returns_value reg r x = ends_with reg r (returned x (out_values r.function.params r.scene.variables))
-

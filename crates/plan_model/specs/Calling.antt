@@ -75,4 +75,3 @@ queries_target reg r q (peer oid face) = queries_object reg r q (peer oid face) 
 
 unfoldable pub query_effect : List Entity → Running → Query → Effect
 query_effect reg r q = queries_target reg r q (object_of (value_of_word r.scene q.target))
-

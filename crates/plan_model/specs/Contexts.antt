@@ -1,9 +1,8 @@
 -- What stands before a line: the blocks that are closed, the one that is open, and the variables that are known there.
-use Rattle.std.specs.Prelude.{ℕ, Bool, true, false, not, ◌&&◌, List, [], ◌∷◌, ◌++◌, length, drop, Option, None, Some, slice_get, if◌then◌else◌}
-use Rattle.std.specs.List.{find, filter, position}
+use Rattle.std.specs.Prelude.{ℕ, Bool, List, [], ◌∷◌, ◌++◌, drop, Option, None, Some}
+use Rattle.std.specs.List.{find, position}
 use Rattle.std.specs.Option.{option_map}
 use Rattle.std.specs.Str.{bytes_eq}
-use Rattle.literal_model.specs.Readings.{and_then}
 use Rattle.message_model.specs.Calls.{comes}
 use Rattle.uno_model.specs.Codes.{same_kind}
 use Rattle.uno_model.specs.Entities.{Entity, Field, Param}
@@ -13,7 +12,7 @@ use Rattle.uno_model.specs.Kinds as kd
 use Rattle.uno_model.specs.Reaches.{is_base_of}
 use Rattle.uno_model.specs.Registry.{find_entity}
 use Rattle.plan_model.specs.Expressions.{Word, variable, field, own}
-use Rattle.plan_model.specs.Plans.{Plan, empty_plan, Behaviour, Method, Offer}
+use Rattle.plan_model.specs.Plans.{Plan, empty_plan, Behaviour, Method}
 use Rattle.plan_model.specs.Statements.{RootStatement}
 
 -- a variable that is known, its type, and whether it is a parameter whose value comes out

@@ -1,5 +1,5 @@
 -- Expressions of a plan: values in whose place a word of the plan may stand.
-use Rattle.std.specs.Prelude.{ℕ, Bool, List, [], ◌∷◌}
+use Rattle.std.specs.Prelude.{ℕ, List, [], ◌∷◌}
 use Rattle.uno_model.specs.Kinds.{Kind}
 use Rattle.uno_model.specs.Values.{Plain}
 use Rattle.plan_model.specs.declared.operation.Operation.{Operation}

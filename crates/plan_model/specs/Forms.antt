@@ -1,15 +1,12 @@
 -- The form of a line, whatever its names stand for: how its names, types and terms are spelled, and where it may stand.
-use Rattle.std.specs.Prelude.{ℕ, ◌^◌, ℤ, pos, negsuc, Bool, true, false, not, ◌&&◌, ◌||◌, ◌==◌, nat_lt, nat_le, List, [], ◌∷◌, length, take, drop, Option, None, Some, codes, if◌then◌else◌}
+use Rattle.std.specs.Prelude.{ℕ, ℤ, pos, negsuc, Bool, true, false, not, ◌&&◌, ◌||◌, ◌==◌, nat_lt, nat_le, List, [], ◌∷◌, length, take, drop, Option, None, Some, codes, if◌then◌else◌}
 use Rattle.std.specs.Char.{is_ascii_alphanumeric}
 use Rattle.std.specs.List.{list_all}
 use Rattle.std.specs.Str.{bytes_eq, is_utf8}
 use Rattle.literal_model.specs.Literals.{Token, number, string}
 use Rattle.literal_model.specs.Literals as token
 use Rattle.literal_model.specs.Shapes.{largest, lowest, is_known_word, is_word}
-use Rattle.uno_model.specs.Codes.{same_kind}
 use Rattle.uno_model.specs.Entities.{Entity}
-use Rattle.uno_model.specs.Functions.{Function}
-use Rattle.uno_model.specs.Kinds as kd
 use Rattle.uno_model.specs.Names.{is_identifier, parts_of}
 use Rattle.uno_model.specs.Sound.{is_some_list}
 use Rattle.plan_model.specs.Expressions.{Word, variable, own}

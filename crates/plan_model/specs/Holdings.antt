@@ -1,6 +1,6 @@
 -- What a frame has before and behind each statement: its variables, the references that it takes, and those that it lets go.
-use Rattle.std.specs.Prelude.{ℕ, suc, Bool, true, false, List, [], ◌∷◌, ◌++◌, Option, None, Some, slice_get, unwrap_or, drop, not, if◌then◌else◌}
-use Rattle.std.specs.List.{filter, flat_map, list_any}
+use Rattle.std.specs.Prelude.{ℕ, suc, Bool, false, List, [], ◌∷◌, ◌++◌, Option, None, Some, slice_get, unwrap_or, drop, not, if◌then◌else◌}
+use Rattle.std.specs.List.{filter, flat_map}
 use Rattle.std.specs.Str.{bytes_eq}
 use Rattle.message_model.specs.Calls.{goes}
 use Rattle.uno_model.specs.Defaults.{default_of_kind}

@@ -1,5 +1,5 @@
 -- Which names a line uses, and whether each of them is known where the line stands.
-use Rattle.std.specs.Prelude.{ℕ, Bool, true, false, ◌&&◌, List, [], ◌∷◌, Option, None, Some, is_some}
+use Rattle.std.specs.Prelude.{ℕ, Bool, true, false, ◌&&◌, List, Option, None, Some, is_some}
 use Rattle.std.specs.List.{list_all}
 use Rattle.uno_model.specs.Entities.{Entity, Body, new_service, new_singleton}
 use Rattle.uno_model.specs.NamedTypes.{type_of_text}

@@ -1,5 +1,5 @@
 -- What leaves a frame: its answer, an exception that its function may raise, or a RuntimeException in the place of another answer.
-use Rattle.std.specs.Prelude.{◌≡◌, ℕ, suc, max, false, IsTrue, List, ◌++◌, Option, None, Some, codes, if◌then◌else◌}
+use Rattle.std.specs.Prelude.{◌≡◌, ℕ, max, false, IsTrue, List, ◌++◌, Option, None, Some, codes, if◌then◌else◌}
 use Rattle.message_model.specs.Calls.{numbered, may_raise}
 use Rattle.message_model.specs.Messages.{Answer, returned, raised, reply}
 use Rattle.message_model.specs.Sayable.{message_weight}

@@ -1,10 +1,9 @@
 -- How many lines of a kind a plan may have, and how deep a term may be nested.
 use Rattle.std.specs.Prelude.{ℕ, suc, max, Bool, true, ◌&&◌, nat_lt, nat_le, List, length, Option, None, Some}
 use Rattle.std.specs.List.{list_all}
-use Rattle.plan_model.specs.Contexts.{Context, Block, at_top, in_behaviour, in_method, in_thread, behaviours_before}
-use Rattle.plan_model.specs.Lines.{Term, Terms, leaf, type_named, void_any, typed, elements, members, word, operation, none, more}
+use Rattle.plan_model.specs.Contexts.{Context, Block, in_method, in_thread, behaviours_before}
+use Rattle.plan_model.specs.Lines.{Term, Terms, void_any, typed, elements, members, operation, none, more}
 use Rattle.plan_model.specs.Lines.{Line, behaviour, service, singleton, export, thread, end_line, let_variable, set_variable, set_field, call, when, return, raise}
-use Rattle.plan_model.specs.Plans.{Plan}
 
 -- ---- terms
 

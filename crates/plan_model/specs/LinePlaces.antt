@@ -1,5 +1,5 @@
 -- Where a line of each form may stand. A line that stands elsewhere has no form, as one that is spelled like no line.
-use Rattle.std.specs.Prelude.{ℕ, Bool, true, false, not, ◌&&◌, ◌||◌, List, [], ◌∷◌, Option, None, Some, is_some, is_none}
+use Rattle.std.specs.Prelude.{Bool, true, false, not, ◌&&◌, ◌||◌, List, [], ◌∷◌, Option, None, Some}
 use Rattle.std.specs.List.{list_all}
 use Rattle.uno_model.specs.Codes.{same_kind}
 use Rattle.uno_model.specs.Functions.{Function}

@@ -1,11 +1,11 @@
 -- Which names a line declares, and whether each of them is new where the line stands.
-use Rattle.std.specs.Prelude.{ℕ, Bool, true, false, not, ◌&&◌, ◌||◌, List, [], ◌∷◌, ◌++◌, Option, None, Some, codes}
+use Rattle.std.specs.Prelude.{ℕ, Bool, true, not, ◌&&◌, ◌||◌, List, Option, None, Some}
 use Rattle.std.specs.List.{list_any}
 use Rattle.std.specs.Str.{bytes_eq}
 use Rattle.uno_model.specs.Sound.{all_differ}
-use Rattle.plan_model.specs.Contexts.{Context, Block, open_behaviours, behaviours_before, known_fields}
+use Rattle.plan_model.specs.Contexts.{Context, open_behaviours, behaviours_before, known_fields}
 use Rattle.plan_model.specs.Lines.{Declared, Line, behaviour, field, method, service, singleton, export, let_variable, call, query, make, ask, ask_instance}
-use Rattle.plan_model.specs.Plans.{Plan, manager_name, has_offers, Behaviour, Method, Export, Offer}
+use Rattle.plan_model.specs.Plans.{Plan, manager_name, has_offers, Offer}
 
 abbrev pub has_export : Plan → List ℕ → Bool
 has_export p name = list_any (λ e. bytes_eq name e.name) p.exports

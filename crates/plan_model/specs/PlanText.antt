@@ -1,8 +1,8 @@
 -- The text of each line of a plan, and which lines a text has: blank lines, comments and the blanks in front of a line are none of them.
-use Rattle.std.specs.Prelude.{◌≡◌, ℕ, suc, Bool, true, false, not, ◌&&◌, ◌||◌, ◌==◌, List, [], ◌∷◌, ◌++◌, map, Option, None, Some, codes, if◌then◌else◌}
+use Rattle.std.specs.Prelude.{ℕ, suc, Bool, true, false, ◌||◌, ◌==◌, List, [], ◌∷◌, ◌++◌, Option, None, Some, codes, if◌then◌else◌}
 use Rattle.std.specs.List.{join_with_byte}
 use Rattle.std.specs.Str.{bytes_eq}
-use Rattle.literal_model.specs.Literals.{Token, opens, closes, comma, square, curly, string, spell, quoted}
+use Rattle.literal_model.specs.Literals.{opens, closes, comma, square, curly, spell, quoted}
 use Rattle.plan_model.specs.Expressions.{Word, variable, own}
 use Rattle.plan_model.specs.Expressions as expression
 use Rattle.plan_model.specs.Lines.{Term, Terms, leaf, type_named, void_any, typed, elements, members, word, operation, none, more, terms, Declared}

@@ -1,7 +1,7 @@
 -- A root in progress: which statements it has, and the values that it is still to let go.
-use Rattle.std.specs.Prelude.{ℕ, zero, suc, Bool, true, false, List, [], ◌∷◌, ◌++◌, Option, None, Some, slice_get, if◌then◌else◌}
+use Rattle.std.specs.Prelude.{ℕ, zero, suc, List, [], ◌∷◌, ◌++◌, Option, None, Some, slice_get, if◌then◌else◌}
 use Rattle.uno_model.specs.Sound.{is_some_list}
-use Rattle.uno_model.specs.Values.{Ref, null, Plain, Plains, any, tuple, list, ref, none, more, refs, refs_in}
+use Rattle.uno_model.specs.Values.{Ref, null, Plain, Plains, any, tuple, list, ref, none, more, refs}
 use Rattle.plan_model.specs.Frames.{Variable}
 use Rattle.plan_model.specs.Plans.{Plan}
 use Rattle.plan_model.specs.Statements.{RootStatement}

@@ -1,5 +1,5 @@
 -- The service manager: what the name of a service or a singleton creates from arguments.
-use Rattle.std.specs.Prelude.{ℕ, zero, suc, Bool, true, false, ◌&&◌, ◌||◌, List, [], ◌∷◌, map, Option, None, Some, Result, Ok, Err, slice_get, codes, is_some, ◌++◌, if◌then◌else◌}
+use Rattle.std.specs.Prelude.{ℕ, Bool, List, [], ◌∷◌, map, Option, None, Some, Result, Ok, Err, slice_get, codes, ◌++◌, if◌then◌else◌}
 use Rattle.std.specs.List.{filter, find, list_any, position_or_len}
 use Rattle.std.specs.Option.{option_or}
 use Rattle.std.specs.Str.{bytes_eq}

@@ -1,7 +1,6 @@
 -- Statements of a method, and of a root: one for each form in which they are written.
 use Rattle.std.specs.Prelude.{ℕ, List, Option}
 use Rattle.uno_model.specs.Entities.{Field}
-use Rattle.uno_model.specs.Kinds.{Kind}
 use Rattle.plan_model.specs.Expressions.{Word, Expression, Argument}
 use Rattle.plan_model.specs.declared.comparison.Comparison.{Comparison}
 

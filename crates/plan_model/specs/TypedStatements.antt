@@ -49,7 +49,7 @@ call_with target f args to = Some (record { target = target; callee = record { o
 unfoldable pub call_of : List Entity → Context → Option Declared → Word → List ℕ → List Term → Option Call
 call_of reg c to target function args =
     and_then (and_then (face_of_word c target) (λ face. called_function reg face function))
-      (λ f. both_values (arguments_of reg c f.params args) (result_field reg f to) (call_with target f))
+    (λ f. both_values (arguments_of reg c f.params args) (result_field reg f to) (call_with target f))
 
 unfoldable pub query_of : List Entity → Context → Declared → Word → Option s.Query
 query_of reg c d target =
@@ -63,7 +63,7 @@ supports_named reg (Some b) wanted = supports reg b.faces wanted
 unfoldable pub making_of : List Entity → Context → Declared → List ℕ → Option s.Making
 making_of reg c d name =
     both_values (behaviour_number c name) (face_of_text reg d.kind)
-      (λ n face. only_if (supports_named reg (behaviour_named c name) face) (Some (record { behaviour = n; face = face; to = d.name })))
+    (λ n face. only_if (supports_named reg (behaviour_named c name) face) (Some (record { behaviour = n; face = face; to = d.name })))
 
 -- ---- the other statements
 
@@ -99,7 +99,7 @@ is_compared Less k = is_whole k
 abbrev pub test_of : List Entity → Context → Word → Comparison → Term → Option s.Test
 test_of reg c left comparison right =
     and_then (kind_of_word c left)
-      (λ k. only_if (is_compared comparison k) (option_map (λ a. record { left = left; comparison = comparison; right = a }) (expression_of reg c right k)))
+    (λ k. only_if (is_compared comparison k) (option_map (λ a. record { left = left; comparison = comparison; right = a }) (expression_of reg c right k)))
 
 abbrev pub raised_name : Kind → Option (List ℕ)
 raised_name (kd.exception name) = Some name

@@ -1,18 +1,13 @@
 -- What a line's terms and words are at the types of their places: the statement that a line is, where each of them fits.
-use Rattle.std.specs.Prelude.{ℕ, Bool, true, false, not, ◌&&◌, ◌||◌, List, [], ◌∷◌, length, map, Option, None, Some, is_some, if◌then◌else◌}
-use Rattle.std.specs.List.{list_any}
+use Rattle.std.specs.Prelude.{ℕ, Bool, true, false, List, [], ◌∷◌, Option, None, Some}
 use Rattle.std.specs.Option.{option_map}
-use Rattle.literal_model.specs.Literals.{Token}
-use Rattle.literal_model.specs.Literals as token
 use Rattle.literal_model.specs.Readings.{and_then, single}
 use Rattle.uno_model.specs.Codes.{same_kind}
-use Rattle.uno_model.specs.Entities.{Entity, Field, Param}
+use Rattle.uno_model.specs.Entities.{Entity, Param}
 use Rattle.uno_model.specs.Fits.{member_kinds}
-use Rattle.uno_model.specs.Functions.{Function}
 use Rattle.uno_model.specs.Kinds.{Kind}
 use Rattle.uno_model.specs.Kinds as kd
 use Rattle.uno_model.specs.NamedTypes.{type_of_text}
-use Rattle.uno_model.specs.Reaches.{is_base_of}
 use Rattle.uno_model.specs.Values as v
 use Rattle.uno_model.specs.declared.way.Way.{Way}
 use Rattle.uno_model.specs.declared.way.Way.TheVariants as way
@@ -20,13 +15,7 @@ use Rattle.plan_model.specs.Contexts.{Context, kind_of_variable, kind_of_word, k
 use Rattle.plan_model.specs.Evaluation.{both_values}
 use Rattle.plan_model.specs.Expressions.{Word, variable, Expression, Expressions, Argument}
 use Rattle.plan_model.specs.Expressions as e
-use Rattle.plan_model.specs.Lines.{Term, Terms, leaf, type_named, void_any, typed, elements, members, word, operation, none, more, Declared, Line}
-use Rattle.plan_model.specs.Lines as line
-use Rattle.plan_model.specs.Plans.{Behaviour}
-use Rattle.plan_model.specs.Statements.{Call, Statement, RootStatement}
-use Rattle.plan_model.specs.Statements as s
-use Rattle.plan_model.specs.declared.comparison.Comparison.{Comparison}
-use Rattle.plan_model.specs.declared.comparison.Comparison.TheVariants.{Equal, Less}
+use Rattle.plan_model.specs.Lines.{Term, Terms, leaf, type_named, void_any, typed, elements, members, word, operation, none, more}
 
 -- ---- terms
 
@@ -130,4 +119,3 @@ arguments_of reg c [] [] = Some []
 arguments_of reg c [] (t ∷ ts) = None
 arguments_of reg c (p ∷ ps) [] = None
 arguments_of reg c (p ∷ ps) (t ∷ ts) = both_values (argument_of reg c p t) (arguments_of reg c ps ts) (λ a rest. Some (a ∷ rest))
-
