@@ -69,7 +69,8 @@ node_entity =
       body =
           interface
           (record { optional = false; name = x_interface_name } ∷ [])
-          (method relay_method ∷ (method turn_method ∷ (method thrice_method ∷ (method check_method ∷ (method forget_method ∷ (method shut_method ∷ []))))));
+          (method relay_method ∷ (method turn_method ∷ (method thrice_method ∷ (method check_method ∷ (method forget_method
+          ∷ (method shut_method ∷ []))))));
     }
 
 abbrev pub demo : List Entity
@@ -154,7 +155,12 @@ relay_body =
     }
 
 abbrev pub turn_body : plans.Method
-turn_body = record { face = x_node; function = codes "turn"; body = set_field (codes "kept") (named (codes "n")) ∷ (return (Some (named (codes "n"))) ∷ []) }
+turn_body = record {
+  face = x_node;
+  function = codes "turn";
+  body = set_field (codes "kept") (named (codes "n"))
+      ∷ (return (Some (named (codes "n"))) ∷ []);
+}
 
 abbrev pub check_body : plans.Method
 check_body =

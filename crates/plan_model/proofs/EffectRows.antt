@@ -112,7 +112,8 @@ unfolding effect numbered met_within is_met visit_all find_entity body_effect ma
 relay_null_row = refl
 
 -- null comes before an operation without a result
-relay_null_range_row : effect node_plan demo (a_node 3 1 1 (var (codes "back") (v.ref null) ∷ (var (codes "depth") (v.long (negsuc 2147483647)) ∷ [])))
+relay_null_range_row : effect node_plan demo (a_node 3 1 1 (var (codes "back") (v.ref null)
+    ∷ (var (codes "depth") (v.long (negsuc 2147483647)) ∷ [])))
     ≡ runtime (codes "null")
 unfolding effect numbered met_within is_met visit_all find_entity body_effect manager statement_effect return_effect call_effect raise_effect when_effect
     set_field_effect number_in given_values is_full evaluated value_of values_of value_under is_heavy is_deep weight weights depth depth_in leaving out_values
@@ -135,7 +136,8 @@ unfolding effect numbered met_within is_met visit_all find_entity body_effect ma
 relay_999_row = refl
 
 -- arguments are worked out before the frames are counted
-relay_range_deep_row : effect node_plan demo (a_node 3 1 1000 (var (codes "back") (v.ref peers) ∷ (var (codes "depth") (v.long (negsuc 2147483647)) ∷ [])))
+relay_range_deep_row : effect node_plan demo (a_node 3 1 1000 (var (codes "back") (v.ref peers)
+    ∷ (var (codes "depth") (v.long (negsuc 2147483647)) ∷ [])))
     ≡ runtime (codes "range")
 unfolding effect numbered met_within is_met visit_all find_entity body_effect manager statement_effect return_effect call_effect raise_effect when_effect
     set_field_effect number_in given_values is_full evaluated value_of values_of value_under is_heavy is_deep weight weights depth depth_in leaving out_values
@@ -143,7 +145,8 @@ unfolding effect numbered met_within is_met visit_all find_entity body_effect ma
 relay_range_deep_row = refl
 
 -- behind its call relay returns one more than came back
-relay_last_row : effect node_plan demo (a_node 3 2 1 (var (codes "back") (v.ref peers) ∷ (var (codes "depth") (long 3) ∷ (var (codes "r") (long 2) ∷ []))))
+relay_last_row : effect node_plan demo (a_node 3 2 1 (var (codes "back") (v.ref peers) ∷ (var (codes "depth") (long 3)
+    ∷ (var (codes "r") (long 2) ∷ []))))
     ≡ returns (long 3) []
 unfolding effect numbered met_within is_met visit_all find_entity body_effect manager statement_effect return_effect call_effect raise_effect when_effect
     set_field_effect number_in given_values is_full evaluated value_of values_of value_under is_heavy is_deep weight weights depth depth_in leaving out_values
@@ -165,7 +168,8 @@ unfolding effect numbered met_within is_met visit_all find_entity body_effect ma
 turn_return_row = refl
 
 -- a method that is not written returns defaults
-thrice_row : effect node_plan demo (a_node 5 0 1 (var (codes "a") (v.ref peers) ∷ (var (codes "b") (v.ref peers) ∷ (var (codes "c") (v.ref null) ∷ []))))
+thrice_row : effect node_plan demo (a_node 5 0 1 (var (codes "a") (v.ref peers) ∷ (var (codes "b") (v.ref peers)
+    ∷ (var (codes "c") (v.ref null) ∷ []))))
     ≡ returns v.void []
 unfolding effect numbered met_within is_met visit_all find_entity body_effect manager statement_effect return_effect call_effect raise_effect when_effect
     set_field_effect number_in given_values is_full evaluated value_of values_of value_under is_heavy is_deep weight weights depth depth_in leaving out_values

@@ -40,7 +40,8 @@ set_let_go_row : let_go_by two [] (sets (holding (codes "b") (codes "C;3"))) ≡
 unfolding let_go_by value_under refs
 set_let_go_row = refl
 
-set_variables_row : variables_after (sets (holding (codes "a") (codes "C;3"))) two ≡ holding (codes "a") (codes "C;3") ∷ (holding (codes "b") (codes "C;2") ∷ [])
+set_variables_row : variables_after (sets (holding (codes "a") (codes "C;3"))) two ≡ holding (codes "a") (codes "C;3")
+    ∷ (holding (codes "b") (codes "C;2") ∷ [])
 unfolding variables_after put
 set_variables_row = refl
 
@@ -84,7 +85,8 @@ unfolding takes_answer takes_outs put value_under refs
 answer_row = refl
 
 -- an own object that supports the wanted interface, and one that does not
-supported_row : query_answer demo (x_node ∷ []) (codes "S;1") (kd.interface x_interface_name) ≡ v.any (kd.interface x_interface_name) (v.ref (own (codes "S;1") x_interface_name))
+supported_row : query_answer demo (x_node ∷ []) (codes "S;1") (kd.interface x_interface_name)
+    ≡ v.any (kd.interface x_interface_name) (v.ref (own (codes "S;1") x_interface_name))
 unfolding query_answer supports is_base_of reaches_within find_entity
 supported_row = refl
 

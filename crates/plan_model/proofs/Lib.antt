@@ -1,13 +1,17 @@
 mod DemoLines
 mod DemoPlans
 mod EffectRows
+mod FormRows
 mod HoldingRows
-mod LineRows
 pub mod LeavingLaws
+mod LineRows
+mod MisfitRows
+mod OrderRows
 pub mod PlanLaws
 mod RootRows
 mod ServiceRows
 mod StackRows
 mod TextRows
+mod TwiceRows
+mod UnknownRows
 pub mod VerdictLaws
-mod WrongLineRows

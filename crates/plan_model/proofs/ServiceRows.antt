@@ -62,7 +62,8 @@ unfolding created first_filled all_filled fields_with find_entity default_of_kin
 one_argument_row = refl
 
 -- a parameter of type any gets the any whole, and the rest parameter what is left, which is nothing
-two_arguments_row : created parts_plan parts_registry (codes "demo.Part") (any_long 5 ∷ (any_text (codes "a") ∷ [])) ≡ a_part (long 5) (any_text (codes "a")) []
+two_arguments_row : created parts_plan parts_registry (codes "demo.Part") (any_long 5 ∷ (any_text (codes "a") ∷ []))
+    ≡ a_part (long 5) (any_text (codes "a")) []
 unfolding created first_filled all_filled fields_with find_entity default_of_kind default_within does_fit same_kind
 two_arguments_row = refl
 
@@ -117,7 +118,8 @@ unfolding effect numbered met_within is_met visit_all find_entity body_effect ma
 create_instance_row = refl
 
 -- createInstanceWithArguments with those that it got
-create_with_arguments_row : effect parts_plan parts_registry (asked 4 (named_part ∷ (given (any_long 5 ∷ []) ∷ []))) ≡ creates (codes "demo.Part") (any_long 5 ∷ [])
+create_with_arguments_row : effect parts_plan parts_registry (asked 4 (named_part ∷ (given (any_long 5 ∷ []) ∷ [])))
+    ≡ creates (codes "demo.Part") (any_long 5 ∷ [])
 unfolding effect numbered met_within is_met visit_all find_entity body_effect manager manager_effect service_names value_under is_heavy is_deep weight weights
     depth depth_in leaving out_values values_in
 create_with_arguments_row = refl
