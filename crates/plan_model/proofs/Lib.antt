@@ -1,6 +1,7 @@
 mod DemoLines
 mod DemoPlans
 mod EffectRows
+mod EvaluationRows
 mod FormRows
 mod HoldingRows
 pub mod LeavingLaws
