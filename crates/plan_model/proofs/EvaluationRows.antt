@@ -1,5 +1,5 @@
 -- Values of expressions, and how values compare.
-use Rattle.std.proofs.Common.{◌≡◌, refl, ℕ, zero, suc, pos, negsuc, true, false, List, [], ◌∷◌, None, Some, Ok, Err, codes}
+use Rattle.std.proofs.Common.{◌≡◌, refl, ℕ, zero, suc, pos, negsuc, true, false, List, [], ◌∷◌, Some, Ok, Err, codes}
 use Rattle.uno_model.specs.Codes.{same_kind}
 use Rattle.uno_model.specs.Kinds as kd
 use Rattle.uno_model.specs.Values.{Plain, null, own, peer, depth, depth_in}
