@@ -4,7 +4,7 @@ use Rattle.uno_model.specs.Sound.{is_some_list}
 use Rattle.uno_model.specs.Values.{Ref, null, Plain, Plains, any, tuple, list, ref, none, more, refs}
 use Rattle.plan_model.specs.Frames.{Variable}
 use Rattle.plan_model.specs.Plans.{Plan}
-use Rattle.plan_model.specs.Statements.{RootStatement}
+use Rattle.plan_model.specs.Statements.{RootStatement, ask, ask_instance}
 
 -- a root by its number from 1, the place of its next statement, its variables in the order in which they began, its lines so far, the name that it asks for
 -- as the instance, and the values that it holds and no longer names
@@ -27,6 +27,12 @@ statements_in (Some ss) = ss
 unfoldable pub statements_of : Plan → ℕ → List RootStatement
 statements_of p zero = []
 statements_of p (suc n) = statements_in (slice_get p.threads n)
+
+-- the name for which a statement asks the peer: its own, or that of the instance
+unfoldable pub asked_name : (instance : List ℕ) → RootStatement → Option (List ℕ)
+asked_name instance (ask to wanted name) = Some name
+asked_name instance (ask_instance to wanted) = Some instance
+asked_name instance s = None
 
 -- ---- loose values
 
