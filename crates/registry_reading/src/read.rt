@@ -79,7 +79,7 @@ fn read_lines(alloc: Global, heads: &Heads<'_>, bytes: &[u8]) -> Result<Registry
 fn is_first_line(line: &[u8]) -> bool
     ensures { result ≡ bytes_eq line.now (codes "unoreg 1") }
 {
-    line == b"unoreg 1"
+    line == b"unoreg 1".as_slice()
 }
 
 /// The registry of the lines behind the first.
