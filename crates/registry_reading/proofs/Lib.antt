@@ -5,5 +5,6 @@ pub mod KindLemmas
 pub mod LastLemmas
 pub mod LineLemmas
 pub mod NumberLemmas
+pub mod ReadLemmas
 pub mod ReaderLemmas
 pub mod SplitLemmas

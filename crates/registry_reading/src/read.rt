@@ -22,7 +22,7 @@ use crate::RegError;
 use crate::heads::{Heads, heads_of};
 use crate::judge::judge;
 use crate::lines::first_line;
-use crate::reader::{Reader, Wrong};
+use crate::reader::{Reader, Wrong, say_what_is_kept};
 use std::alloc::Global;
 use uno_types::Registry;
 
@@ -132,7 +132,7 @@ fn one_line(
 
 /// Behind the last line: no entity may be open, and nothing left that is no line.
 fn finished(reader: Reader, rest: &[u8], number: u32) -> Result<Registry, RegError>
-    ensures done { IfOk result (λ registry. (rest.now ≡ []) × (state_of reader ≡ model.between (written registry)) × (registry ≡ reader.registry)) }
+    ensures done { IfOk result (λ registry. (rest.now ≡ []) × (state_of reader ≡ model.between (written registry)) × IsRising registry × HasBuiltIn registry) }
     ensures refused { IfErr result (λ e. (e ≡ RegError.BadLine number) × (rest.now ≡ [] → (es : List Plain) → state_of reader ≡ model.between es → ⊥)) }
 {
     let Reader {
@@ -141,5 +141,6 @@ fn finished(reader: Reader, rest: &[u8], number: u32) -> Result<Registry, RegErr
     if !rest.is_empty() || entity.is_some() {
         return Err(RegError::BadLine(number));
     }
+    say_what_is_kept(&registry);
     Ok(registry)
 }

@@ -1,5 +1,6 @@
 //! What was read of a text, and one line more.
 ghost use Rattle.std.specs.Prelude.{◌≡◌, ◌≢◌, ◌++◌, ◌∷◌, [], true, Ok, Err, IfOk, IfErr, OnOk, option_map, Some, None};
+ghost use Rattle.uno_model.specs.BuiltIn.{HasBuiltIn};
 ghost use Rattle.uno_model.specs.Registry.{IsRising};
 ghost use Rattle.uno_entities.specs.Entities.{entity_of};
 ghost use Rattle.registry_text_model.specs.Lines.{written};
@@ -184,7 +185,7 @@ fn between(registry: Registry, last: Name) -> Reader
     ensures entity { result.entity ≡ None }
     ensures rising { IsRising registry }
 {
-    say_that_names_rise(&registry);
+    say_what_is_kept(&registry);
     Reader {
         registry,
         last: Some(last),
@@ -192,9 +193,10 @@ fn between(registry: Registry, last: Name) -> Reader
     }
 }
 
-/// Does nothing: the clause says what each registry keeps, where a proof asks for it.
-fn say_that_names_rise(registry: &Registry)
-    ensures { IsRising registry.now }
+/// Does nothing: the clauses say what each registry keeps, where a proof asks for it.
+pub(crate) fn say_what_is_kept(registry: &Registry)
+    ensures rising { IsRising registry.now }
+    ensures built_in { HasBuiltIn registry.now }
 {
     registry.entities();
 }
