@@ -32,8 +32,7 @@ const MOST_BYTES: usize = 4_194_304;
 /// The registry whose text this is, with the built-in entities. The first wrong line is refused; where all lines are right, the least
 /// rule that is broken, at the first entity that breaks it.
 pub fn read_registry(alloc: Global, bytes: &[u8]) -> Result<Registry, RegError>
-    ensures text { IfOk result (λ registry. registry_text registry ≡ bytes.now) }
-    ensures keeps { IfOk result KeepsTheRules }
+    ensures accepted { IfOk result (IsAccepted bytes.now) }
     ensures sound { IfOk result IsSound }
     ensures long { (result ≡ Err RegError.TooLong) ↔ (4194304 < length bytes.now) }
     ensures bad { (line : ℕ) → result ≡ Err (RegError.BadLine line) → IsBadLine bytes.now line }

@@ -1,12 +1,16 @@
 -- A run of `idl` ends as the printing of its text does.
-use Rattle.std.proofs.Common.{true, false, ◌≡◌, ◌≢◌, ℕ, ◌⊎◌, List, Option, None, Some, refl, sym, subst, ◌∙◌, inl, inr}
+use Rattle.std.proofs.Common.{true, false, ◌≡◌, ◌≢◌, ℕ, ◌≤◌, ◌⊎◌, arith, length, List, Option, None, Some, refl, sym, subst, ◌∙◌, inl, inr}
 use Rattle.uno_base.specs.Causes.{Rose}
 use Rattle.uno_io.specs.Files.{Stored, read_at}
 use Rattle.command_words.specs.Names.{Text}
+use Rattle.uno_model.specs.Entities.{Entity}
+use Rattle.registry_reading.specs.Verdicts.{IsAccepted}
+use Rattle.registry_reading_model.proofs.NoneOfRegistry.{no_bad_line, not_out_of_order, breaks_none}
 use Rattle.uno_run.specs.Idl.{IdlRun, IsRefused, Tells}
 use Rattle.uno_run.specs.Printing.{TextPrinted}
 use Rattle.uno_run.specs.Lines.{has_own_line}
 use Rattle.uno_run.specs.declared.reason.RegistryReason.{RegistryReason}
+use Rattle.uno_run.specs.declared.reason.RegistryReason.TheVariants as reason
 use Rattle.uno_run.specs.declared.status.Status.{Status}
 use Rattle.uno_run.specs.declared.status.Status.TheVariants.{Done, Words, BadRegistry, ReadFault, WriteFault, Broken, NoFile, NoMemory}
 use Rattle.uno_run.proofs.Running.{Kept}
@@ -21,6 +25,13 @@ quiet text old new before now WriteFault p no_fault = absurd (no_fault refl)
 quiet text old new before now (Broken reason place) p no_fault = absurd p
 quiet text old new before now (NoFile file) p no_fault = absurd p
 quiet text old new before now NoMemory p no_fault = p.1
+
+-- the text of a registry that keeps the rules is not refused
+not_refused : (text : List ℕ) (registry : List Entity) → IsAccepted text registry → length text ≤ 4194304 → (line : ℕ) (reason : RegistryReason) → IsRefused text line reason → ⊥
+not_refused text registry is short line reason.TooLong refused = omega (arith, short, refused.1)
+not_refused text registry is short line reason.BadLine refused = no_bad_line text registry is.keeps is.rising is.text line refused.0
+not_refused text registry is short line reason.Order refused = not_out_of_order text registry is.keeps is.rising is.text line refused.0
+not_refused text registry is short line (reason.Rule number) refused = breaks_none text registry is.keeps is.rising is.text is.built_in refused.0.rule line refused.0.breaks
 
 -- a text that is not refused is printed, where the output does not fail and memory is enough
 well_printed : (text : List ℕ) (old new : Option (List ℕ)) (before now : ℕ) (status : Status) → TextPrinted text old new before now status
@@ -52,10 +63,11 @@ module _ {F O : Type 0} (stored : F → Option Stored) (reads : F → ℕ) (take
         no_read_fault = λ no_fault. same;
         no_write_fault = quiet text _ _ _ _ status printed;
         silent = silent;
-        well = λ files other stores reads_so none no_read no_write.
+        well = λ files other registry stores reads_so accepted short no_read no_write.
             let both : Some text ≡ Some other = sym (told files stores) ∙ reads_so in
             let is : text ≡ other = cc in
-            well_printed text _ _ _ _ status printed (λ line reason refused. none line reason (subst (λ t. IsRefused t line reason) is refused)) no_write;
+            well_printed text _ _ _ _ status printed
+            (λ line reason refused. not_refused other registry accepted short line reason (subst (λ t. IsRefused t line reason) is refused)) no_write;
       }
 
   -- where memory is wanted for the line, that is the status
@@ -72,7 +84,7 @@ module _ {F O : Type 0} (stored : F → Option Stored) (reads : F → ℕ) (take
         no_read_fault = λ no_fault. run.no_read_fault (plain ReadFault refl);
         no_write_fault = λ no_fault. run.no_write_fault (plain WriteFault refl);
         silent = λ not_done no_fault. run.silent (plain Done refl) (plain WriteFault refl);
-        well = λ files text stores reads_so none no_read no_write. inr refl;
+        well = λ files text registry stores reads_so accepted short no_read no_write. inr refl;
       }
 
   pub kept_run : (result status : Status) → Kept result status → IdlRun stored reads taken writes name files_old files_new output_old output_new status

@@ -1,26 +1,27 @@
 -- The promise of `idl`: canonical UNOIDL of the registry whose text the named file is, and what each other status says.
-use Rattle.std.specs.Prelude.{◌≡◌, ◌≢◌, ◌⊎◌, ◌<◌, ℕ, List, length, Option, Some, None}
+use Rattle.std.specs.Prelude.{◌≡◌, ◌≢◌, ◌⊎◌, ◌<◌, ◌≤◌, ℕ, List, length, Option, Some, None}
 use Rattle.std.specs.Io.KnownBytes.{Appends}
 use Rattle.uno_base.specs.Causes.{Rose}
 use Rattle.uno_io.specs.Files.{Stored, read_at}
 use Rattle.uno_io.specs.Fronts.{AppendsFront}
 use Rattle.uno_model.specs.Entities.{Entity}
-use Rattle.uno_model.specs.Sound.{IsSound}
 use Rattle.registry_text_model.specs.Canonical.{canonical_unoidl}
-use Rattle.registry_text_model.specs.Lines.{registry_text}
+use Rattle.registry_text_model.specs.Reading.{IsBadLine, IsOutOfOrder}
+use Rattle.registry_reading.specs.Judging.{IsBroken}
+use Rattle.registry_reading.specs.Verdicts.{IsAccepted}
 use Rattle.command_words.specs.Names.{Text}
 use Rattle.uno_run.specs.declared.reason.RegistryReason.{RegistryReason}
-use Rattle.uno_run.specs.declared.reason.RegistryReason.TheVariants.{TooLong}
+use Rattle.uno_run.specs.declared.reason.RegistryReason.TheVariants as reason
 use Rattle.uno_run.specs.declared.status.Status.{Status}
 use Rattle.uno_run.specs.declared.status.Status.TheVariants.{Done, BadRegistry, ReadFault, WriteFault, NoFile, NoMemory}
 
--- the text of a registry is refused at this line for this reason
+-- the text is refused at this line for this reason: it is too long; or a line is the first wrong one, or out of order; or it says a registry that breaks this
+-- rule, and none before it, first at the entity of this line
 abbrev pub IsRefused : List ℕ → ℕ → RegistryReason → Type 0
-IsRefused text line reason = (4194304 < length text → (reason ≡ TooLong) × (line ≡ 0)) × (reason ≡ TooLong → 4194304 < length text)
-
--- the bytes are the text of this sound registry
-abbrev pub IsTextOf : List ℕ → List Entity → Type 0
-IsTextOf text registry = (registry_text registry ≡ text) × IsSound registry
+IsRefused text line reason.TooLong = (line ≡ 0) × (4194304 < length text)
+IsRefused text line reason.BadLine = IsBadLine text line × (length text ≤ 4194304)
+IsRefused text line reason.Order = IsOutOfOrder text line × (length text ≤ 4194304)
+IsRefused text line (reason.Rule number) = IsBroken text number line × (length text ≤ 4194304)
 
 -- where the store tells its files, this is what it tells of the file of the name
 abbrev pub Tells : Option Stored → Text → Option (List ℕ) → Type 0
@@ -31,7 +32,7 @@ pub record WroteAll (store : Option Stored) (name : Text) (old new : Option (Lis
   pub text : List ℕ
   pub registry : List Entity
   pub told : Tells store name (Some text)
-  pub is_text : IsTextOf text registry
+  pub is_text : IsAccepted text registry
   pub written : Appends old new (canonical_unoidl registry)
 
 -- it took a front of it
@@ -39,7 +40,7 @@ pub record WroteFront (store : Option Stored) (name : Text) (old new : Option (L
   pub text : List ℕ
   pub registry : List Entity
   pub told : Tells store name (Some text)
-  pub is_text : IsTextOf text registry
+  pub is_text : IsAccepted text registry
   pub written : AppendsFront old new (canonical_unoidl registry)
 
 -- the file is a text that is refused
@@ -59,6 +60,6 @@ pub record IdlRun {F O : Type 0} (stored : F → Option Stored) (reads : F → �
   pub no_read_fault : status ≢ ReadFault → reads files_new ≡ reads files_old
   pub no_write_fault : status ≢ WriteFault → writes output_new ≡ writes output_old
   pub silent : status ≢ Done → status ≢ WriteFault → output_new ≡ output_old
-  -- where the store has a text there that is not refused, and neither it nor the output fails
-  pub well : (files : Stored) (text : List ℕ) → stored files_old ≡ Some files → read_at name files ≡ Some text → ((line : ℕ) (reason : RegistryReason) → IsRefused text line reason → ⊥)
+  -- where the store has there the text of a registry that keeps the rules, and neither it nor the output fails
+  pub well : (files : Stored) (text : List ℕ) (registry : List Entity) → stored files_old ≡ Some files → read_at name files ≡ Some text → IsAccepted text registry → length text ≤ 4194304
       → (Rose (reads files_old) (reads files_new) → ⊥) → (Rose (writes output_old) (writes output_new) → ⊥) → (status ≡ Done) ⊎ (status ≡ NoMemory)
