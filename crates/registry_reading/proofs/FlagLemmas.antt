@@ -1,6 +1,5 @@
 -- Nine flags that are taken one after the other.
 use Rattle.std.proofs.Common.{◌≡◌, ℕ, Bool, List, Option, refl, codes}
-use Rattle.uno_model.specs.declared.flags.Flags.{Flags}
 use Rattle.registry_reading_model.specs.Words.{take_flag, flags_left}
 
 pub nine_flags : {a b c d e f g h i : Bool} (k : Option (List ℕ)) {l m n o p q r s t : Option (List ℕ)}

@@ -1,5 +1,5 @@
 -- From the places at which the tests of the rules find an entity to what is refused.
-use Rattle.std.proofs.Common.{◌≡◌, ◌≢◌, ℕ, zero, suc, ◌<◌, ◌≤◌, length, inl, inr, Bool, false, List, [], ◌∷◌, Option, None, Some, arith, refl, sym, ap, subst, ◌∙◌}
+use Rattle.std.proofs.Common.{◌≡◌, ℕ, zero, suc, ◌<◌, ◌≤◌, length, inl, inr, Bool, false, List, [], ◌∷◌, Option, None, Some, arith, refl, sym, ap, subst, ◌∙◌}
 use Rattle.std.specs.List.{list_any, position}
 use Rattle.std.specs.Prelude.{slice_get, Result, Ok, Err, IfErr, OnOk, not}
 use Rattle.uno_model.specs.Entities as plain
@@ -23,7 +23,7 @@ use Rattle.uno_model.specs.Registry.{leads_to}
 use Rattle.uno_entities.specs.Entities.{entity_of, entities_of}
 use Rattle.uno_entities.specs.declared.entity.Entity.{Entity}
 use Rattle.registry_rules.specs.First.{FindsFirst}
-use Rattle.registry_reading_model.specs.Heads.{Head, head_named}
+use Rattle.registry_reading_model.specs.Heads.{Head}
 use Rattle.registry_reading_model.proofs.RuleOrder.{bases_at, all_bases, names_at, all_names, one_way_at, all_one_way, raised_at, all_raised, constant_values_at, all_constant_values}
 use Rattle.registry_reading_model.proofs.RuleOrder.{services_at, all_services, singletons_at, all_singletons, types_at, all_types, whole_at, all_whole, circles_at, all_circles, lesser_than_1, same_number}
 use Rattle.registry_reading_model.specs.Whole.{ReadWhole}

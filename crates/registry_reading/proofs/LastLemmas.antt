@@ -3,7 +3,7 @@ use Rattle.std.proofs.Common.{◌≡◌, subst, ℕ, Bool, true, false, List, []
 use Rattle.std.proofs.lemmas.List.{map-append}
 use Rattle.std.specs.Str.{bytes_eq}
 use Rattle.std.proofs.lemmas.Slice.Eq.{bytes_eq-Decides}
-use Rattle.uno_model.specs.Entities.{Member, Base, Body, interface, attribute, method, Constructor}
+use Rattle.uno_model.specs.Entities.{Member, Base, interface, attribute, method, Constructor}
 use Rattle.registry_reading_model.specs.Bodies.{last_changed, last_of, all_but_last, pushed, interface_line, with_members, attribute_of, method_of, oneway_of, get_raises_added, set_raises_added, param_added, raises_added, constructor_line, given_added, rest_added, raised_added}
 use Rattle.registry_reading_model.specs.Changes.{Change}
 use Rattle.registry_reading_model.specs.Words.{on_some}
@@ -60,14 +60,14 @@ behind_bases c bases members word text no_base no_optional = rw (no_base, no_opt
     At : List ℕ → Type 0
     At w =
         (
-          if bytes_eq w (codes "attribute") then with_members bases (pushed members (on_some (attribute_of c text) (λ a. Some (attribute a))))
-          else (if bytes_eq w (codes "getraises") then with_members bases (last_changed (get_raises_added text) members)
-          else (if bytes_eq w (codes "setraises") then with_members bases (last_changed (set_raises_added text) members)
-          else (if bytes_eq w (codes "method") then with_members bases (pushed members (on_some (method_of c text) (λ m. Some (method m))))
-          else (if bytes_eq w (codes "oneway") then with_members bases (pushed members (on_some (oneway_of c text) (λ m. Some (method m))))
-          else (if bytes_eq w (codes "param") then with_members bases (last_changed (param_added c text) members)
-          else (if bytes_eq w (codes "raises") then with_members bases (last_changed (raises_added text) members)
-          else None))))))
+        if bytes_eq w (codes "attribute") then with_members bases (pushed members (on_some (attribute_of c text) (λ a. Some (attribute a))))
+        else (if bytes_eq w (codes "getraises") then with_members bases (last_changed (get_raises_added text) members)
+        else (if bytes_eq w (codes "setraises") then with_members bases (last_changed (set_raises_added text) members)
+        else (if bytes_eq w (codes "method") then with_members bases (pushed members (on_some (method_of c text) (λ m. Some (method m))))
+        else (if bytes_eq w (codes "oneway") then with_members bases (pushed members (on_some (oneway_of c text) (λ m. Some (method m))))
+        else (if bytes_eq w (codes "param") then with_members bases (last_changed (param_added c text) members)
+        else (if bytes_eq w (codes "raises") then with_members bases (last_changed (raises_added text) members)
+        else None))))))
         )
         ≡ with_members bases (member_line c members w text)
 
@@ -129,10 +129,10 @@ one_of c constructors word text other = rw other (first (bytes_eq word (codes "p
     At : List ℕ → Type 0
     At w =
         (
-          if bytes_eq w (codes "param") then last_changed (given_added c text) constructors
-          else (if bytes_eq w (codes "rest") then last_changed (rest_added text) constructors
-          else (if bytes_eq w (codes "raises") then last_changed (raised_added text) constructors
-          else None))
+        if bytes_eq w (codes "param") then last_changed (given_added c text) constructors
+        else (if bytes_eq w (codes "rest") then last_changed (rest_added text) constructors
+        else (if bytes_eq w (codes "raises") then last_changed (raised_added text) constructors
+        else None))
         )
         ≡ last_changed (added_to c w text) constructors
 

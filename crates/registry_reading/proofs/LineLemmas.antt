@@ -1,7 +1,7 @@
 -- The first line of a text.
-use Rattle.std.proofs.Common.{◌≡◌, ℕ, ◌+◌, ◌-◌, ◌<◌, ◌≤◌, ◌==◌, nat_lt, Bool, true, List, [], ◌∷◌, ◌++◌, length, take, drop, Some, refl, sym, ap, ◌∙◌, arith, length-drop}
+use Rattle.std.proofs.Common.{◌≡◌, ℕ, ◌+◌, ◌-◌, ◌==◌, nat_lt, true, List, [], ◌∷◌, ◌++◌, length, take, drop, Some, sym, ap, ◌∙◌, arith, length-drop}
 use Rattle.std.proofs.lemmas.List.{take_all}
-use Rattle.std.specs.List.{position, list_all}
+use Rattle.std.specs.List.{position}
 use Rattle.std.specs.Str.{IsUtf8, IsAscii}
 use Rattle.std.proofs.lemmas.Bool.{and_parts, ltb-true}
 use Rattle.std.proofs.lemmas.Str.{IsUtf8-from_ascii}
@@ -13,8 +13,7 @@ use Rattle.registry_reading_model.proofs.AddLaws.{split_feed}
 pub first_parts : (bytes : List ℕ) (i : ℕ) → position (λ b. b == 10) bytes ≡ Some i
     → (bytes ≡ take i bytes ++ 10 ∷ take (length bytes - (i + 1)) (drop (i + 1) bytes)) × (is_one_line (take i bytes) ≡ true)
 first_parts bytes i at =
-    let parts = split_feed bytes i at in
-    (
+    let parts = split_feed bytes i at in (
       parts.0 ∙ ap (λ cs. take i bytes ++ 10 ∷ cs) (sym (take_all (length bytes - (i + 1)) (drop (i + 1) bytes) (omega (arith, length-drop (i + 1) bytes)))),
       parts.1,
     )

@@ -1,6 +1,6 @@
 -- From line to line, and from the last of them to the whole.
-use Rattle.std.proofs.Common.{◌≡◌, ◌≢◌, ℕ, suc, ◌+◌, ◌<◌, ◌≤◌, Bool, true, false, List, [], ◌∷◌, ◌++◌, length, length-append, Option, None, Some, Ok, Err, refl, sym, ap, subst, ◌∙◌, arith, codes, ◌⊎◌, inl, inr, if◌then◌else◌}
-use Rattle.std.specs.Str.{bytes_eq, IsUtf8}
+use Rattle.std.proofs.Common.{◌≡◌, ℕ, ◌+◌, ◌<◌, Bool, true, false, List, [], ◌∷◌, ◌++◌, length, length-append, Ok, Err, refl, sym, ap, subst, ◌∙◌, arith, codes, ◌⊎◌, inl, inr, if◌then◌else◌}
+use Rattle.std.specs.Str.{bytes_eq}
 use Rattle.std.proofs.lemmas.Slice.Eq.{bytes_eq-Decides}
 use Rattle.std.specs.Prelude.{Result, IfOk, IfErr}
 use Rattle.std.specs.Result.{IsErrAnd}
@@ -9,11 +9,11 @@ use Rattle.uno_model.specs.Entities as plain
 use Rattle.uno_model.specs.Registry.{IsRising}
 use Rattle.uno_model.specs.Sound.{IsSound}
 use Rattle.registry_text_model.specs.Lines.{written, registry_text}
-use Rattle.registry_text_model.specs.Reading.{IsBadLine, IsOutOfOrder, is_one_line, text_lines}
+use Rattle.registry_text_model.specs.Reading.{IsBadLine, IsOutOfOrder, is_one_line}
 use Rattle.registry_text_model.specs.Rules.{KeepsTheRules}
 use Rattle.registry_reading_model.specs.Heads.{Head, named_in, heads_in}
 use Rattle.registry_reading_model.specs.Kept.{kept}
-use Rattle.registry_reading_model.specs.States.{State, unread, between, within, bad, out_of_order, step}
+use Rattle.registry_reading_model.specs.States.{unread, between, bad, step}
 use Rattle.registry_reading_model.specs.TextLines.{lines_in, all_plain}
 use Rattle.registry_reading_model.specs.Whole.{ReadWhole}
 use Rattle.registry_reading_model.proofs.ReadingLaws.{ReadSoFar, nothing_read, one_read, bad_read, order_read, no_text_read, cut_read, unfinished_read, whole_read, lines_read, heads_read}
@@ -25,7 +25,7 @@ use Rattle.registry_reading.specs.declared.error.RegError.TheVariants as error
 use Rattle.registry_reading.specs.declared.reader.Reader.{Reader}
 use Rattle.registry_reading.specs.Readers.{state_of, IsRead}
 use Rattle.registry_reading.specs.Verdicts.{IsAtLine, IsOfLines, IsRefusal, IsAccepted}
-use Rattle.registry_reading.specs.Judging.{KeepsAll, Refuses}
+use Rattle.registry_reading.specs.Judging.{KeepsAll}
 
 -- these lines were read, and the next has this number
 pub record InLines (bytes rest : List ℕ) (number : ℕ) (heads : List Head) (r : Reader) : Type 0 where

@@ -2,7 +2,6 @@
 use Rattle.std.proofs.Common.{◌≡◌, ℕ, Bool, true, false, List, [], ◌∷◌, ◌++◌, Option, None, Some, Ok, Err, refl, sym, ap, subst, ◌∙◌, codes, if◌then◌else◌}
 use Rattle.std.proofs.lemmas.Bool.{and_parts}
 use Rattle.std.specs.Prelude.{not}
-use Rattle.std.specs.Str.{bytes_eq}
 use Rattle.std.proofs.lemmas.Slice.Eq.{bytes_eq-Decides}
 use Rattle.uno_model.specs.BuiltIn.{built_in}
 use Rattle.uno_model.specs.Entities as plain
@@ -13,7 +12,7 @@ use Rattle.registry_reading_model.specs.Bodies.{body_line}
 use Rattle.registry_reading_model.specs.Changes.{Change}
 use Rattle.registry_reading_model.specs.Headers.{header_of, is_free_name, opened, opened_alone, opened_with, words_opened, perhaps_published}
 use Rattle.registry_reading_model.specs.Words.{on_some, where_, word_of, behind}
-use Rattle.registry_reading_model.specs.States.{State, unread, between, within, bad, out_of_order, step, is_above, is_above_name, last_name, with_body, begun, gone_on}
+use Rattle.registry_reading_model.specs.States.{State, between, within, bad, out_of_order, step, is_above, is_above_name, last_name, with_body, begun, gone_on}
 use Rattle.registry_reading.proofs.LastLemmas.{differs}
 use Rattle.registry_reading.specs.declared.reader.Reader.{Reader}
 use Rattle.registry_reading.specs.Readers.{IsRead, MayCome}

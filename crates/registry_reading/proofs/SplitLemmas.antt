@@ -1,11 +1,10 @@
 -- std's ways to take a text apart, as the functions of the model.
-use Rattle.std.proofs.Common.{◌≡◌, ◌≢◌, ℕ, zero, suc, ◌<◌, Bool, true, false, ◌==◌, List, [], ◌∷◌, ◌++◌, length, take, drop, get_or, Option, None, Some, MatchOption, option_map, refl, sym, ap, ◌∙◌, arith, Bor, eq-eqb, ne_eqb}
-use Rattle.std.proofs.lemmas.Bool.{both_ways}
+use Rattle.std.proofs.Common.{◌≡◌, ◌≢◌, ℕ, suc, ◌<◌, Bool, true, false, List, [], ◌∷◌, ◌++◌, length, take, drop, get_or, Option, None, Some, MatchOption, option_map, refl, sym, ap, ◌∙◌, arith, Bor, eq-eqb, ne_eqb}
 use Rattle.std.proofs.lemmas.Str.Pattern.{IsSplitOnceResult, split_parts}
 use Rattle.std.proofs.lemmas.List.{take_at, drop_at, take-append-drop}
 use Rattle.std.proofs.lemmas.Slice.Eq.{bytes_eq-Decides}
 use Rattle.std.specs.Str.{bytes_eq}
-use Rattle.registry_reading_model.specs.Words.{split_at, behind, in_front}
+use Rattle.registry_reading_model.specs.Words.{split_at, behind}
 use Rattle.registry_reading.specs.Views.{one, both}
 
 -- no mark, no split

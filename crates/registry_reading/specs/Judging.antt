@@ -1,6 +1,6 @@
 -- A registry that was read, judged by the rules.
-use Rattle.std.specs.Prelude.{◌≡◌, ◌≢◌, ℕ, ◌<◌, Bool, false, not, List, Option, None, Some, Result, Ok, Err, ⊤, slice_get}
-use Rattle.std.specs.List.{list_any, position}
+use Rattle.std.specs.Prelude.{◌≡◌, ◌≢◌, ℕ, ◌<◌, false, List, Option, None, Some, ⊤, slice_get}
+use Rattle.std.specs.List.{list_any}
 use Rattle.uno_model.specs.Entities.{Entity}
 use Rattle.registry_text_model.specs.Reading.{BreaksRule}
 use Rattle.registry_text_model.specs.Rules.{Rule, number_of, values, AllKeep}

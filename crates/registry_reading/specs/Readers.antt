@@ -1,5 +1,5 @@
 -- What a reader has read.
-use Rattle.std.specs.Prelude.{◌≡◌, ℕ, Bool, true, List, Option, None, Some, ⊤}
+use Rattle.std.specs.Prelude.{◌≡◌, true, List, Option, None, Some, ⊤}
 use Rattle.uno_model.specs.Entities as plain
 use Rattle.uno_entities.specs.Entities.{entity_of}
 use Rattle.uno_entities.specs.declared.entity.Entity.{Entity}

@@ -19,11 +19,7 @@ use uno_types::{Constant, Field, Item, Name};
 
 /// `NAME TYPE`.
 #[tactic(auto, unfolding(registry_reading_model::specs::Bodies::field_of))]
-pub(crate) fn field(
-    alloc: Global,
-    heads: &Heads<'_>,
-    text: &str,
-) -> Result<Option<Field>, NoMemory>
+pub(crate) fn field(alloc: Global, heads: &Heads<'_>, text: &str) -> Result<Option<Field>, NoMemory>
     ensures { IfOk result (λ f. option_map field_of f ≡ model.field_of (kept (named_in heads.now)) text.now) }
 {
     let Some((name, behind)) = identifier(text) else {

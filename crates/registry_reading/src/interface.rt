@@ -116,7 +116,9 @@ fn with_get_raises(alloc: Global, member: Member, text: &str) -> Result<Option<M
     let Member::Attribute(mut attribute) = member else {
         return Ok(None);
     };
-    if !attribute.set_raises.is_empty() || !push_entity_name(alloc, &mut attribute.get_raises, text)? {
+    if !attribute.set_raises.is_empty()
+        || !push_entity_name(alloc, &mut attribute.get_raises, text)?
+    {
         return Ok(None);
     }
     Ok(Some(Member::Attribute(attribute)))

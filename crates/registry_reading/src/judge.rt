@@ -22,22 +22,14 @@ use std::alloc::Global;
 use uno_types::{Entity, Registry};
 
 /// Refuses what breaks a rule: the least of those that are broken, at the first entity that breaks it.
-pub(crate) fn judge(
-    alloc: Global,
-    heads: &Heads<'_>,
-    registry: &Registry,
-) -> Result<(), RegError>
+pub(crate) fn judge(alloc: Global, heads: &Heads<'_>, registry: &Registry) -> Result<(), RegError>
     ensures kept { OnOk result (KeepsAll heads.now registry.now) }
     ensures refused { IfErr result (Refuses heads.now registry.now) }
 {
     judge_entities(alloc, heads, registry.entities())
 }
 
-fn judge_entities(
-    alloc: Global,
-    heads: &Heads<'_>,
-    entities: &[Entity],
-) -> Result<(), RegError>
+fn judge_entities(alloc: Global, heads: &Heads<'_>, entities: &[Entity]) -> Result<(), RegError>
     requires { IsRising (entities_of entities.now) }
     ensures kept { OnOk result (KeepsAll heads.now (entities_of entities.now)) }
     ensures refused { IfErr result (Refuses heads.now (entities_of entities.now)) }
@@ -66,11 +58,7 @@ fn bases(heads: &Heads<'_>, entities: &[Entity]) -> Result<(), RegError>
 }
 
 /// Nothing leads back to itself.
-fn circles(
-    alloc: Global,
-    heads: &Heads<'_>,
-    entities: &[Entity],
-) -> Result<(), RegError>
+fn circles(alloc: Global, heads: &Heads<'_>, entities: &[Entity]) -> Result<(), RegError>
     requires rising { IsRising (entities_of entities.now) }
     requires lesser { LesserKept (entities_of entities.now) r.circles }
     ensures kept { OnOk result (LesserKept (entities_of entities.now) r.names) }
@@ -80,11 +68,7 @@ fn circles(
 }
 
 /// Names differ.
-fn names(
-    alloc: Global,
-    heads: &Heads<'_>,
-    entities: &[Entity],
-) -> Result<(), RegError>
+fn names(alloc: Global, heads: &Heads<'_>, entities: &[Entity]) -> Result<(), RegError>
     requires rising { IsRising (entities_of entities.now) }
     requires kinds { position (λ e. not (bases_are_of_their_kind (entities_of entities.now) (entity_of e))) entities.now ≡ None }
     requires lesser { LesserKept (entities_of entities.now) r.names }
@@ -172,11 +156,7 @@ fn types(heads: &Heads<'_>, entities: &[Entity]) -> Result<(), RegError>
 }
 
 /// Entities are whole and within the limits.
-fn whole(
-    alloc: Global,
-    heads: &Heads<'_>,
-    entities: &[Entity],
-) -> Result<(), RegError>
+fn whole(alloc: Global, heads: &Heads<'_>, entities: &[Entity]) -> Result<(), RegError>
     requires rising { IsRising (entities_of entities.now) }
     requires lesser { LesserKept (entities_of entities.now) r.whole }
     requires long { NoneBeyond heads.now }

@@ -78,5 +78,7 @@ fn one_more(number: u128, digit: u8) -> u128
     requires { model.is_digit digit ≡ true }
     ensures { result ≡ min (min (number * 10) (2 ^ 128 - 1) + (digit - 48)) (2 ^ 128 - 1) }
 {
-    number.saturating_mul(10).saturating_add(u128::from(digit - b'0'))
+    number
+        .saturating_mul(10)
+        .saturating_add(u128::from(digit - b'0'))
 }

@@ -135,7 +135,9 @@ fn finished(reader: Reader, rest: &[u8], number: u32) -> Result<Registry, RegErr
     ensures refused { IfErr result (λ e. (e ≡ RegError.BadLine number) × (rest.now ≡ [] → (es : List Plain) → state_of reader ≡ model.between es → ⊥)) }
 {
     let Reader {
-        registry, entity, ..
+        registry,
+        entity,
+        ..
     } = reader;
     if !rest.is_empty() || entity.is_some() {
         return Err(RegError::BadLine(number));

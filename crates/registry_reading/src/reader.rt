@@ -67,12 +67,7 @@ impl Reader {
     }
 
     /// One line more.
-    pub(crate) fn line(
-        self,
-        alloc: Global,
-        heads: &Heads<'_>,
-        line: &str,
-    ) -> Result<Reader, Wrong>
+    pub(crate) fn line(self, alloc: Global, heads: &Heads<'_>, line: &str) -> Result<Reader, Wrong>
         requires { IsRead self }
         ensures next { IfOk result (λ next. model.step true (kept (named_in heads.now)) (state_of self) line.now ≡ Ok (state_of next)) }
         ensures read { IfOk result IsRead }

@@ -1,4 +1,4 @@
-use Rattle.std.proofs.Common.{rules, of_calls, sym, ap, ◌∙◌}
+use Rattle.std.proofs.Common.{rules, of_calls, sym}
 use Rattle.std.proofs.lemmas.Fn.{always_returns_same}
 use Rattle.registry_reading.proofs.HeadLemmas.{order_of, placed, parted}
 use Rattle.registry_reading.proofs.heads.find.Goals as goal

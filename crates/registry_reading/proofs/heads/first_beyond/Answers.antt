@@ -1,4 +1,4 @@
-use Rattle.std.proofs.Common.{◌≡◌, sym, ◌∙◌}
+use Rattle.std.proofs.Common.{sym, ◌∙◌}
 use Rattle.registry_reading_model.proofs.RulePlaces.{position_mapped}
 use Rattle.registry_reading.specs.Heads.{plain_head}
 use Rattle.registry_reading.proofs.heads.first_beyond.Goals as goal

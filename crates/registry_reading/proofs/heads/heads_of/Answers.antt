@@ -1,4 +1,3 @@
-use Rattle.std.proofs.Common.{◌≡◌, refl, sym, ◌∙◌}
 use Rattle.registry_reading.proofs.HeadLemmas.{goes_on, ends}
 use Rattle.registry_reading.proofs.heads.heads_of.Goals as goal
 

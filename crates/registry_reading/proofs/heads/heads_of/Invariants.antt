@@ -1,6 +1,4 @@
-use Rattle.std.proofs.Common.{◌≡◌, ◌+◌, ◌≤◌, length, true, suc}
-use Rattle.registry_reading_model.specs.Heads as model
-use Rattle.registry_reading_model.specs.TextLines.{lines_in, all_plain}
+use Rattle.std.proofs.Common.{length}
 use Rattle.registry_reading.proofs.HeadLemmas.{LookedAt}
 use Rattle.registry_reading.proofs.heads.heads_of.Given as goal
 

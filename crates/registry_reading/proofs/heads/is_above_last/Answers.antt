@@ -1,4 +1,4 @@
-use Rattle.std.proofs.Common.{◌≡◌, ◌∙◌, sym}
+use Rattle.std.proofs.Common.{◌∙◌, sym}
 use Rattle.registry_reading.proofs.HeadLemmas.{above_some, above_none}
 use Rattle.registry_reading.proofs.heads.is_above_last.Goals as goal
 

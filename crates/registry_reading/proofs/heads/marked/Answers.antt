@@ -1,4 +1,4 @@
-use Rattle.std.proofs.Common.{◌≡◌, refl, sym, ◌∙◌}
+use Rattle.std.proofs.Common.{refl, sym, ◌∙◌}
 use Rattle.registry_reading.proofs.HeadLemmas.{none_marked, marked_heads, marked_names_rise}
 use Rattle.registry_reading.proofs.heads.marked.Goals as goal
 

@@ -1,4 +1,3 @@
-use Rattle.std.proofs.Common.{◌≡◌}
 use Rattle.registry_reading.proofs.LastLemmas.{taken_rest}
 use Rattle.registry_reading.proofs.interface.interface_line.Goals as goal
 

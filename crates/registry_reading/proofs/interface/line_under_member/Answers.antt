@@ -1,4 +1,4 @@
-use Rattle.std.proofs.Common.{◌≡◌, ap, option_map}
+use Rattle.std.proofs.Common.{ap, option_map}
 use Rattle.uno_entities.specs.Entities.{member_of}
 use Rattle.registry_reading.proofs.LastLemmas.{none_left, none_made, one_made}
 use Rattle.registry_reading.proofs.interface.line_under_member.Goals as goal

@@ -1,4 +1,4 @@
-use Rattle.std.proofs.Common.{◌≡◌, ℕ, refl}
+use Rattle.std.proofs.Common.{refl}
 use Rattle.registry_text_model.specs.Rules as r
 use Rattle.registry_reading.proofs.JudgeLemmas as lemma
 use Rattle.registry_reading.proofs.judge.one_way.Goals as goal

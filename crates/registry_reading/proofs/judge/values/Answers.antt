@@ -1,4 +1,4 @@
-use Rattle.std.proofs.Common.{◌≡◌, refl}
+use Rattle.std.proofs.Common.{refl}
 use Rattle.registry_reading_model.proofs.RuleLines.{none_beyond_found}
 use Rattle.registry_reading.proofs.JudgeLemmas as lemma
 use Rattle.registry_reading.proofs.judge.values.Goals as goal

@@ -1,4 +1,3 @@
-use Rattle.std.proofs.Common.{◌≡◌, ℕ}
 use Rattle.registry_reading.proofs.JudgeLemmas as lemma
 use Rattle.registry_reading.proofs.judge.whole.Goals as goal
 

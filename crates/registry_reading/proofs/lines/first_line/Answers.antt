@@ -1,4 +1,4 @@
-use Rattle.std.proofs.Common.{◌≡◌, sym, ◌∙◌}
+use Rattle.std.proofs.Common.{sym, ◌∙◌}
 use Rattle.registry_reading_model.proofs.AddLaws.{no_feed}
 use Rattle.registry_reading.proofs.LineLemmas.{first_parts}
 use Rattle.registry_reading.proofs.lines.first_line.Goals as goal

@@ -1,4 +1,3 @@
-use Rattle.std.proofs.Common.{◌≡◌}
 use Rattle.registry_reading.proofs.LineLemmas.{plain_is_utf8}
 use Rattle.registry_reading.proofs.lines.text_or_empty.Goals as goal
 

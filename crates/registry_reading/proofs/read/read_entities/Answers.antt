@@ -1,4 +1,3 @@
-use Rattle.std.proofs.Common.{◌≡◌}
 use Rattle.registry_reading.proofs.ReadLemmas.{begun, handed_on, line_refused, one_line_on, on_done, on_refused, whole, end_refused}
 use Rattle.registry_reading.proofs.read.read_entities.Goals as goal
 

@@ -1,4 +1,4 @@
-use Rattle.std.proofs.Common.{◌≡◌, sym, ◌∙◌}
+use Rattle.std.proofs.Common.{sym, ◌∙◌}
 use Rattle.registry_reading.proofs.ReadLemmas.{no_first, wrong_first}
 use Rattle.registry_reading.proofs.read.read_lines.Goals as goal
 

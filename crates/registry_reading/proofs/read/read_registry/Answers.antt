@@ -1,4 +1,3 @@
-use Rattle.std.proofs.Common.{◌≡◌}
 use Rattle.registry_reading.proofs.ReadLemmas.{on_done, accepts, sound}
 use Rattle.registry_reading.proofs.read.read_registry.Goals as goal
 

@@ -1,4 +1,3 @@
-use Rattle.std.proofs.Common.{◌≡◌}
 use Rattle.registry_reading.proofs.ReadLemmas.{accepted}
 use Rattle.registry_reading.proofs.read.read_short.Goals as goal
 

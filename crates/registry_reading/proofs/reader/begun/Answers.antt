@@ -1,4 +1,4 @@
-use Rattle.std.proofs.Common.{◌≡◌, ap, sym, ◌∙◌, option_map, Some}
+use Rattle.std.proofs.Common.{ap, ◌∙◌, option_map}
 use Rattle.uno_entities.specs.Entities.{entity_of}
 use Rattle.registry_reading_model.specs.States.{is_above_name}
 use Rattle.registry_reading.proofs.ReaderLemmas.{header_falls, header_fits, header_free}
@@ -18,10 +18,9 @@ pub returns-clause-read : goal.returns-clause-read
 returns-clause-read c =
     record {
       last = c.requires;
-      entity =
-          (
-            (header_fits _ _ _ _ (entity_of c.in-Some.entity) _ _ c.in_ok-entity.ensures (ap (option_map entity_of) c.in-Some.is) c.requires
+      entity = (
+        (header_fits _ _ _ _ (entity_of c.in-Some.entity) _ _ c.in_ok-entity.ensures (ap (option_map entity_of) c.in-Some.is) c.requires
             (c.is_above.ensures ∙ ap (is_above_name c.args.last) c.as_str.ensures) c.if-not-is_above.false).1,
-            header_free _ _ _ (entity_of c.in-Some.entity) c.in_ok-entity.ensures (ap (option_map entity_of) c.in-Some.is),
-          );
+        header_free _ _ _ (entity_of c.in-Some.entity) c.in_ok-entity.ensures (ap (option_map entity_of) c.in-Some.is),
+      );
     }

@@ -1,9 +1,8 @@
-use Rattle.std.proofs.Common.{◌≡◌, ap, sym, ◌∙◌, subst, Err, Some, None}
+use Rattle.std.proofs.Common.{ap, ◌∙◌, subst, Err, Some}
 use Rattle.uno_model.specs.Registry.{IsRising}
 use Rattle.uno_entities.specs.Entities.{entity_of}
-use Rattle.registry_text_model.specs.Lines.{written}
 use Rattle.registry_reading_model.specs.States as model
-use Rattle.registry_reading.proofs.ReaderLemmas.{absent, one_more, its_name_is_last, read_between}
+use Rattle.registry_reading.proofs.ReaderLemmas.{absent, one_more, read_between}
 use Rattle.registry_reading.proofs.reader.ended.Goals as goal
 
 pub unreachable-requires : goal.unreachable-requires

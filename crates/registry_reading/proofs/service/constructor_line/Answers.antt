@@ -1,4 +1,3 @@
-use Rattle.std.proofs.Common.{◌≡◌}
 use Rattle.registry_reading.proofs.LastLemmas.{behind_constructor}
 use Rattle.registry_reading.proofs.service.constructor_line.Goals as goal
 

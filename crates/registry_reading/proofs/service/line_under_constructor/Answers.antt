@@ -1,4 +1,4 @@
-use Rattle.std.proofs.Common.{◌≡◌, ap, option_map}
+use Rattle.std.proofs.Common.{ap, option_map}
 use Rattle.uno_entities.specs.Entities.{constructor_of}
 use Rattle.registry_reading.proofs.LastLemmas.{none_left, none_made, one_made}
 use Rattle.registry_reading.proofs.service.line_under_constructor.Goals as goal

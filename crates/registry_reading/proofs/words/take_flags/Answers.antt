@@ -1,4 +1,3 @@
-use Rattle.std.proofs.Common.{◌≡◌}
 use Rattle.registry_reading.proofs.FlagLemmas.{nine_flags}
 use Rattle.registry_reading.proofs.words.take_flags.Goals as goal
 

@@ -1,4 +1,4 @@
-use Rattle.std.proofs.Common.{subst, sym, ap}
+use Rattle.std.proofs.Common.{subst, sym}
 use Rattle.registry_reading.specs.Heads.{plain_heads, NamesRise}
 use Rattle.registry_reading.proofs.HeadLemmas.{none_rise}
 use Rattle.registry_reading.proofs.heads.Heads.new.Goals as goal

@@ -1,4 +1,4 @@
-use Rattle.std.proofs.Common.{◌≡◌, ap, sym, ◌∙◌}
+use Rattle.std.proofs.Common.{ap, sym, ◌∙◌}
 use Rattle.registry_text_model.specs.Lines.{written}
 use Rattle.registry_reading_model.specs.States as model
 use Rattle.registry_reading_model.specs.States.{last_name}
