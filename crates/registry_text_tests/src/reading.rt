@@ -12,14 +12,38 @@ type Row = (&'static str, &'static [u8], RegError);
 const LINES: &[Row] = &[
     ("an empty text", b"", RegError::BadLine(1)),
     ("another first line", b"unoreg 2\n", RegError::BadLine(1)),
-    ("a first line without its line feed", b"unoreg 1", RegError::BadLine(1)),
-    ("a first line with a carriage return", b"unoreg 1\r\n", RegError::BadLine(1)),
+    (
+        "a first line without its line feed",
+        b"unoreg 1",
+        RegError::BadLine(1),
+    ),
+    (
+        "a first line with a carriage return",
+        b"unoreg 1\r\n",
+        RegError::BadLine(1),
+    ),
     ("an empty line", b"unoreg 1\n\n", RegError::BadLine(2)),
-    ("no last line feed", b"unoreg 1\nenum EA\nvalue a 0\nend", RegError::BadLine(4)),
-    ("a text that ends in an entity", b"unoreg 1\nenum EA\nvalue a 0\n", RegError::BadLine(4)),
-    ("an end of nothing", b"unoreg 1\nend\n", RegError::BadLine(2)),
+    (
+        "no last line feed",
+        b"unoreg 1\nenum EA\nvalue a 0\nend",
+        RegError::BadLine(4),
+    ),
+    (
+        "a text that ends in an entity",
+        b"unoreg 1\nenum EA\nvalue a 0\n",
+        RegError::BadLine(4),
+    ),
+    (
+        "an end of nothing",
+        b"unoreg 1\nend\n",
+        RegError::BadLine(2),
+    ),
     ("two blanks", b"unoreg 1\nenum  EA\n", RegError::BadLine(2)),
-    ("a blank behind a line", b"unoreg 1\nenum EA\nvalue a 0 \nend\n", RegError::BadLine(3)),
+    (
+        "a blank behind a line",
+        b"unoreg 1\nenum EA\nvalue a 0 \nend\n",
+        RegError::BadLine(3),
+    ),
     (
         "a built-in header",
         b"unoreg 1\ninterface com.sun.star.uno.XInterface\n",
@@ -30,7 +54,11 @@ const LINES: &[Row] = &[
         b"unoreg 1\nenum EB\nvalue a 0\nend\nenum EA\nvalue a 0\nend\n",
         RegError::Order(5),
     ),
-    ("a name twice", b"unoreg 1\nenum EA\nvalue a 0\nend\nstruct EA\n", RegError::Order(5)),
+    (
+        "a name twice",
+        b"unoreg 1\nenum EA\nvalue a 0\nend\nstruct EA\n",
+        RegError::Order(5),
+    ),
     (
         "a base behind a member",
         b"unoreg 1\ninterface XA\nbase com.sun.star.uno.XInterface\noneway a\nbase com.sun.star.uno.XInterface\n",
@@ -81,23 +109,91 @@ const LINES: &[Row] = &[
         b"unoreg 1\nservice VA com.sun.star.uno.XInterface\n",
         RegError::BadLine(2),
     ),
-    ("a member of an enum", b"unoreg 1\nenum EA\nmember a long\n", RegError::BadLine(3)),
-    ("a line under a typedef", b"unoreg 1\ntypedef TA long\nmember a long\n", RegError::BadLine(3)),
-    ("0 with a sign", b"unoreg 1\nenum EA\nvalue a -0\n", RegError::BadLine(3)),
-    ("0 twice", b"unoreg 1\nenum EA\nvalue a 00\n", RegError::BadLine(3)),
-    ("a leading 0", b"unoreg 1\nenum EA\nvalue a 01\n", RegError::BadLine(3)),
-    ("a plus", b"unoreg 1\nenum EA\nvalue a +1\n", RegError::BadLine(3)),
-    ("a sign alone", b"unoreg 1\nenum EA\nvalue a -\n", RegError::BadLine(3)),
-    ("no number", b"unoreg 1\nenum EA\nvalue a \n", RegError::BadLine(3)),
-    ("a number of base 16", b"unoreg 1\nconstants CA\nconst a 0x1F long\n", RegError::BadLine(3)),
-    ("a float", b"unoreg 1\nstruct SA\nmember a float\n", RegError::BadLine(3)),
-    ("a double in a sequence", b"unoreg 1\nstruct SA\nmember a []double\n", RegError::BadLine(3)),
-    ("a type with no name", b"unoreg 1\nstruct SA\nmember a []\n", RegError::BadLine(3)),
-    ("an unsigned byte", b"unoreg 1\nstruct SA\nmember a unsigned byte\n", RegError::BadLine(3)),
-    ("a digit in front of a name", b"unoreg 1\nstruct SA\nmember 1a long\n", RegError::BadLine(3)),
-    ("a reserved word as a name", b"unoreg 1\nstruct SA\nmember in long\n", RegError::BadLine(3)),
-    ("a point in a member's name", b"unoreg 1\nstruct SA\nmember a.b long\n", RegError::BadLine(3)),
-    ("a point at the end of an entity's name", b"unoreg 1\nstruct demo.\n", RegError::BadLine(2)),
+    (
+        "a member of an enum",
+        b"unoreg 1\nenum EA\nmember a long\n",
+        RegError::BadLine(3),
+    ),
+    (
+        "a line under a typedef",
+        b"unoreg 1\ntypedef TA long\nmember a long\n",
+        RegError::BadLine(3),
+    ),
+    (
+        "0 with a sign",
+        b"unoreg 1\nenum EA\nvalue a -0\n",
+        RegError::BadLine(3),
+    ),
+    (
+        "0 twice",
+        b"unoreg 1\nenum EA\nvalue a 00\n",
+        RegError::BadLine(3),
+    ),
+    (
+        "a leading 0",
+        b"unoreg 1\nenum EA\nvalue a 01\n",
+        RegError::BadLine(3),
+    ),
+    (
+        "a plus",
+        b"unoreg 1\nenum EA\nvalue a +1\n",
+        RegError::BadLine(3),
+    ),
+    (
+        "a sign alone",
+        b"unoreg 1\nenum EA\nvalue a -\n",
+        RegError::BadLine(3),
+    ),
+    (
+        "no number",
+        b"unoreg 1\nenum EA\nvalue a \n",
+        RegError::BadLine(3),
+    ),
+    (
+        "a number of base 16",
+        b"unoreg 1\nconstants CA\nconst a 0x1F long\n",
+        RegError::BadLine(3),
+    ),
+    (
+        "a float",
+        b"unoreg 1\nstruct SA\nmember a float\n",
+        RegError::BadLine(3),
+    ),
+    (
+        "a double in a sequence",
+        b"unoreg 1\nstruct SA\nmember a []double\n",
+        RegError::BadLine(3),
+    ),
+    (
+        "a type with no name",
+        b"unoreg 1\nstruct SA\nmember a []\n",
+        RegError::BadLine(3),
+    ),
+    (
+        "an unsigned byte",
+        b"unoreg 1\nstruct SA\nmember a unsigned byte\n",
+        RegError::BadLine(3),
+    ),
+    (
+        "a digit in front of a name",
+        b"unoreg 1\nstruct SA\nmember 1a long\n",
+        RegError::BadLine(3),
+    ),
+    (
+        "a reserved word as a name",
+        b"unoreg 1\nstruct SA\nmember in long\n",
+        RegError::BadLine(3),
+    ),
+    (
+        "a point in a member's name",
+        b"unoreg 1\nstruct SA\nmember a.b long\n",
+        RegError::BadLine(3),
+    ),
+    (
+        "a point at the end of an entity's name",
+        b"unoreg 1\nstruct demo.\n",
+        RegError::BadLine(2),
+    ),
     (
         "flags out of order",
         b"unoreg 1\nservice VA old\nproperty a readonly,bound long\n",
@@ -108,14 +204,26 @@ const LINES: &[Row] = &[
         b"unoreg 1\nservice VA old\nproperty a long\n",
         RegError::BadLine(3),
     ),
-    ("published twice", b"unoreg 1\npublished published enum EA\n", RegError::BadLine(2)),
+    (
+        "published twice",
+        b"unoreg 1\npublished published enum EA\n",
+        RegError::BadLine(2),
+    ),
     (
         "a wrong line behind a broken rule",
         b"unoreg 1\nenum EA\nend\nenum EB\nvalue b\n",
         RegError::BadLine(5),
     ),
-    ("a line that is no UTF-8", b"unoreg 1\nenum \xFF\n", RegError::BadLine(2)),
-    ("no UTF-8 behind the last line feed", b"unoreg 1\n\xFF", RegError::BadLine(2)),
+    (
+        "a line that is no UTF-8",
+        b"unoreg 1\nenum \xFF\n",
+        RegError::BadLine(2),
+    ),
+    (
+        "no UTF-8 behind the last line feed",
+        b"unoreg 1\n\xFF",
+        RegError::BadLine(2),
+    ),
 ];
 
 /// Texts whose lines are right and whose registry breaks a rule, most of them behind an enum that breaks none.
