@@ -4,4 +4,6 @@
 #[cfg(test)]
 mod entities;
 #[cfg(test)]
+mod reading;
+#[cfg(test)]
 mod rows;
