@@ -1,7 +1,7 @@
 -- A run of `idl` ends as the printing of its text does.
-use Rattle.std.proofs.Common.{true, false, ◌≡◌, ◌≢◌, ℕ, ◌≤◌, ◌⊎◌, arith, length, List, Option, None, Some, refl, sym, subst, ◌∙◌, inl, inr}
+use Rattle.std.proofs.Common.{true, false, ◌≡◌, ◌≢◌, ℕ, ◌≤◌, ◌⊎◌, arith, length, List, Option, Some, refl, sym, subst, ◌∙◌, inl, inr}
 use Rattle.uno_base.specs.Causes.{Rose}
-use Rattle.uno_io.specs.Files.{Stored, read_at}
+use Rattle.uno_io.specs.Files.{Stored}
 use Rattle.command_words.specs.Names.{Text}
 use Rattle.uno_model.specs.Entities.{Entity}
 use Rattle.registry_reading.specs.Verdicts.{IsAccepted}

@@ -1,13 +1,10 @@
 -- What follows from the order that the words are.
-use Rattle.std.proofs.Common.{◌≡◌, ◌≢◌, ℕ, Bool, true, false, List, [], ◌++◌, Option, None, Some, refl, sym, subst, ◌∙◌, inl, inr, arith, append-nil}
+use Rattle.std.proofs.Common.{◌≡◌, ℕ, true, false, List, [], Option, None, Some, refl, sym, ◌∙◌, inl, inr, arith, append-nil}
 use Rattle.std.specs.Io.KnownBytes.{Appends}
 use Rattle.command_words.specs.Names.{Text}
-use Rattle.command_words.specs.Forms.{Order, answer, idl}
-use Rattle.uno_io.specs.Files.{Stored}
+use Rattle.command_words.specs.Forms.{answer, idl}
 use Rattle.uno_io.specs.Fronts.{AppendsFront}
 use Rattle.uno_run.specs.Answer.{AnswerRun}
-use Rattle.uno_run.specs.Lines.{has_own_line}
-use Rattle.uno_run.specs.Idl.{IdlRun}
 use Rattle.uno_run.specs.declared.status.Status.{Status}
 use Rattle.uno_run.specs.declared.status.Status.TheVariants.{Words, NoMemory}
 use Rattle.uno_run.proofs.Running.{Kept, nothing_read}

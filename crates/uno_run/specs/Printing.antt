@@ -1,5 +1,5 @@
 -- The steps of `idl`: a text is written, that of a registry, that of a text of a registry.
-use Rattle.std.specs.Prelude.{◌≡◌, ℕ, List, length, Option}
+use Rattle.std.specs.Prelude.{◌≡◌, ℕ, List, Option}
 use Rattle.std.specs.Io.KnownBytes.{Appends}
 use Rattle.uno_base.specs.Causes.{Rose}
 use Rattle.uno_io.specs.Fronts.{AppendsFront}
@@ -9,10 +9,9 @@ use Rattle.registry_reading.specs.declared.error.RegError.{RegError}
 use Rattle.registry_reading.specs.declared.error.RegError.TheVariants as error
 use Rattle.registry_reading.specs.Verdicts.{IsAccepted}
 use Rattle.uno_run.specs.Idl.{IsRefused}
-use Rattle.uno_run.specs.declared.reason.RegistryReason.{RegistryReason}
 use Rattle.uno_run.specs.declared.reason.RegistryReason.TheVariants as reason
 use Rattle.uno_run.specs.declared.status.Status.{Status}
-use Rattle.uno_run.specs.declared.status.Status.TheVariants.{Done, BadRegistry, WriteFault, NoMemory, Words, ReadFault, Broken, NoFile}
+use Rattle.uno_run.specs.declared.status.Status.TheVariants.{Done, BadRegistry, WriteFault, NoMemory}
 
 -- the status of a refused text, where the command names one file
 abbrev pub refused : RegError → Status

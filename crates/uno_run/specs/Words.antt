@@ -1,5 +1,5 @@
 -- What the command's words ask of a run.
-use Rattle.std.specs.Prelude.{◌≡◌, Bool, true, false, List, [], ◌∷◌, String, string_bytes, map, Option, Some, None}
+use Rattle.std.specs.Prelude.{◌≡◌, Bool, true, false, List, [], ◌∷◌, String, string_bytes, map, Option, Some}
 use Rattle.command_words.specs.Names.{Text}
 use Rattle.command_words.specs.Forms.{Order, order_of, answer, idl}
 

@@ -1,6 +1,4 @@
-use Rattle.std.proofs.Common.{refl, sym, subst}
-use Rattle.command_words.specs.Forms.{order_in}
-use Rattle.uno_run.proofs.Obeying.{no_idl, no_answer, same_types, served}
+use Rattle.std.proofs.Common.{refl}
 use Rattle.uno_run.proofs.top.obey.Goals as goal
 
 pub returns-in-Answer-clause-answer : goal.returns-in-Answer-clause-answer
