@@ -193,7 +193,3 @@ at_most n next is = omega (arith, is)
 
 pub kept_levels : (text rest : List ℕ) (levels : ℕ) → min 65 (levels + brackets rest) ≡ min 65 (brackets text) → levels ≤ 65 → brackets rest ≡ 0 → levels ≡ min 65 (brackets text)
 kept_levels text rest levels at few none = omega (arith, at, few, none)
-
-pub void_stays : (named : List ℕ → Kind) → (kept named).kind kd.void ≡ kd.void
-unfolding resolved cut sequences innermost
-void_stays named = refl

@@ -26,11 +26,6 @@ abbrev pub verdict : ℕ → List Head → List Entity → Option ℕ → Option
 verdict number heads reg None = None
 verdict number heads reg (Some place) = Some (error.Rule number (line_at heads reg place))
 
--- the values of items, which are seen with the headers
-abbrev pub line_beyond : List Head → Option ℕ → ℕ
-line_beyond heads None = 0
-line_beyond heads (Some place) = line_of_head (slice_get heads place)
-
 -- the text breaks the rule of this number, and none before it
 pub record IsBroken (bytes : List ℕ) (number line : ℕ) : Type 0 where
   pub rule : Rule
