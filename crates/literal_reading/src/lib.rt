@@ -12,3 +12,7 @@ mod typed;
 
 pub use items::{first_item, items_of};
 pub use read::{TextError, read_value};
+pub use scan::{Run, as_text, is_known_word, number_at, split_run, string_at};
+pub use single::token_value;
+pub use stop::{Scan, Stop};
+pub use token::{Bracket, Token};

@@ -17,12 +17,16 @@ mod words;
 
 use crate::stop::{Scan, Stop};
 use crate::token::{Bracket, Token};
-use number::number_at;
+pub use number::number_at;
+pub use run::{Run, split_run};
 use std::alloc::Global;
-use string::{string_at, text_of};
+pub use string::string_at;
+use string::text_of;
+pub use types::as_text;
 use types::type_at;
 use uno_entities::begins_identifier;
 use uno_types::{Registry, TypeName};
+pub use words::is_known_word;
 use words::word_at;
 
 /// The first token of a value, chosen by its first byte.

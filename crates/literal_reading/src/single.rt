@@ -19,7 +19,7 @@ use uno_types::{Name, Registry, TypeName};
 use uno_values::{Reference, Value};
 
 /// The value of a token at a type; sequences, structs, exceptions and any have more than one.
-pub(crate) fn single(
+pub fn token_value(
     alloc: Global,
     registry: &Registry,
     kind: &TypeName,

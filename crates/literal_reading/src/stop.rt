@@ -7,13 +7,13 @@ use std::alloc::{AllocError, AllocFailed};
 
 /// Want of memory, or the bytes that are left: from the first bad one on, or from the front of the first value that is none of its type.
 #[derive(Clone, Copy)]
-pub(crate) enum Stop {
+pub enum Stop {
     NoMemory,
     Bad(usize),
 }
 
 /// What was read of a text or of tokens, and what is left of them.
-pub(crate) type Scan<'a, T> = Result<(T, &'a [u8]), Stop>;
+pub type Scan<'a, T> = Result<(T, &'a [u8]), Stop>;
 
 pub(crate) type Read<'a, T> = Result<(T, &'a [Placed]), Stop>;
 

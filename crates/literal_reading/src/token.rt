@@ -4,14 +4,14 @@ use uno_types::{Name, Text, TypeName};
 
 /// The brackets of a sequence, and those of a struct or an exception.
 #[derive(Clone, Copy)]
-pub(crate) enum Bracket {
+pub enum Bracket {
     Square,
     Curly,
 }
 
 /// A bracket, a comma, or a value that is one token; `Cast` is a type that stands before a value of it.
 #[derive(Drop)]
-pub(crate) enum Token {
+pub enum Token {
     Opens(Bracket),
     Closes(Bracket),
     Comma,

@@ -14,7 +14,7 @@ ghost use Rattle.literal_reading.specs.Typing.{Gives, before, kinds_at, with_fir
 mod bytes;
 mod expect;
 
-use crate::single::single;
+use crate::single::token_value;
 use crate::stop::{Read, Stop};
 use crate::token::{Placed, Token};
 use bytes::bytes_of;
@@ -78,7 +78,7 @@ fn only_token<'a>(
     let Some((first, rest)) = tokens.split_first() else {
         return Err(Stop::Bad(0));
     };
-    match single(alloc, registry, kind, &first.token)? {
+    match token_value(alloc, registry, kind, &first.token)? {
         Some(value) => Ok((value, rest)),
         None => Err(Stop::Bad(first.left)),
     }

@@ -19,7 +19,7 @@ unfolding reaches_within
 reaches_runtime zero reg = refl
 reaches_runtime (suc levels) reg = refl
 
-runtime_may_leave : (reg : List Entity) (f : Function) (message : List ℕ) → MayLeave reg f (runtime_raised message)
+pub runtime_may_leave : (reg : List Entity) (f : Function) (message : List ℕ) → MayLeave reg f (runtime_raised message)
 unfolding may_raise is_base_of
 runtime_may_leave reg f message = rw (reaches_runtime (length reg) reg) refl
 
@@ -28,7 +28,7 @@ declared_by_test : (reg : List Entity) (f : Function) (k : Kind) (x : Plain) (me
 declared_by_test reg f k x message true is = is
 declared_by_test reg f k x message false is = runtime_may_leave reg f message
 
-declared_may_leave : (reg : List Entity) (f : Function) (a : Answer) → MayLeave reg f (as_declared reg f a)
+pub declared_may_leave : (reg : List Entity) (f : Function) (a : Answer) → MayLeave reg f (as_declared reg f a)
 declared_may_leave reg f (returned x outs) = tt
 declared_may_leave reg f (raised k x) = declared_by_test reg f k x _ (may_raise reg f k) refl
 

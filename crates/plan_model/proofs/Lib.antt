@@ -1,5 +1,5 @@
 mod DemoLines
-mod DemoPlans
+pub mod DemoPlans
 mod EffectRows
 mod EvaluationRows
 mod FormRows

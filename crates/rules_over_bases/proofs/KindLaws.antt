@@ -21,7 +21,8 @@ use Rattle.registry_text_model.specs.NamesDiffer.{all_names_differ}
 use Rattle.rules_over_bases.specs.Climbing.{bases_in}
 use Rattle.rules_over_bases.specs.Known.{names_at, names_over}
 use Rattle.rules_over_bases.specs.OwnNames.{getter_name, setter_name, names_of_member, own_names}
-use Rattle.rules_over_bases.proofs.TwinLaws.{occurs, occurs_append, same_differ}
+use Rattle.rules_over_bases.specs.Occurring.{occurs}
+use Rattle.rules_over_bases.proofs.TwinLaws.{occurs_append, same_differ}
 
 -- bases are of their kind
 abbrev pub AllKnown : List Entity → Type 0

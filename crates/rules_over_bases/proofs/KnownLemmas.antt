@@ -1,6 +1,6 @@
 -- What is known place by place, and what a search adds.
 use Rattle.std.proofs.Common.{◌≡◌, ℕ, ◌<◌, Bool, true, false, List, length, replicate, refl, sym, ap, subst, ◌∙◌, inl, inr}
-use Rattle.std.specs.Prelude.{[], Some, None, slice_get, get_or, Result, IfOk}
+use Rattle.std.specs.Prelude.{[], Some, None, slice_get, get_or, Contains, Result, IfOk}
 use Rattle.std.proofs.lemmas.Result.{IfOk-weaker}
 use Rattle.std.proofs.lemmas.List.{length-replicate}
 use Rattle.uno_model.specs.Circles.{HasNoCircle}
@@ -8,11 +8,10 @@ use Rattle.uno_model.specs.Entities as plain
 use Rattle.uno_model.specs.Registry.{IsRising, leads_to, stands_on_body}
 use Rattle.uno_model.specs.Sound.{all_differ}
 use Rattle.uno_model.proofs.PlaceLaws.{named_there}
-use Rattle.uno_entities.specs.Counts.{marked_in_either}
 use Rattle.uno_entities.specs.Entities.{entities_of, body_of}
 use Rattle.uno_entities.specs.declared.entity.Entity.{Entity}
 use Rattle.uno_entities.specs.Marks.{MarksBases}
-use Rattle.uno_entities.proofs.FewLemmas.{joined_long, joined_marked}
+use Rattle.uno_entities.specs.Reaching.{Lists, MarksMore}
 use Rattle.uno_entities.proofs.SpreadLemmas.{entity_at, replicate_unmarked}
 use Rattle.rules_over_bases.specs.Known.{KeepsAt, KnownToPass, KnownToDiffer, differ_over, names_at, stands_alone}
 use Rattle.rules_over_bases.specs.OwnNames.{own_names, marked_names}
@@ -30,25 +29,27 @@ none_known test reg count known long is =
     })
 
 -- the marks of a search from a place say whether the names of the entity there differ
-pub searched_differ : (reg : List plain.Entity) (place : ℕ) (found answer : Bool) (marks shown : List Bool) → IsRising reg → HasNoCircle (leads_to reg)
-    → ((e : plain.Entity) → slice_get reg place ≡ Some e → MarksBases reg e.name marks) → shown ≡ marks → found ≡ all_differ (marked_names shown reg)
+pub searched_differ : (reg : List plain.Entity) (place : ℕ) (found answer : Bool) (marks : List Bool) → IsRising reg → HasNoCircle (leads_to reg)
+    → ((e : plain.Entity) → slice_get reg place ≡ Some e → MarksBases reg e.name marks) → found ≡ all_differ (marked_names marks reg)
     → found ≡ answer → KeepsAt (differ_over reg) reg place answer
-searched_differ reg place found answer marks shown rising none marked same says answered e at =
-    sym answered ∙ says ∙ ap (λ m. all_differ (marked_names m reg)) same ∙ marked_differ_over reg e.name marks rising none (marked e at)
+searched_differ reg place found answer marks rising none marked says answered e at =
+    sym answered ∙ says ∙ marked_differ_over reg e.name marks rising none (marked e at)
 
--- what is marked by a search that found no name twice is known
-pub more_differ : (reg : List plain.Entity) (place : ℕ) (marks shown known after : List Bool) → IsRising reg → HasNoCircle (leads_to reg) → place < length reg
-    → ((e : plain.Entity) → slice_get reg place ≡ Some e → MarksBases reg e.name marks) → shown ≡ marks → KeepsAt (differ_over reg) reg place true
-    → KnownToDiffer reg known → after ≡ marked_in_either shown known → KnownToDiffer reg after
-more_differ reg place marks shown known after rising none within marked same passes before joins =
+-- what a search that found no name twice has reached is known
+pub more_differ : (reg : List plain.Entity) (place : ℕ) (marks known known_after : List Bool) (places listed : List ℕ) → IsRising reg → HasNoCircle (leads_to reg) → place < length reg
+    → ((e : plain.Entity) → slice_get reg place ≡ Some e → MarksBases reg e.name marks) → Lists marks listed → places ≡ listed → KeepsAt (differ_over reg) reg place true
+    → KnownToDiffer reg known → MarksMore places known known_after → KnownToDiffer reg known_after
+more_differ reg place marks known known_after places listed rising none within marked lists same passes before more =
     let e = entity_at reg place within in
-    subst (KnownToDiffer reg) (sym (joins ∙ ap (λ m. marked_in_either m known) same)) (record {
-      one_each = joined_long marks known ∙ before.one_each;
-      passes = λ i m. elim (joined_marked marks known i m) [
-        | inl new ↦ λ f at. sym (differ_below reg e.0.name f.name rising none (((marked e.0 e.1).marked i f at).0 new) (sym (passes e.0 e.1)))
+    record {
+      one_each = more.long ∙ before.one_each;
+      passes = λ i m. elim (more.only i m) [
+        | inl new ↦ λ f at.
+            let mark = lists.marked i (subst (λ (ps : List ℕ). Contains ps i) same new) in
+            sym (differ_below reg e.0.name f.name rising none (((marked e.0 e.1).marked i f at).0 mark) (sym (passes e.0 e.1)))
         | inr old ↦ before.passes i old
       ];
-    })
+    }
 
 -- what stands alone has over its bases the names that it declares itself
 alone_stands : (e : plain.Entity) (body : plain.Body) → stands_alone body ≡ true → stands_on_body (Some (record { name = e.name; published = e.published; body = body })) ≡ []

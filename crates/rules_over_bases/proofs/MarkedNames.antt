@@ -20,7 +20,8 @@ use Rattle.uno_entities.proofs.CountLemmas.{met_marks, no_twin, met_last, same_m
 use Rattle.uno_entities.proofs.SpreadLemmas.{entity_at}
 use Rattle.rules_over_bases.specs.Known.{names_at, names_over}
 use Rattle.rules_over_bases.specs.OwnNames.{own_names, marked_names}
-use Rattle.rules_over_bases.proofs.TwinLaws.{occurs, occurs_append, same_differ, fewer_differ}
+use Rattle.rules_over_bases.specs.Occurring.{occurs}
+use Rattle.rules_over_bases.proofs.TwinLaws.{occurs_append, same_differ, fewer_differ}
 
 -- ---- one mark in front
 

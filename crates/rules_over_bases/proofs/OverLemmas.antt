@@ -1,8 +1,7 @@
 -- Names are seen along members, and along the entities that are marked.
-use Rattle.std.proofs.Common.{◌≡◌, ℕ, zero, suc, ◌+◌, ◌<◌, ◌≤◌, Bool, true, false, List, [], ◌∷◌, ◌++◌, length, map, take, drop, get_or, refl, sym, ap, subst, ◌∙◌, if◌then◌else◌, arith, append_assoc, append-nil}
+use Rattle.std.proofs.Common.{◌≡◌, ℕ, zero, suc, ◌+◌, ◌<◌, ◌≤◌, Bool, true, false, List, [], ◌∷◌, ◌++◌, length, map, take, get_or, set, replicate, refl, sym, ap, subst, ◌∙◌, if◌then◌else◌, arith}
 use Rattle.std.specs.Prelude.{Result, IfOk}
 use Rattle.std.specs.List.{flat_map}
-use Rattle.std.proofs.lemmas.List.{take_all}
 use Rattle.std.proofs.lemmas.List.Folds.{flat_map-map}
 use Rattle.std.proofs.lemmas.Result.{IfOk-weaker}
 use Rattle.uno_model.specs.Entities as plain
@@ -11,9 +10,11 @@ use Rattle.uno_entities.specs.Entities.{entities_of, body_of, member_of}
 use Rattle.uno_entities.specs.declared.entity.Entity.{Entity}
 use Rattle.uno_entities.specs.declared.entity.Member.{Member}
 use Rattle.rules_over_bases.specs.OwnNames.{getter_name, setter_name, accessor_names, names_of_member, own_names, row_if, marked_names}
-use Rattle.rules_over_bases.specs.Seen.{HasSeen, Sees}
+use Rattle.rules_over_bases.specs.Occurring.{occurs}
+use Rattle.rules_over_bases.specs.Seen.{HasSeen, Sees, SeesShare}
 use Rattle.rules_over_bases.specs.declared.seen.Seen.{Seen}
-use Rattle.rules_over_bases.proofs.SeenLemmas.{sees_none, sees_then, sees_stop, sees_all, sees_stop_at, sees_end}
+use Rattle.rules_over_bases.proofs.SeenLemmas.{sees_then, sees_stop, sees_stop_at, sees_end}
+use Rattle.rules_over_bases.proofs.TwinLaws.{occurs_append, same_differ, fewer_differ}
 
 -- ---- the functions of an attribute
 
@@ -62,65 +63,86 @@ members_end ms i old new over before =
 
 -- ---- entities that are marked
 
--- the rows of the places before one
-abbrev pub rows_before : List Bool → List Entity → ℕ → List (List ℕ)
-rows_before marks es i = marked_names (take i marks) (entities_of (take i es))
+-- what is seen so far, with what is still marked, is what was marked at first
+pub record SeenSoFar (seen : Seen) (reg : List plain.Entity) (first now : List Bool) : Type 0 where
+  pub names : List (List ℕ)
+  pub has_seen : HasSeen seen names
+  pub parts : (name : List ℕ) → occurs name (marked_names first reg) ≡ occurs name names + occurs name (marked_names now reg)
 
-one_row_more : (marks : List Bool) (es : List Entity) (i : ℕ) (d : Bool) (e : Entity) → i < length marks → i < length es
-    → rows_before marks es (suc i) ≡ rows_before marks es i ++ row_if (get_or marks i d) (body_of (get_or es i e).body)
-unfolding marked_names
-one_row_more [] es i d e within below = absurd (omega (arith, within))
-one_row_more (m ∷ ms) [] i d e within below = absurd (omega (arith, below))
-one_row_more (true ∷ ms) (x ∷ xs) zero d e within below = append-nil (own_names (body_of x.body))
-one_row_more (false ∷ ms) (x ∷ xs) zero d e within below = refl
-one_row_more (true ∷ ms) (x ∷ xs) (suc i) d e within below =
-    ap (λ l. own_names (body_of x.body) ++ l) (one_row_more ms xs i d e (omega (arith, within)) (omega (arith, below)))
-    ∙ sym (append_assoc (own_names (body_of x.body)) (rows_before ms xs i) (row_if (get_or ms i d) (body_of (get_or xs i e).body)))
-one_row_more (false ∷ ms) (x ∷ xs) (suc i) d e within below = one_row_more ms xs i d e (omega (arith, within)) (omega (arith, below))
+-- the names of the entity at a place, if it is marked, and those of the others
+pub names_share : (asked : List ℕ) (marks : List Bool) (es : List Entity) (p : ℕ) (d : Bool) (e : Entity) → p < length es → length marks ≡ length es
+    → occurs asked (marked_names marks (entities_of es))
+    ≡ occurs asked (row_if (get_or marks p d) (body_of (get_or es p e).body)) + occurs asked (marked_names (set marks p false) (entities_of es))
+unfolding marked_names occurs
+names_share asked marks [] p d e within long = absurd (omega (arith, within))
+names_share asked [] (x ∷ es) p d e within long = absurd (omega (arith, long))
+names_share asked (true ∷ marks) (x ∷ es) zero d e within long = occurs_append asked (own_names (body_of x.body)) (marked_names marks (entities_of es))
+names_share asked (false ∷ marks) (x ∷ es) zero d e within long = omega arith
+names_share asked (true ∷ marks) (x ∷ es) (suc p) d e within long =
+    let rest = names_share asked marks es p d e (omega (arith, within)) (omega (arith, long)) in
+    let before = occurs_append asked (own_names (body_of x.body)) (marked_names marks (entities_of es)) in
+    let after = occurs_append asked (own_names (body_of x.body)) (marked_names (set marks p false) (entities_of es)) in
+    omega (arith, rest, before, after)
+names_share asked (false ∷ marks) (x ∷ es) (suc p) d e within long = names_share asked marks es p d e (omega (arith, within)) (omega (arith, long))
 
-rows_parted : (marks : List Bool) (es : List Entity) (i : ℕ) → marked_names marks (entities_of es) ≡ rows_before marks es i ++ marked_names (drop i marks) (entities_of (drop i es))
-unfolding marked_names
-rows_parted marks es zero = refl
-rows_parted [] es (suc i) = refl
-rows_parted (m ∷ ms) [] (suc i) = none (drop i ms)
+-- what was read there is seen
+pub share_seen : {E : Type 0} (marks : List Bool) (es : List Entity) (p : ℕ) (mark : Bool) (e : Entity) (old new : Seen) (result : Result Bool E) → p < length es
+    → length marks ≡ length es → mark ≡ get_or marks p mark → IfOk result (λ b. Sees old new (row_if mark (body_of (get_or es p e).body)) b)
+    → IfOk result (λ b. SeesShare old new (marked_names marks (entities_of es)) (marked_names (set marks p false) (entities_of es)) b)
+share_seen marks es p mark e old new result within long read seen =
+    let body = body_of (get_or es p e).body in
+    IfOk-weaker result _ _
+    (λ b sees. record {
+      row = row_if mark body;
+      sees = sees;
+      parts = λ name. names_share name marks es p mark e within long
+          ∙ ap (λ m. occurs name (row_if m body) + occurs name (marked_names (set marks p false) (entities_of es))) (sym read);
+    })
+    seen
+
+-- nothing is seen yet
+pub none_so_far : (seen : Seen) (reg : List plain.Entity) (marks : List Bool) → HasSeen seen [] → SeenSoFar seen reg marks marks
+unfolding occurs
+none_so_far seen reg marks none = record { names = []; has_seen = none; parts = λ name. omega arith }
+
+-- one entity more
+pub more_so_far : (old new : Seen) (reg : List plain.Entity) (first now after : List Bool) (are_new : Bool) → SeenSoFar old reg first now
+    → SeesShare old new (marked_names now reg) (marked_names after reg) are_new → are_new ≡ true → SeenSoFar new reg first after
+more_so_far old new reg first now after are_new before share all_new =
+    record {
+      names = before.names ++ share.row;
+      has_seen = share.sees.seen before.names before.has_seen all_new;
+      parts = λ name. omega (arith, before.parts name, share.parts name, occurs_append name before.names share.row);
+    }
+
+-- a name is there twice
+pub twice_so_far : (old new : Seen) (reg : List plain.Entity) (first now after : List Bool) (are_new : Bool) → SeenSoFar old reg first now
+    → SeesShare old new (marked_names now reg) (marked_names after reg) are_new → are_new ≡ false → false ≡ all_differ (marked_names first reg)
+twice_so_far old new reg first now after are_new before share twice = by_test (all_differ (marked_names first reg)) refl
   where
-    none : (marks : List Bool) → [] ≡ marked_names marks []
-    none [] = refl
-    none (n ∷ ns) = refl
-rows_parted (true ∷ ms) (x ∷ xs) (suc i) =
-    ap (λ l. own_names (body_of x.body) ++ l) (rows_parted ms xs i)
-    ∙ sym (append_assoc (own_names (body_of x.body)) (rows_before ms xs i) (marked_names (drop i ms) (entities_of (drop i xs))))
-rows_parted (false ∷ ms) (x ∷ xs) (suc i) = rows_parted ms xs i
+    names : List (List ℕ)
+    names = before.names ++ share.row
 
-row_is : (marks : List Bool) (es : List Entity) (i : ℕ) (d : Bool) (e : Entity) → i < length marks → i < length es
-    → rows_before marks es (i + 1) ≡ rows_before marks es i ++ row_if (get_or marks i d) (body_of (get_or es i e).body)
-row_is marks es i d e within below = let one : i + 1 ≡ suc i = omega arith in ap (rows_before marks es) one ∙ one_row_more marks es i d e within below
+    told : all_differ names ≡ false
+    told = sym (share.sees.told before.names before.has_seen) ∙ twice
 
-pub rows_on : (marks : List Bool) (es : List Entity) (i : ℕ) (d : Bool) (e : Entity) (old mid new : Seen) (are_new : Bool) → i < length marks → i < length es
-    → Sees old mid (rows_before marks es i) true → Sees mid new (row_if (get_or marks i d) (body_of (get_or es i e).body)) are_new → are_new ≡ true
-    → Sees old new (rows_before marks es (i + 1)) true
-rows_on marks es i d e old mid new are_new within below before after all_new =
-    subst (λ ns. Sees old new ns true) (sym (row_is marks es i d e within below))
-    (sees_then old mid new (rows_before marks es i) _ true before (subst (Sees mid new (row_if (get_or marks i d) (body_of (get_or es i e).body))) all_new after))
+    fewer : (name : List ℕ) → occurs name names ≤ occurs name (marked_names first reg)
+    fewer name = omega (arith, before.parts name, share.parts name, occurs_append name before.names share.row)
 
-pub rows_repeat : (marks : List Bool) (es : List Entity) (i : ℕ) (d : Bool) (e : Entity) (start mid new : Seen) (are_new : Bool) → HasSeen start [] → i < length marks
-    → i < length es
-    → Sees start mid (rows_before marks es i) true → Sees mid new (row_if (get_or marks i d) (body_of (get_or es i e).body)) are_new → are_new ≡ false
-    → false ≡ all_differ (marked_names marks (entities_of es))
-rows_repeat marks es i d e start mid new are_new none within below before after twins =
-    let row = row_if (get_or marks i d) (body_of (get_or es i e).body) in
-    let here = sees_then start mid new (rows_before marks es i) row false before (subst (Sees mid new row) twins after) in
-    let front = subst (λ ns. Sees start new ns false) (sym (row_is marks es i d e within below)) here in
-    sees_all start new _ false none (subst (λ ns. Sees start new ns false) (sym (rows_parted marks es (i + 1)))
-    (sees_stop start new (rows_before marks es (i + 1)) (marked_names (drop (i + 1) marks) (entities_of (drop (i + 1) es))) front))
+    by_test : (b : Bool) → all_differ (marked_names first reg) ≡ b → false ≡ b
+    by_test false is = refl
+    by_test true is = let bad : true ≡ false = sym (fewer_differ names (marked_names first reg) fewer is) ∙ told in absurd cc
 
-pub rows_end : (marks : List Bool) (es : List Entity) (i : ℕ) (start new : Seen) → HasSeen start [] → length marks ≡ length es → length es ≤ i
-    → Sees start new (rows_before marks es i) true → true ≡ all_differ (marked_names marks (entities_of es))
-rows_end marks es i start new none long over before =
-    sees_all start new _ true none (subst (λ ns. Sees start new ns true)
-    (ap (λ ms. marked_names ms (entities_of (take i es))) (take_all i marks (omega (arith, long, over))) ∙ ap (λ xs. marked_names marks (entities_of xs)) (take_all i es over))
-    before)
+-- without a mark there is no name
+no_names : (name : List ℕ) (count : ℕ) (reg : List plain.Entity) → occurs name (marked_names (replicate count false) reg) ≡ 0
+unfolding marked_names occurs
+no_names name zero reg = refl
+no_names name (suc count) [] = refl
+no_names name (suc count) (e ∷ es) = no_names name count es
 
-pub rows_none : (marks : List Bool) (es : List Entity) (seen : Seen) → Sees seen seen (rows_before marks es 0) true
-unfolding marked_names
-rows_none marks es seen = sees_none seen
+-- all were seen
+pub all_so_far : (seen : Seen) (reg : List plain.Entity) (first now : List Bool) (count : ℕ) → SeenSoFar seen reg first now → now ≡ replicate count false
+    → true ≡ all_differ (marked_names first reg)
+all_so_far seen reg first now count all none =
+    sym all.has_seen.differ ∙ same_differ all.names (marked_names first reg)
+    (λ name. omega (arith, all.parts name, ap (λ ms. occurs name (marked_names ms reg)) none, no_names name count reg))

@@ -4,14 +4,7 @@ use Rattle.std.specs.List.{list_any}
 use Rattle.std.specs.Str.{bytes_eq}
 use Rattle.std.proofs.lemmas.Slice.Eq.{bytes_eq-Decides}
 use Rattle.uno_model.specs.Sound.{all_differ}
-
-abbrev pub one_if : Bool → ℕ
-one_if true = 1
-one_if false = 0
-
-unfoldable pub occurs : List ℕ → List (List ℕ) → ℕ
-occurs name [] = 0
-occurs name (n ∷ ns) = one_if (bytes_eq name n) + occurs name ns
+use Rattle.rules_over_bases.specs.Occurring.{one_if, occurs}
 
 pub occurs_append : (name : List ℕ) (ms ns : List (List ℕ)) → occurs name (ms ++ ns) ≡ occurs name ms + occurs name ns
 unfolding occurs

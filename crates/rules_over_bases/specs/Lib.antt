@@ -1,4 +1,5 @@
 pub mod Climbing
 pub mod Known
+pub mod Occurring
 pub mod OwnNames
 pub mod Seen

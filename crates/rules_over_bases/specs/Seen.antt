@@ -1,5 +1,5 @@
 -- What sets of names have seen, and what a row of names more does to them.
-use Rattle.std.specs.Prelude.{◌≡◌, ◌≢◌, ℕ, Bool, true, List, ◌++◌}
+use Rattle.std.specs.Prelude.{◌≡◌, ◌≢◌, ℕ, ◌+◌, Bool, true, List, ◌++◌}
 use Rattle.std.specs.List.{list_any}
 use Rattle.std.specs.Borrow.{Bor}
 use Rattle.std.specs.BTreeSet.{contains_by}
@@ -8,6 +8,7 @@ use Rattle.std.specs.Ordering.{nat_cmp}
 use Rattle.std.specs.Str.{bytes_eq}
 use Rattle.std.specs.declared.cmp.Ordering.{Ordering}
 use Rattle.uno_model.specs.Sound.{all_differ}
+use Rattle.rules_over_bases.specs.Occurring.{occurs}
 use Rattle.rules_over_bases.specs.OwnNames.{getter_name, setter_name}
 use Rattle.rules_over_bases.specs.declared.seen.Seen.{Seen}
 
@@ -31,3 +32,9 @@ pub record HasSeen (seen : Seen) (names : List (List ℕ)) : Type 0 where
 pub record Sees (old new : Seen) (more : List (List ℕ)) (are_new : Bool) : Type 0 where
   pub told : (names : List (List ℕ)) → HasSeen old names → are_new ≡ all_differ (names ++ more)
   pub seen : (names : List (List ℕ)) → HasSeen old names → are_new ≡ true → HasSeen new (names ++ more)
+
+-- names are seen that make the one list of the other, in any order
+pub record SeesShare (old new : Seen) (whole rest : List (List ℕ)) (are_new : Bool) : Type 0 where
+  pub row : List (List ℕ)
+  pub sees : Sees old new row are_new
+  pub parts : (name : List ℕ) → occurs name whole ≡ occurs name row + occurs name rest

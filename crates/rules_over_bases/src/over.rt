@@ -1,32 +1,42 @@
 //! That the names differ that an entity has over its bases.
-ghost use Rattle.std.specs.Prelude.{◌≡◌, ◌<◌, true, map, length, IfOk, OnOk, slice_get};
+ghost use Rattle.std.specs.Prelude.{◌≡◌, ◌<◌, true, false, map, length, replicate, IfOk, OnOk, slice_get, slice_set};
 ghost use Rattle.std.specs.List.{flat_map, list_all};
 ghost use Rattle.uno_model.specs.Circles.{HasNoCircle};
 ghost use Rattle.uno_model.specs.Registry.{IsRising, leads_to};
 ghost use Rattle.uno_model.specs.Sound.{all_differ};
 ghost use Rattle.uno_entities.specs.Entities.{entities_of, body_of, member_of, attribute_of};
+ghost use Rattle.uno_entities.specs.Reaching.{Covers};
 ghost use Rattle.rules_over_bases.specs.Known.{KeepsAt, KnownToDiffer, differ_over, stands_alone};
 ghost use Rattle.rules_over_bases.specs.OwnNames.{accessor_names, names_of_member, own_names, row_if, marked_names};
-ghost use Rattle.rules_over_bases.specs.Seen.{Sees};
+ghost use Rattle.rules_over_bases.specs.Seen.{Sees, SeesShare};
 
 use crate::named::add_all;
 use crate::seen::Seen;
 use std::alloc::Global;
 use uno_base::NoMemory;
-use uno_entities::{Attribute, Body, Entity, Member, all_bases, bases_of, mark_all};
+use uno_entities::{
+    Attribute, Body, Entity, Member, Reach, Search, all_bases, mark_places, nothing_reached,
+    reach_bases, unmark,
+};
 
 /// Marks entities whose names differ over their bases. What nothing stands on is searched: where its names differ, so do those of all
 /// on which it stands.
-pub(crate) fn known_to_differ(alloc: Global, entities: &[Entity]) -> Result<Vec<bool>, NoMemory>
+pub(crate) fn known_to_differ(
+    alloc: Global,
+    entities: &[Entity],
+    reach: &mut Reach,
+) -> Result<Vec<bool>, NoMemory>
     requires rising { IsRising (entities_of entities.now) }
     requires no_circle { HasNoCircle (leads_to (entities_of entities.now)) }
-    ensures { IfOk result (λ known. KnownToDiffer (entities_of entities.now) known.items) }
+    requires clear { reach.old.search.marks.items ≡ replicate (length entities.now) false }
+    ensures known { IfOk result (λ known. KnownToDiffer (entities_of entities.now) known.items) }
+    ensures clear { OnOk result (reach.new.search.marks.items ≡ replicate (length entities.now) false) }
 {
     let bases = all_bases(alloc, entities)?;
     let mut known = vec![in alloc; false; entities.len()]?;
     for place in 0..entities.len() {
         if !bases[place] {
-            names_differ_over(alloc, entities, place, known.as_mut_slice())?;
+            names_differ_over(alloc, entities, place, known.as_mut_slice(), reach)?;
         }
     }
     Ok(known)
@@ -38,13 +48,16 @@ pub(crate) fn names_differ_over(
     entities: &[Entity],
     place: usize,
     known: &mut [bool],
+    reach: &mut Reach,
 ) -> Result<bool, NoMemory>
     requires rising { IsRising (entities_of entities.now) }
     requires no_circle { HasNoCircle (leads_to (entities_of entities.now)) }
     requires place { place < length entities.now }
     requires before { KnownToDiffer (entities_of entities.now) known.old }
+    requires clear { reach.old.search.marks.items ≡ replicate (length entities.now) false }
     ensures differ { IfOk result (λ b. KeepsAt (differ_over (entities_of entities.now)) (entities_of entities.now) place b) }
     ensures after { OnOk result (KnownToDiffer (entities_of entities.now) known.new) }
+    ensures clear { OnOk result (reach.new.search.marks.items ≡ replicate (length entities.now) false) }
 {
     if known[place] {
         return Ok(true);
@@ -52,7 +65,7 @@ pub(crate) fn names_differ_over(
     if stands_alone(&entities[place].body) {
         return own_differ(alloc, &entities[place].body);
     }
-    found_to_differ(alloc, entities, place, known)
+    found_to_differ(alloc, entities, place, known, reach)
 }
 
 /// Whether it is no interface, and has no base.
@@ -80,34 +93,61 @@ fn found_to_differ(
     entities: &[Entity],
     place: usize,
     known: &mut [bool],
+    reach: &mut Reach,
 ) -> Result<bool, NoMemory>
     requires rising { IsRising (entities_of entities.now) }
     requires no_circle { HasNoCircle (leads_to (entities_of entities.now)) }
     requires place { place < length entities.now }
     requires before { KnownToDiffer (entities_of entities.now) known.old }
+    requires clear { reach.old.search.marks.items ≡ replicate (length entities.now) false }
     ensures differ { IfOk result (λ b. KeepsAt (differ_over (entities_of entities.now)) (entities_of entities.now) place b) }
     ensures after { OnOk result (KnownToDiffer (entities_of entities.now) known.new) }
+    ensures clear { OnOk result (reach.new.search.marks.items ≡ replicate (length entities.now) false) }
 {
-    let marks = bases_of(alloc, entities, place)?;
-    if !marked_differ(alloc, marks.as_slice(), entities)? {
+    reach_bases(entities, place, reach)?;
+    let differ = reached_differ(alloc, entities, reach)?;
+    unmark(reach);
+    if !differ {
         return Ok(false);
     }
-    mark_all(marks.as_slice(), known);
+    mark_places(reach.places.as_slice(), known);
     Ok(true)
 }
 
-/// Whether the names differ that the marked entities declare.
-fn marked_differ(alloc: Global, marks: &[bool], entities: &[Entity]) -> Result<bool, NoMemory>
-    requires { length marks.now ≡ length entities.now }
-    ensures { IfOk result (λ b. b ≡ all_differ (marked_names marks.now (entities_of entities.now))) }
+/// Whether the names differ that the reached entities declare. Marks are taken back as far as names are seen.
+fn reached_differ(alloc: Global, entities: &[Entity], reach: &mut Reach) -> Result<bool, NoMemory>
+    requires long { length reach.old.search.marks.items ≡ length entities.now }
+    requires covered { Covers reach.old.search.marks.items reach.old.places.items }
+    ensures differ { IfOk result (λ b. b ≡ all_differ (marked_names reach.old.search.marks.items (entities_of entities.now))) }
+    ensures covered { OnOk result (Covers reach.new.search.marks.items reach.new.places.items) }
+    ensures long { OnOk result (length reach.new.search.marks.items ≡ length entities.now) }
+    ensures places { OnOk result (reach.new.places.items ≡ reach.old.places.items) }
 {
     let mut seen = Seen::new(alloc);
-    for place in 0..entities.len() {
-        if !add_if_marked(&mut seen, marks[place], &entities[place].body)? {
+    for index in 0..reach.places.len() {
+        let place = reach.places[index];
+        if !add_at(&mut seen, entities, place, &mut reach.search)? {
             return Ok(false);
         }
     }
     Ok(true)
+}
+
+/// Sees the names that the entity at a place declares, if it is marked. The mark is taken back.
+fn add_at<'a>(
+    seen: &mut Seen<'a>,
+    entities: &'a [Entity],
+    place: usize,
+    search: &mut Search,
+) -> Result<bool, NoMemory>
+    requires long { length search.old.marks.items ≡ length entities.now }
+    requires place { place < length entities.now }
+    ensures marks { OnOk result (search.new.marks.items ≡ slice_set search.old.marks.items place false) }
+    ensures seen { IfOk result (λ are_new. SeesShare seen.old seen.new (marked_names search.old.marks.items (entities_of entities.now)) (marked_names (slice_set search.old.marks.items place false) (entities_of entities.now)) are_new) }
+{
+    let mark = search.marks[place];
+    search.marks[place] = false;
+    add_if_marked(seen, mark, &entities[place].body)
 }
 
 fn add_if_marked<'a>(seen: &mut Seen<'a>, mark: bool, body: &'a Body) -> Result<bool, NoMemory>

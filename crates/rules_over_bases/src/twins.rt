@@ -1,6 +1,6 @@
 //! The names of members, parameters, constructors and items differ, and in an interface, a struct or an exception also those that
 //! it has from its bases.
-ghost use Rattle.std.specs.Prelude.{◌≡◌, ◌<◌, not, length, None, IfOk, OnOk};
+ghost use Rattle.std.specs.Prelude.{◌≡◌, ◌<◌, not, false, length, replicate, None, IfOk, OnOk};
 ghost use Rattle.std.specs.List.{position};
 ghost use Rattle.uno_model.specs.Circles.{HasNoCircle};
 ghost use Rattle.uno_model.specs.Registry.{IsRising, leads_to};
@@ -13,7 +13,7 @@ use crate::over::{known_to_differ, names_differ_over};
 use crate::own::own_names_differ;
 use std::alloc::Global;
 use uno_base::NoMemory;
-use uno_entities::Entity;
+use uno_entities::{Entity, Reach, nothing_reached};
 
 /// The place of the first entity with two of one name.
 pub fn first_with_twins(alloc: Global, entities: &[Entity]) -> Result<Option<usize>, NoMemory>
@@ -22,9 +22,10 @@ pub fn first_with_twins(alloc: Global, entities: &[Entity]) -> Result<Option<usi
     requires kinds { position (λ e. not (bases_are_of_their_kind (entities_of entities.now) (entity_of e))) entities.now ≡ None }
     ensures { IfOk result (λ place. place ≡ position (λ e. not (names_differ (entities_of entities.now) (entity_of e))) entities.now) }
 {
-    let mut known = known_to_differ(alloc, entities)?;
+    let mut reach = nothing_reached(alloc, entities.len())?;
+    let mut known = known_to_differ(alloc, entities, &mut reach)?;
     for place in 0..entities.len() {
-        if !names_differ(alloc, entities, place, known.as_mut_slice())? {
+        if !names_differ(alloc, entities, place, known.as_mut_slice(), &mut reach)? {
             return Ok(Some(place));
         }
     }
@@ -37,17 +38,20 @@ fn names_differ(
     entities: &[Entity],
     place: usize,
     known: &mut [bool],
+    reach: &mut Reach,
 ) -> Result<bool, NoMemory>
     requires rising { IsRising (entities_of entities.now) }
     requires no_circle { HasNoCircle (leads_to (entities_of entities.now)) }
     requires kinds { position (λ e. not (bases_are_of_their_kind (entities_of entities.now) (entity_of e))) entities.now ≡ None }
     requires place { place < length entities.now }
     requires before { KnownToDiffer (entities_of entities.now) known.old }
+    requires clear { reach.old.search.marks.items ≡ replicate (length entities.now) false }
     ensures differ { IfOk result (λ b. KeepsAt (names_differ (entities_of entities.now)) (entities_of entities.now) place b) }
     ensures after { OnOk result (KnownToDiffer (entities_of entities.now) known.new) }
+    ensures clear { OnOk result (reach.new.search.marks.items ≡ replicate (length entities.now) false) }
 {
     if !own_names_differ(alloc, &entities[place].body)? {
         return Ok(false);
     }
-    names_differ_over(alloc, entities, place, known)
+    names_differ_over(alloc, entities, place, known, reach)
 }

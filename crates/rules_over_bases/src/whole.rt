@@ -12,7 +12,7 @@ use crate::member::has_member;
 use entity_rules::{is_complete, is_within_limits};
 use std::alloc::Global;
 use uno_base::NoMemory;
-use uno_entities::{Entity, all_have_few_functions, has_few_functions};
+use uno_entities::{Entity, Reach, all_have_few_functions, has_few_functions, nothing_reached};
 
 /// The place of the first entity that is not whole or not within the limits.
 pub fn first_not_whole(alloc: Global, entities: &[Entity]) -> Result<Option<usize>, NoMemory>
@@ -22,8 +22,9 @@ pub fn first_not_whole(alloc: Global, entities: &[Entity]) -> Result<Option<usiz
 {
     let mut few = known_few(alloc, entities)?;
     let mut members = vec![in alloc; false; entities.len()]?;
+    let mut reach = nothing_reached(alloc, entities.len())?;
     for place in 0..entities.len() {
-        if !is_whole(alloc, entities, place, &mut few, &mut members)? {
+        if !is_whole(entities, place, &mut few, &mut members, &mut reach)? {
             return Ok(Some(place));
         }
     }
@@ -43,20 +44,22 @@ fn known_few(alloc: Global, entities: &[Entity]) -> Result<Vec<bool>, NoMemory>
 
 /// Whether the entity at a place is whole and within the limits.
 fn is_whole(
-    alloc: Global,
     entities: &[Entity],
     place: usize,
     few: &mut [bool],
     members: &mut [bool],
+    reach: &mut Reach,
 ) -> Result<bool, NoMemory>
     requires rising { IsRising (entities_of entities.now) }
     requires no_circle { HasNoCircle (leads_to (entities_of entities.now)) }
     requires place { place < length entities.now }
     requires few { KnownFew (entities_of entities.now) few.old }
     requires members { KnownMembers (entities_of entities.now) members.old }
+    requires clear { reach.old.search.marks.items ≡ replicate (length entities.now) false }
     ensures whole { IfOk result (λ b. KeepsAt (is_whole_within_limits (entities_of entities.now)) (entities_of entities.now) place b) }
     ensures few { OnOk result (KnownFew (entities_of entities.now) few.new) }
     ensures members { OnOk result (KnownMembers (entities_of entities.now) members.new) }
+    ensures clear { OnOk result (reach.new.search.marks.items ≡ replicate (length entities.now) false) }
 {
     if !is_complete(&entities[place]) {
         return Ok(false);
@@ -67,5 +70,5 @@ fn is_whole(
     if !has_member(entities, place, members) {
         return Ok(false);
     }
-    has_few_functions(alloc, entities, place, few)
+    has_few_functions(entities, place, few, reach)
 }

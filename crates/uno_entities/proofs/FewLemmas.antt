@@ -1,7 +1,7 @@
 -- Which entities have few functions: what is marked by a search that found few, and what is known after each step.
-use Rattle.std.proofs.Common.{◌≡◌, ℕ, zero, suc, ◌+◌, ◌<◌, ◌≤◌, ◌-◌, ◌^◌, min, length, take, set, replicate, get_or, Bool}
-use Rattle.std.proofs.Common.{true, false, ◌||◌, List, [], ◌∷◌, refl, sym, ap, subst, ◌∙◌, ◌⊎◌, inl, inr, arith}
-use Rattle.std.specs.Prelude.{Some, slice_get, Contains, IsTrue, ◌↔◌, if◌then◌else◌}
+use Rattle.std.proofs.Common.{◌≡◌, ℕ, zero, suc, ◌+◌, ◌<◌, ◌≤◌, ◌-◌, ◌^◌, min, length, replicate, get_or, Bool}
+use Rattle.std.proofs.Common.{true, false, List, [], ◌∷◌, refl, sym, ap, subst, ◌∙◌, ◌⊎◌, inl, inr, arith}
+use Rattle.std.specs.Prelude.{Some, slice_get, Contains, IsTrue, ◌↔◌}
 use Rattle.std.proofs.lemmas.List.{length-map, length-replicate}
 use Rattle.std.proofs.lemmas.Option.{slice_get_within, get_or_from_slice_get, slice_get-get_or}
 use borrow.Author.Count.{below_more}
@@ -13,8 +13,9 @@ use Rattle.uno_model.specs.Registry.{IsRising, leads_to}
 use Rattle.uno_model.specs.Sound.{HasFewFunctions}
 use Rattle.uno_entities.proofs.CountLemmas.{functions_are_marked, no_more_than_all, fewer_below}
 use Rattle.uno_entities.proofs.SpreadLemmas.{entity_at, replicate_unmarked}
-use Rattle.uno_entities.specs.Counts.{FewAt, AllFewBut, KnownFew, marked_in_either, total_functions, marked_functions}
+use Rattle.uno_entities.specs.Counts.{FewAt, AllFewBut, KnownFew, total_functions, marked_functions}
 use Rattle.uno_entities.specs.Entities.{entities_of, entity_of}
+use Rattle.uno_entities.specs.Reaching.{Lists, MarksMore}
 use Rattle.uno_entities.specs.declared.entity.Entity.{Entity}
 
 -- where all together have few, each has
@@ -26,16 +27,37 @@ not_true : IsTrue false → ⊥
 not_true bad = cc
 
 -- the marks of a search from a place say whether the entity there has few
-pub found_few : (reg : List plain.Entity) (place : ℕ) (few : Bool) (marks shown : List Bool) → IsRising reg → HasNoCircle (leads_to reg) → place < length reg
-    → ((e : plain.Entity) → slice_get reg place ≡ Some e → MarksBases reg e.name marks) → shown ≡ marks
-    → IsTrue few ↔ (marked_functions shown reg ≤ 65536) → IsTrue few ↔ FewAt reg place
-found_few reg place few marks shown rising none within marked same says = (λ yes e at. omega (arith, says.0 yes, as_many e at), λ each. says.1 (low each))
-  where
-    as_many : (e : plain.Entity) → slice_get reg place ≡ Some e → length (functions_of reg e.name) ≡ marked_functions shown reg
-    as_many e at = functions_are_marked reg e.name marks rising none (marked e at) ∙ sym (ap (λ m. marked_functions m reg) same)
+as_many : (reg : List plain.Entity) (place count : ℕ) (marks : List Bool) → IsRising reg → HasNoCircle (leads_to reg)
+    → ((e : plain.Entity) → slice_get reg place ≡ Some e → MarksBases reg e.name marks) → count ≡ min (marked_functions marks reg) (2 ^ 64 - 1)
+    → (e : plain.Entity) → slice_get reg place ≡ Some e → count ≡ min (length (functions_of reg e.name)) (2 ^ 64 - 1)
+as_many reg place count marks rising none marked is e at =
+    is ∙ ap (λ n. min n (2 ^ 64 - 1)) (sym (functions_are_marked reg e.name marks rising none (marked e at)))
 
-    low : FewAt reg place → marked_functions shown reg ≤ 65536
-    low each = let e = entity_at reg place within in omega (arith, each e.0 e.1, as_many e.0 e.1)
+pub many_found : (reg : List plain.Entity) (place count : ℕ) (marks : List Bool) → IsRising reg → HasNoCircle (leads_to reg) → place < length reg
+    → ((e : plain.Entity) → slice_get reg place ≡ Some e → MarksBases reg e.name marks) → count ≡ min (marked_functions marks reg) (2 ^ 64 - 1)
+    → 65536 < count → IsTrue false ↔ FewAt reg place
+many_found reg place count marks rising none within marked is many = (
+  λ bad. absurd (not_true bad),
+  λ each. absurd (omega (
+    arith,
+    each found.0 found.1,
+    as_many reg place count marks rising none marked is found.0 found.1,
+    many,
+  )),
+)
+  where
+    found : (e : plain.Entity) × (slice_get reg place ≡ Some e)
+    found = entity_at reg place within
+
+few_found : (reg : List plain.Entity) (place count : ℕ) (marks : List Bool) → IsRising reg → HasNoCircle (leads_to reg)
+    → ((e : plain.Entity) → slice_get reg place ≡ Some e → MarksBases reg e.name marks) → count ≡ min (marked_functions marks reg) (2 ^ 64 - 1)
+    → count ≤ 65536 → FewAt reg place
+few_found reg place count marks rising none marked is low e at = omega (arith, low, as_many reg place count marks rising none marked is e at)
+
+pub few_told : (reg : List plain.Entity) (place count : ℕ) (marks : List Bool) → IsRising reg → HasNoCircle (leads_to reg)
+    → ((e : plain.Entity) → slice_get reg place ≡ Some e → MarksBases reg e.name marks) → count ≡ min (marked_functions marks reg) (2 ^ 64 - 1)
+    → count ≤ 65536 → IsTrue true ↔ FewAt reg place
+few_told reg place count marks rising none marked is low = (λ yes. few_found reg place count marks rising none marked is low, λ few. refl)
 
 -- what a list contains stands at a place, and the other way round
 contained_at : {X : Type 0} (xs : List X) (x : X) → Contains xs x → (i : ℕ) × (slice_get xs i ≡ Some x)
@@ -115,64 +137,21 @@ few_below : (reg : List plain.Entity) (name : List ℕ) (marks : List Bool) → 
     → length (functions_of reg name) ≤ 65536 → (i : ℕ) → Marked marks i → FewAt reg i
 few_below reg name marks rising none of_name low i mark f at = omega (arith, low, fewer_below reg name f.name rising none ((of_name.marked i f at).0 mark))
 
--- what is joined is as long as the second list, and marks nothing else
-pub joined_long : (marks known : List Bool) → length (marked_in_either marks known) ≡ length known
-unfolding marked_in_either
-joined_long [] known = refl
-joined_long (x ∷ xs) [] = refl
-joined_long (x ∷ xs) (k ∷ ks) = omega (arith, joined_long xs ks)
-
-pub joined_marked : (marks known : List Bool) (i : ℕ) → Marked (marked_in_either marks known) i → Marked marks i ⊎ Marked known i
-unfolding marked_in_either
-joined_marked [] known i m = inr m
-joined_marked (x ∷ xs) [] i m = inr m
-joined_marked (true ∷ xs) (k ∷ ks) zero m = inl refl
-joined_marked (false ∷ xs) (true ∷ ks) zero m = inr refl
-joined_marked (false ∷ xs) (false ∷ ks) zero m = let bad : Some false ≡ Some true = m in cc
-joined_marked (x ∷ xs) (k ∷ ks) (suc i) m = joined_marked xs ks i m
-
--- one mark more is joined
-join_at : (marks known : List Bool) (i : ℕ) (d : Bool) → length marks ≡ length known → i < length marks
-    → set (marked_in_either (take i marks) known) i (get_or (marked_in_either (take i marks) known) i d || get_or marks i d) ≡ marked_in_either (take (suc i) marks) known
-unfolding marked_in_either
-join_at [] known i d long within = absurd (omega (arith, within))
-join_at (x ∷ xs) [] i d long within = absurd (omega (arith, long))
-join_at (x ∷ xs) (k ∷ ks) zero d long within = refl
-join_at (x ∷ xs) (k ∷ ks) (suc i) d long within = ap (λ l. (k || x) ∷ l) (join_at xs ks i d (omega (arith, long)) (omega (arith, within)))
-
-pub join_step : (marks known row : List Bool) (i : ℕ) (d : Bool) → length marks ≡ length known → i < length marks → row ≡ marked_in_either (take i marks) known
-    → set row i (get_or row i d || get_or marks i d) ≡ marked_in_either (take (i + 1) marks) known
-join_step marks known row i d long within is =
-    let one : suc i ≡ i + 1 = omega arith in
-    ap (λ l. set l i (get_or l i d || get_or marks i d)) is ∙ join_at marks known i d long within ∙ ap (λ n. marked_in_either (take n marks) known) one
-
-pub join_begins : (known : List Bool) → known ≡ marked_in_either [] known
-unfolding marked_in_either
-join_begins known = refl
-
--- what is marked by a search that found few is known
-joined_few : (reg : List plain.Entity) (place : ℕ) (marks known : List Bool) → IsRising reg → HasNoCircle (leads_to reg) → place < length reg
-    → ((e : plain.Entity) → slice_get reg place ≡ Some e → MarksBases reg e.name marks) → FewAt reg place
-    → KnownFew reg known → KnownFew reg (marked_in_either marks known)
-joined_few reg place marks known rising none within marked few_here before =
+-- what a search that found few has reached is known
+pub known_more : (reg : List plain.Entity) (place count : ℕ) (marks known known_after : List Bool) (places listed : List ℕ) → IsRising reg → HasNoCircle (leads_to reg)
+    → place < length reg
+    → ((e : plain.Entity) → slice_get reg place ≡ Some e → MarksBases reg e.name marks) → count ≡ min (marked_functions marks reg) (2 ^ 64 - 1)
+    → count ≤ 65536 → Lists marks listed → places ≡ listed → KnownFew reg known → MarksMore places known known_after → KnownFew reg known_after
+known_more reg place count marks known known_after places listed rising none within marked is low lists same before more =
     let e = entity_at reg place within in
+    let few_here = few_found reg place count marks rising none marked is low in
     record {
-      one_each = joined_long marks known ∙ before.one_each;
-      few = λ i m. elim (joined_marked marks known i m) [
-        | inl new ↦ few_below reg e.0.name marks rising none (marked e.0 e.1) (few_here e.0 e.1) i new
+      one_each = more.long ∙ before.one_each;
+      few = λ i m. elim (more.only i m) [
+        | inl new ↦ few_below reg e.0.name marks rising none (marked e.0 e.1) (few_here e.0 e.1) i (lists.marked i (subst (λ (ps : List ℕ). Contains ps i) same new))
         | inr old ↦ before.few i old
       ];
     }
-
--- after a search, what it marked is known where it found few, and else what was known
-pub known_more : (reg : List plain.Entity) (place : ℕ) (few : Bool) (marks shown known after : List Bool) → IsRising reg → HasNoCircle (leads_to reg) → place < length reg
-    → ((e : plain.Entity) → slice_get reg place ≡ Some e → MarksBases reg e.name marks) → shown ≡ marks
-    → IsTrue few ↔ (marked_functions shown reg ≤ 65536)
-    → KnownFew reg known → after ≡ (if few then marked_in_either shown known else known) → KnownFew reg after
-known_more reg place true marks shown known after rising none within marked same says before joins =
-    subst (KnownFew reg) (sym (joins ∙ ap (λ m. marked_in_either m known) same))
-    (joined_few reg place marks known rising none within marked ((found_few reg place true marks shown rising none within marked same says).0 refl) before)
-known_more reg place false marks shown known after rising none within marked same says before joins = subst (KnownFew reg) (sym joins) before
 
 -- at first nothing is known
 pub none_known : (reg : List plain.Entity) (count : ℕ) (shown known : List Bool) → length reg ≡ count → known ≡ replicate count false → shown ≡ known

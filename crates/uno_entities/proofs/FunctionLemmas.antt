@@ -1,8 +1,8 @@
 -- Counts of functions, as far as a `u64` counts, along lists of members, of entities and of marks.
-use Rattle.std.proofs.Common.{◌≡◌, ℕ, ◌+◌, ◌<◌, ◌≤◌, min, length, map, drop, get_or, Bool, true, false, if◌then◌else◌, List, [], ◌∷◌, refl, sym, ap, ◌∙◌, arith}
+use Rattle.std.proofs.Common.{◌≡◌, ℕ, zero, suc, ◌+◌, ◌-◌, ◌^◌, ◌<◌, ◌≤◌, min, length, map, drop, get_or, set, replicate, Bool, true, false, if◌then◌else◌, List, [], ◌∷◌, refl, sym, ap, ◌∙◌, arith}
 use Rattle.std.proofs.lemmas.List.{at_drop_more, drop_all}
 use Rattle.uno_model.specs.Entities as plain
-use Rattle.uno_entities.specs.Counts.{functions_of_member, functions_in, own_functions, total_functions, marked_functions}
+use Rattle.uno_entities.specs.Counts.{functions_of_member, functions_in, own_functions, total_functions, marked_functions, IsShare}
 use Rattle.uno_entities.specs.Entities.{member_of, entities_of, entity_of, body_of}
 use Rattle.uno_entities.specs.declared.entity.Member.{Member}
 use Rattle.uno_entities.specs.declared.entity.Entity.{Entity}
@@ -51,30 +51,46 @@ pub entities_end : (es : List Entity) (i total most all : ℕ) → length es ≤
 unfolding total_functions
 entities_end es i total most all over low held = ends total _ all most (ap (λ xs. total_functions (entities_of xs)) (drop_all i es over)) low held
 
--- the marks that are left, one further
-one_more_mark : (mark : Bool) (marks : List Bool) (e : plain.Entity) (es : List plain.Entity)
-    → marked_functions (mark ∷ marks) (e ∷ es) ≡ (if mark then own_functions e.body else 0) + marked_functions marks es
+-- ---- marks that are taken back
+
+-- what the entity at a place counts for with its mark is what its mark adds
+mark_share : (marks : List Bool) (es : List Entity) (p : ℕ) (d : Bool) (e : Entity) → p < length marks → length marks ≡ length es
+    → marked_functions marks (entities_of es)
+    ≡ (if get_or marks p d then own_functions (body_of (get_or es p e).body) else 0) + marked_functions (set marks p false) (entities_of es)
 unfolding marked_functions
-one_more_mark true marks e es = refl
-one_more_mark false marks e es = omega arith
+mark_share [] es p d e within long = absurd (omega (arith, within))
+mark_share (m ∷ marks) [] p d e within long = absurd (omega (arith, long))
+mark_share (true ∷ marks) (x ∷ es) zero d e within long = refl
+mark_share (false ∷ marks) (x ∷ es) zero d e within long = omega arith
+mark_share (true ∷ marks) (x ∷ es) (suc p) d e within long = omega (arith, mark_share marks es p d e (omega (arith, within)) (omega (arith, long)))
+mark_share (false ∷ marks) (x ∷ es) (suc p) d e within long = mark_share marks es p d e (omega (arith, within)) (omega (arith, long))
 
-marks_left : (marks : List Bool) (es : List Entity) (i : ℕ) (d : Bool) (e : Entity) → i < length marks → i < length es
-    → marked_functions (drop i marks) (entities_of (drop i es))
-    ≡ (if get_or marks i d then own_functions (body_of (get_or es i e).body) else 0) + marked_functions (drop (i + 1) marks) (entities_of (drop (i + 1) es))
-marks_left marks es i d e within below =
-    at_drop_more (λ ms. marked_functions ms (entities_of (drop i es))) marks i d within
-    ∙ at_drop_more (λ xs. marked_functions (get_or marks i d ∷ drop (i + 1) marks) (entities_of xs)) es i e below
-    ∙ one_more_mark (get_or marks i d) (drop (i + 1) marks) (entity_of (get_or es i e)) (entities_of (drop (i + 1) es))
+-- the same of what was read there
+pub share_of : (marks : List Bool) (es : List Entity) (p : ℕ) (mark : Bool) (e : Entity) (count : ℕ) → p < length es → length marks ≡ length es
+    → mark ≡ get_or marks p mark → count ≡ min (if mark then own_functions (body_of (get_or es p e).body) else 0) (2 ^ 64 - 1)
+    → IsShare count (marked_functions marks (entities_of es)) (marked_functions (set marks p false) (entities_of es))
+share_of marks es p mark e count within long read counts =
+    let own = own_functions (body_of (get_or es p e).body) in
+    record {
+      share = if mark then own else 0;
+      parts = mark_share marks es p mark e (omega (arith, within, long)) long
+          ∙ ap (λ m. (if m then own else 0) + marked_functions (set marks p false) (entities_of es)) (sym read);
+      counted = counts;
+    }
 
-pub mark_step : (marks : List Bool) (es : List Entity) (i : ℕ) (d : Bool) (e : Entity) (total next one most all : ℕ) → i < length marks → i < length es
-    → min (total + marked_functions (drop i marks) (entities_of (drop i es))) most ≡ all → one ≡ min (if get_or marks i d then own_functions (body_of (get_or es i e).body) else 0) most
-    → next ≡ min (total + one) most → min (next + marked_functions (drop (i + 1) marks) (entities_of (drop (i + 1) es))) most ≡ all
-mark_step marks es i d e total next one most all within below held counts added =
-    goes_on total (if get_or marks i d then own_functions (body_of (get_or es i e).body) else 0) (marked_functions (drop (i + 1) marks) (entities_of (drop (i + 1) es)))
-    (marked_functions (drop i marks) (entities_of (drop i es))) all most next (marks_left marks es i d e within below) held (added ∙ ap (λ k. min (total + k) most) counts)
+-- the marks that are left, one fewer
+pub share_step : (total count next whole rest most all : ℕ) → most ≡ 2 ^ 64 - 1 → IsShare count whole rest → min (total + whole) most ≡ all → next ≡ min (total + count) most
+    → min (next + rest) most ≡ all
+share_step total count next whole rest most all is share held added =
+    goes_on total share.share rest whole all most next share.parts held (added ∙ ap (λ k. min (total + k) most) (share.counted ∙ ap (min share.share) (sym is)))
 
-pub marks_end : (marks : List Bool) (es : List Entity) (i total most all : ℕ) → length marks ≤ i → total ≤ most
-    → min (total + marked_functions (drop i marks) (entities_of (drop i es))) most ≡ all
-    → total ≡ all
+-- without a mark nothing counts
+none_counts : (count : ℕ) (reg : List plain.Entity) → marked_functions (replicate count false) reg ≡ 0
 unfolding marked_functions
-marks_end marks es i total most all over low held = ends total _ all most (ap (λ ms. marked_functions ms (entities_of (drop i es))) (drop_all i marks over)) low held
+none_counts zero reg = refl
+none_counts (suc count) [] = refl
+none_counts (suc count) (e ∷ es) = none_counts count es
+
+pub shares_end : (count : ℕ) (marks : List Bool) (reg : List plain.Entity) (total most all : ℕ) → marks ≡ replicate count false → total ≤ most
+    → min (total + marked_functions marks reg) most ≡ all → total ≡ all
+shares_end count marks reg total most all none low held = ends total _ all most (ap (λ ms. marked_functions ms reg) none ∙ none_counts count reg) low held

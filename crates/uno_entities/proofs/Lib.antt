@@ -7,3 +7,5 @@ pub mod MarkLemmas
 pub mod NamedLemmas
 pub mod NameParts
 pub mod SpreadLemmas
+pub mod WordLemmas
+pub mod ReachLemmas

@@ -19,7 +19,7 @@ use Rattle.uno_entities.specs.Finding.{IsPlaceOf}
 use Rattle.uno_entities.specs.Spreading.{unmarked, MarksPlace, Spreads, Searched}
 
 -- a mark that is set stands, and the others stay
-set_marked : (marks : List Bool) (p : ℕ) → p < length marks → Marked (set marks p true) p
+pub set_marked : (marks : List Bool) (p : ℕ) → p < length marks → Marked (set marks p true) p
 set_marked [] p within = absurd (omega arith)
 set_marked (m ∷ marks) zero within = refl
 set_marked (m ∷ marks) (suc p) within = set_marked marks p (omega arith)

@@ -1,5 +1,5 @@
 -- How many functions stand at the places of a registry, and where it is known.
-use Rattle.std.specs.Prelude.{◌≡◌, ℕ, ◌+◌, ◌≤◌, Bool, true, false, ◌||◌, List, [], ◌∷◌, length, Some, slice_get}
+use Rattle.std.specs.Prelude.{◌≡◌, ℕ, ◌+◌, ◌-◌, ◌^◌, ◌≤◌, min, Bool, true, false, List, [], ◌∷◌, length, Some, slice_get}
 use Rattle.uno_model.specs.Entities.{Entity, Body, Member, attribute, method, interface}
 use Rattle.uno_model.specs.Functions.{functions_of}
 use Rattle.uno_entities.specs.Marks.{Marked}
@@ -46,8 +46,8 @@ pub record KnownFew (reg : List Entity) (known : List Bool) : Type 0 where
   pub one_each : length known ≡ length reg
   pub few : (place : ℕ) → Marked known place → FewAt reg place
 
--- what is marked in the one or the other
-unfoldable pub marked_in_either : List Bool → List Bool → List Bool
-marked_in_either [] known = known
-marked_in_either (mark ∷ marks) [] = []
-marked_in_either (mark ∷ marks) (k ∷ ks) = (k || mark) ∷ marked_in_either marks ks
+-- a count is what the one number is more than the other, as far as a `u64` counts
+pub record IsShare (count whole rest : ℕ) : Type 0 where
+  pub share : ℕ
+  pub parts : whole ≡ share + rest
+  pub counted : count ≡ min share (2 ^ 64 - 1)

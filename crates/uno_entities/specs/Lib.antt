@@ -4,6 +4,8 @@ pub mod Entities
 pub mod ErrorTexts
 pub mod Finding
 pub mod Marks
+pub mod Reaching
 pub mod Spreading
 pub mod Tag
 pub mod TypeNames
+pub mod Words

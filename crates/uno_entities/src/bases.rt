@@ -4,7 +4,8 @@ ghost use Rattle.uno_model.specs.Entities as plain;
 ghost use Rattle.uno_entities.specs.Marks.{MarksBases};
 ghost use Rattle.uno_model.specs.Registry.{IsRising, stands_on_body, mandatory_bases, at_most_one};
 ghost use Rattle.uno_entities.specs.Entities.{entity_of, entities_of, base_of, body_of};
-ghost use Rattle.uno_entities.specs.Spreading.{MarksPlace, Spreads, Searched};
+ghost use Rattle.uno_entities.specs.Reaching.{Lists, Covers};
+ghost use Rattle.uno_entities.specs.Spreading.{MarksPlace, Spreads};
 
 use crate::finding::place_in;
 use crate::{Base, Body, Entity, Name};
@@ -13,9 +14,16 @@ use uno_base::NoMemory;
 
 /// What is marked so far, and the places whose bases are still to be marked.
 #[derive(Drop)]
-struct Search {
-    marks: Vec<bool>,
-    pending: Vec<usize>,
+pub struct Search {
+    pub marks: Vec<bool>,
+    pub pending: Vec<usize>,
+}
+
+/// A search over bases that can begin anew: it lists the places that it marks, so that it can be read and taken back without a look at the others.
+#[derive(Drop)]
+pub struct Reach {
+    pub search: Search,
+    pub places: Vec<usize>,
 }
 
 /// Marks the entity of a name, if it is there and not marked yet.
@@ -113,17 +121,58 @@ fn mark_base(entities: &[Entity], base: &Option<Name>, search: &mut Search) -> R
     }
 }
 
-/// The search that begins at a place.
-fn search_at(alloc: Global, count: usize, place: usize) -> Result<Search, NoMemory>
-    requires { place < count }
-    ensures marks { IfOk result (λ s. s.marks.items ≡ slice_set (replicate count false) place true) }
-    ensures pending { IfOk result (λ s. s.pending.items ≡ place ∷ []) }
+/// A search over so many entities, with nothing marked.
+pub fn nothing_reached(alloc: Global, count: usize) -> Result<Reach, NoMemory>
+    ensures { IfOk result (λ reach. reach.search.marks.items ≡ replicate count false) }
 {
-    let mut marks = vec![in alloc; false; count]?;
-    marks[place] = true;
-    let mut pending = Vec::new(alloc);
-    pending.push(place)?;
-    Ok(Search { marks, pending })
+    let marks = vec![in alloc; false; count]?;
+    let pending = Vec::new(alloc);
+    let places = Vec::new(alloc);
+    Ok(Reach {
+        search: Search { marks, pending },
+        places,
+    })
+}
+
+/// Begins at a place.
+fn begin(place: usize, search: &mut Search) -> Result<(), NoMemory>
+    requires { place < length search.old.marks.items }
+    ensures marks { OnOk result (search.new.marks.items ≡ slice_set search.old.marks.items place true) }
+    ensures pending { OnOk result (search.new.pending.items ≡ place ∷ []) }
+{
+    search.pending.clear();
+    search.pending.push(place)?;
+    search.marks[place] = true;
+    Ok(())
+}
+
+/// Marks and lists all entities on which the one at a place stands, itself among them. Nothing is marked before.
+pub fn reach_bases(entities: &[Entity], place: usize, reach: &mut Reach) -> Result<(), NoMemory>
+    requires rising { IsRising (entities_of entities.now) }
+    requires place { place < length entities.now }
+    requires clear { reach.old.search.marks.items ≡ replicate (length entities.now) false }
+    ensures bases { OnOk result ((e : plain.Entity) → slice_get (entities_of entities.now) place ≡ Some e → MarksBases (entities_of entities.now) e.name reach.new.search.marks.items) }
+    ensures listed { OnOk result (Lists reach.new.search.marks.items reach.new.places.items) }
+{
+    reach.places.clear();
+    begin(place, &mut reach.search)?;
+    while let Some(next) = reach.search.pending.pop() {
+        reach.places.push(next)?;
+        mark_bases(entities, next, &mut reach.search)?;
+    }
+    Ok(())
+}
+
+/// Takes all marks back.
+pub fn unmark(reach: &mut Reach)
+    requires { Covers reach.old.search.marks.items reach.old.places.items }
+    ensures clear { reach.new.search.marks.items ≡ replicate (length reach.old.search.marks.items) false }
+    ensures places { reach.new.places.items ≡ reach.old.places.items }
+{
+    for index in 0..reach.places.len() {
+        let place = reach.places[index];
+        reach.search.marks[place] = false;
+    }
 }
 
 /// Marks at all entities on which the one at a place stands, itself among them.
@@ -132,10 +181,9 @@ pub fn bases_of(alloc: Global, entities: &[Entity], place: usize) -> Result<Vec<
     requires place { place < length entities.now }
     ensures { IfOk result (λ marks. (e : plain.Entity) → slice_get (entities_of entities.now) place ≡ Some e → MarksBases (entities_of entities.now) e.name marks.items) }
 {
-    let mut search = search_at(alloc, entities.len(), place)?;
-    while let Some(next) = search.pending.pop() {
-        mark_bases(entities, next, &mut search)?;
-    }
+    let mut reach = nothing_reached(alloc, entities.len())?;
+    reach_bases(entities, place, &mut reach)?;
+    let Reach { search, places: _ } = reach;
     let Search { marks, pending: _ } = search;
     Ok(marks)
 }

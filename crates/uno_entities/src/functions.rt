@@ -1,20 +1,38 @@
 //! How many functions entities have: one, those that are marked, and all.
-ghost use Rattle.std.specs.Prelude.{◌≡◌, ◌^◌, ◌-◌, min, length, map, if◌then◌else◌};
-ghost use Rattle.uno_entities.specs.Counts.{functions_of_member, functions_in, own_functions, marked_functions, total_functions};
+ghost use Rattle.std.specs.Prelude.{◌≡◌, ◌<◌, ◌^◌, ◌-◌, min, length, map, if◌then◌else◌, slice_set, replicate, false};
+ghost use Rattle.uno_entities.specs.Counts.{functions_of_member, functions_in, own_functions, marked_functions, total_functions, IsShare};
 ghost use Rattle.uno_entities.specs.Entities.{entities_of, body_of, member_of};
+ghost use Rattle.uno_entities.specs.Reaching.{Covers};
 
+use crate::bases::{Reach, Search};
 use crate::{Body, Entity, Member};
 
-/// How many functions the entities that are marked have themselves, as far as a `u64` counts.
-pub(crate) fn functions_of_marked(marks: &[bool], entities: &[Entity]) -> u64
-    requires { length marks.now ≡ length entities.now }
-    ensures { result ≡ min (marked_functions marks.now (entities_of entities.now)) (2 ^ 64 - 1) }
+/// How many functions the entities that are marked have themselves, as far as a `u64` counts. All marks are taken back.
+pub(crate) fn functions_of_reached(entities: &[Entity], reach: &mut Reach) -> u64
+    requires long { length reach.old.search.marks.items ≡ length entities.now }
+    requires covered { Covers reach.old.search.marks.items reach.old.places.items }
+    ensures count { result ≡ min (marked_functions reach.old.search.marks.items (entities_of entities.now)) (2 ^ 64 - 1) }
+    ensures clear { reach.new.search.marks.items ≡ replicate (length entities.now) false }
+    ensures places { reach.new.places.items ≡ reach.old.places.items }
 {
     let mut total = 0u64;
-    for place in 0..entities.len() {
-        total = total.saturating_add(functions_if(marks[place], &entities[place].body));
+    for index in 0..reach.places.len() {
+        let place = reach.places[index];
+        total = total.saturating_add(functions_at(entities, place, &mut reach.search));
     }
     total
+}
+
+/// How many functions the entity at a place counts for with its mark, which is taken back.
+fn functions_at(entities: &[Entity], place: usize, search: &mut Search) -> u64
+    requires long { length search.old.marks.items ≡ length entities.now }
+    requires place { place < length entities.now }
+    ensures marks { search.new.marks.items ≡ slice_set search.old.marks.items place false }
+    ensures count { IsShare result (marked_functions search.old.marks.items (entities_of entities.now)) (marked_functions search.new.marks.items (entities_of entities.now)) }
+{
+    let mark = search.marks[place];
+    search.marks[place] = false;
+    functions_if(mark, &entities[place].body)
 }
 
 /// How many functions an entity with this body counts for with this mark.

@@ -1,62 +1,12 @@
 //! Names as texts: which are identifiers, which are identifiers joined by points, and how many parts they have.
-ghost use Rattle.std.specs.Prelude.{◌≡◌, ◌+◌, length};
+ghost use Rattle.std.specs.Prelude.{◌≡◌, ◌+◌, length, map};
 ghost use Rattle.std.specs.List.{list_all, list_any};
 ghost use Rattle.std.specs.Str.{bytes_eq};
 ghost use Rattle.uno_model.specs.Names.{is_identifier, is_entity_name, begins_identifier, goes_on_identifier, reserved_words, parts_of};
 ghost use Rattle.uno_model.specs.Sound.{few_modules};
+ghost use Rattle.uno_entities.specs.Words.{words_with};
 
 use crate::MOST_LEVELS;
-
-/// The words of the grammar, of the simple types and of the two truths.
-const RESERVED_WORDS: [&str; 47] = [
-    "FALSE",
-    "False",
-    "TRUE",
-    "True",
-    "any",
-    "attribute",
-    "boolean",
-    "bound",
-    "byte",
-    "char",
-    "const",
-    "constants",
-    "constrained",
-    "double",
-    "enum",
-    "exception",
-    "float",
-    "get",
-    "hyper",
-    "in",
-    "inout",
-    "interface",
-    "long",
-    "maybeambiguous",
-    "maybedefault",
-    "maybevoid",
-    "module",
-    "oneway",
-    "optional",
-    "out",
-    "property",
-    "published",
-    "raises",
-    "readonly",
-    "removable",
-    "sequence",
-    "service",
-    "set",
-    "short",
-    "singleton",
-    "string",
-    "struct",
-    "transient",
-    "type",
-    "typedef",
-    "unsigned",
-    "void",
-];
 
 /// Whether it is a letter or `_`, then letters, digits and `_`, and no reserved word.
 pub fn is_identifier(name: &str) -> bool
@@ -88,16 +38,56 @@ fn go_on_identifier(bytes: &[u8]) -> bool
     bytes.iter().all(|byte| goes_on_identifier(*byte))
 }
 
+fn is_reserved(name: &str) -> bool
+    ensures { result ≡ list_any (bytes_eq name.now) reserved_words }
+{
+    let [first, ..] = name.as_bytes() else {
+        return false;
+    };
+    is_among(name, reserved_with(*first))
+}
+
 fn is_among(name: &str, words: &[&str]) -> bool
     ensures { result ≡ list_any (λ word. bytes_eq name.now word.now) words.now }
 {
     words.iter().any(|word| name == *word)
 }
 
-fn is_reserved(name: &str) -> bool
-    ensures { result ≡ list_any (bytes_eq name.now) reserved_words }
+/// The words of the grammar, of the simple types and of the two truths that begin with this letter.
+fn reserved_with(first: u8) -> &'static [&'static str]
+    ensures { map (λ word. word.now) result.now ≡ words_with first reserved_words }
 {
-    is_among(name, &RESERVED_WORDS)
+    match first {
+        b'F' => &["FALSE", "False"],
+        b'T' => &["TRUE", "True"],
+        b'a' => &["any", "attribute"],
+        b'b' => &["boolean", "bound", "byte"],
+        b'c' => &["char", "const", "constants", "constrained"],
+        b'd' => &["double"],
+        b'e' => &["enum", "exception"],
+        b'f' => &["float"],
+        b'g' => &["get"],
+        b'h' => &["hyper"],
+        b'i' => &["in", "inout", "interface"],
+        b'l' => &["long"],
+        b'm' => &["maybeambiguous", "maybedefault", "maybevoid", "module"],
+        b'o' => &["oneway", "optional", "out"],
+        b'p' => &["property", "published"],
+        b'r' => &["raises", "readonly", "removable"],
+        b's' => &[
+            "sequence",
+            "service",
+            "set",
+            "short",
+            "singleton",
+            "string",
+            "struct",
+        ],
+        b't' => &["transient", "type", "typedef"],
+        b'u' => &["unsigned"],
+        b'v' => &["void"],
+        _ => &[],
+    }
 }
 
 /// Whether it is identifiers joined by points.

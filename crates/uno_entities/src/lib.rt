@@ -5,6 +5,7 @@ mod bases;
 mod built_in;
 mod copies;
 mod entity;
+mod entity_copies;
 mod few_functions;
 mod finding;
 mod functions;
@@ -18,14 +19,15 @@ mod type_limits;
 mod type_name;
 mod type_rules;
 
-pub use bases::{all_bases, bases_of};
+pub use bases::{Reach, Search, all_bases, bases_of, nothing_reached, reach_bases, unmark};
 pub use built_in::{X_INTERFACE, built_in_entities};
 pub use copies::{copy_names, copy_params};
 pub use entity::{
     Attribute, Base, Body, Constant, Constructor, Entity, Field, Item, Member, Method, Param, Part,
     Service, Singleton,
 };
-pub use few_functions::{all_have_few_functions, has_few_functions, mark_all};
+pub use entity_copies::copy_entities;
+pub use few_functions::{all_have_few_functions, has_few_functions, mark_places};
 pub use finding::place_in;
 pub use identifier::{
     begins_identifier, few_modules, goes_on_identifier, is_entity_name, is_identifier,

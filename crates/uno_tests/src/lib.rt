@@ -6,6 +6,8 @@ mod blocks;
 #[cfg(test)]
 mod circles;
 #[cfg(test)]
+mod copies;
+#[cfg(test)]
 mod defaults;
 #[cfg(test)]
 mod entities;

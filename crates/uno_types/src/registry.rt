@@ -12,7 +12,7 @@ use entity_rules::is_sound;
 use std::alloc::{AllocFailed, Global};
 use std::marker::Model;
 use uno_base::NoMemory;
-use uno_entities::{built_in_entities, place_in};
+use uno_entities::{built_in_entities, copy_entities, place_in};
 
 /// Why an entity was not added.
 #[derive(Clone, Copy, Debug, PartialEq, Eq)]
@@ -63,6 +63,15 @@ impl Registry {
         ensures { IfOk result (λ registry. registry ≡ built_in) }
     {
         let entities = built_in_entities(alloc)?;
+        Ok(Registry { alloc, entities })
+    }
+
+    /// An equal registry.
+    pub fn copy(&self) -> Result<Registry, NoMemory>
+        ensures { IfOk result (λ copy. copy ≡ self.now) }
+    {
+        let alloc = self.alloc;
+        let entities = copy_entities(alloc, self.entities())?;
         Ok(Registry { alloc, entities })
     }
 

@@ -12,7 +12,7 @@ const LARGEST: u128 = 0xffff_ffff_ffff_ffff;
 const LOWEST: u128 = 0x8000_0000_0000_0000;
 
 /// A number without leading zeros, and no `-0`.
-pub(crate) fn number_at(bytes: &[u8]) -> Scan<'_, Token>
+pub fn number_at(bytes: &[u8]) -> Scan<'_, Token>
     ensures { Scans (λ x. (token_of x.0, x.1.now)) result (number_at bytes.now) }
 {
     let Some((first, behind)) = bytes.split_first() else {

@@ -9,13 +9,13 @@ use uno_entities::goes_on_identifier;
 
 /// The bytes of a word are letters, digits and `_`, those of a type's name also `.`, `[`, `]` and blanks.
 #[derive(Clone, Copy)]
-pub(crate) enum Run {
+pub enum Run {
     Word,
     Name,
 }
 
 /// The longest run in front, and what stands behind it.
-pub(crate) fn split_run<'a>(run: Run, bytes: &'a [u8]) -> (&'a [u8], &'a [u8])
+pub fn split_run<'a>(run: Run, bytes: &'a [u8]) -> (&'a [u8], &'a [u8])
     ensures front { result.0.now ≡ run_of (test_of run) bytes.now }
     ensures rest { result.1.now ≡ behind_run (test_of run) bytes.now }
     ensures all { IsTrue (list_all (test_of run) result.0.now) }

@@ -10,7 +10,7 @@ use uno_types::Text;
 
 /// The text up to the quote at its end, without its escapes.
 #[tactic(auto, using(crate::proofs::ScanLemmas::with_all_none, crate::proofs::ScanLemmas::with_all_more), unfolding(literal_model::specs::Shapes::string_at))]
-pub(crate) fn string_at<'a>(alloc: Global, bytes: &'a [u8]) -> Scan<'a, Vec<u8>>
+pub fn string_at<'a>(alloc: Global, bytes: &'a [u8]) -> Scan<'a, Vec<u8>>
     ensures { Scans (λ x. (x.0.items, x.1.now)) result (string_at false bytes.now) }
 {
     let mut text = Vec::new(alloc);

@@ -81,7 +81,7 @@ fn type_named(alloc: Global, registry: &Registry, name: &str) -> Result<Option<T
 }
 
 /// A run as a text: its bytes are ASCII.
-pub(crate) fn as_text(run: Run, bytes: &[u8]) -> &str
+pub fn as_text(run: Run, bytes: &[u8]) -> &str
     requires { IsTrue (list_all (test_of run) bytes.now) }
     ensures { result.now ≡ bytes.now }
 {

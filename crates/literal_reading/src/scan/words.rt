@@ -21,14 +21,14 @@ pub(crate) fn word_at<'a>(alloc: Global, registry: &Registry, bytes: &'a [u8]) -
 {
     let (run, rest) = split_run(Run::Word, bytes);
     let word = as_text(Run::Word, run);
-    if !is_known(registry, word) {
+    if !is_known_word(registry, word) {
         return Err(Stop::Bad(bytes.len()));
     }
     Ok((Token::Word(Name::of(alloc, word)?), rest))
 }
 
 /// One of the four words, or the name of the first item of its number in some enum: each is looked at.
-fn is_known(registry: &Registry, word: &str) -> bool
+pub fn is_known_word(registry: &Registry, word: &str) -> bool
     ensures { result ≡ is_known_word registry.now word.now }
 {
     is_own(word) || is_item_of_some(registry.entities(), word)

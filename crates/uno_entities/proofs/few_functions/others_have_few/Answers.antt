@@ -8,6 +8,7 @@ loop-place-preserved c = record {
   few = few_at_more (entities_of c.args.entities.now) c.args.later.now c.loop-place.place _ c.in_ok-waits_or_has_few.field-0 c.loop-place.invariant.few
       c.in_ok-waits_or_has_few.ensures.few c.if-not-branch.false;
   known = c.in_ok-waits_or_has_few.ensures.after;
+  clear = c.in_ok-waits_or_has_few.ensures.clear;
 }
 
 pub returns-then-not-branch-clause-few : goal.returns-then-not-branch-clause-few

@@ -1,0 +1,10 @@
+pub mod ComparisonLemmas
+pub mod EndingLemmas
+pub mod EvaluationLemmas
+pub mod FunctionLemmas
+pub mod GivingLemmas
+pub mod LimitLemmas
+pub mod MethodLemmas
+pub mod NameLemmas
+pub mod RaisingLemmas
+pub mod ServiceLemmas

@@ -1,0 +1,17 @@
+-- Roots in progress as plain trees.
+use Rattle.std.specs.Prelude.{map}
+use Rattle.plan_model.specs.Roots.{Run}
+use Rattle.plan_types.specs.Frames.{variables_of}
+use Rattle.uno_values.specs.Values.{plain_of}
+use Rattle.behaviour.specs.declared.root.RootRun.{RootRun}
+
+abbrev pub run_of : RootRun → Run
+run_of r =
+    record {
+      root = r.root;
+      place = r.place;
+      variables = variables_of r.variables.items;
+      lines = r.lines.items;
+      instance = r.instance;
+      loose = map plain_of r.loose.items;
+    }

@@ -1,0 +1,44 @@
+-- A frame that runs, as the definitions see it.
+use Rattle.std.specs.Borrow.{Bor}
+use Rattle.std.specs.Prelude.{Option, None, Some, Result, Ok, Err, option_map}
+use Rattle.plan_model.specs.Asking as asking
+use Rattle.plan_model.specs.Evaluation as evaluation
+use Rattle.plan_model.specs.declared.runtime_cause.RuntimeCause.{RuntimeCause}
+use Rattle.plan_model.specs.Plans as plan
+use Rattle.plan_types.specs.Frames.{variables_of}
+use Rattle.plan_types.specs.Plans.{method_of}
+use Rattle.plan_types.specs.declared.plan.Method.{Method}
+use Rattle.type_registry.specs.Functions.{lent_function}
+use Rattle.uno_model.specs.Values.{own, Plain, void}
+use Rattle.uno_values.specs.Values.{plain_of}
+use Rattle.uno_values.specs.declared.value.Value.{Value}
+use Rattle.behaviour.specs.declared.running.Scene.{Scene}
+use Rattle.behaviour.specs.declared.running.Running.{Running}
+
+abbrev pub scene_of : Scene → evaluation.Scene
+scene_of s = record { variables = variables_of s.variables.now; fields = variables_of s.fields.now; own = own s.own.now s.face.now }
+
+abbrev pub running_of : Running → asking.Running
+running_of r =
+    record {
+      tid = r.tid.now;
+      face = r.face.now;
+      number = r.number;
+      function = lent_function r.function;
+      depth = r.depth;
+      scene = scene_of r.scene;
+    }
+
+-- a value that is lent; one that is not there is as one of type void
+abbrev pub value_or_void : Option (Bor Value) → Plain
+value_or_void None = void
+value_or_void (Some x) = plain_of x.now
+
+-- a value, or why there is none
+abbrev pub outcome_of : Result Value RuntimeCause → Result Plain RuntimeCause
+outcome_of (Ok x) = Ok (plain_of x)
+outcome_of (Err cause) = Err cause
+
+-- a method that is lent
+abbrev pub method_there : Option (Bor Method) → Option plan.Method
+method_there = option_map (λ m. method_of m.now)

@@ -1,0 +1,26 @@
+//! What a statement of a plan asks: the effect of a job, which another one carries out.
+#![tactic(auto)]
+
+mod calling;
+mod comparison;
+mod effect;
+mod ending;
+mod evaluation;
+mod exceptions;
+mod functions;
+mod jobs;
+mod limits;
+mod manager;
+mod names;
+mod offered;
+mod operation;
+mod root;
+mod running;
+mod statements;
+mod target;
+mod threads;
+mod words;
+
+pub use effect::{Done, Effect};
+pub use jobs::next;
+pub use root::RootRun;

@@ -1,0 +1,13 @@
+pub mod Different
+pub mod FindLemmas
+pub mod FunctionLemmas
+pub mod IndexLemmas
+pub mod ParamLemmas
+pub mod ReadLemmas
+pub mod StatementLemmas
+pub mod StepLemmas
+pub mod TermLoops
+pub mod TextLemmas
+pub mod Truths
+pub mod TypedLemmas
+pub mod VerdictLemmas

@@ -1,0 +1,97 @@
+-- Parameters, and what is given for them, one after the other.
+use Rattle.std.proofs.Common.{◌≡◌, ℕ, ◌<◌, ◌≤◌, ◌+◌, ◌==◌, Bool, true, false, List, [], ◌∷◌, ◌++◌, length, map, drop, get_or, refl, sym, ap, ◌∙◌, arith, Option, None, Some}
+use Rattle.std.specs.Option.{option_map}
+use Rattle.std.proofs.lemmas.List.{drop_more, drop_all, append_assoc, append-nil, map-append}
+use Rattle.plan_model.specs.Contexts.{Context, Scoped, parameters}
+use Rattle.plan_model.specs.Evaluation.{both_values}
+use Rattle.plan_model.specs.Expressions as e
+use Rattle.plan_model.specs.Typing.{argument_of, arguments_of}
+use Rattle.uno_entities.specs.Entities.{param_of}
+use Rattle.uno_entities.specs.declared.entity.Param.{Param}
+use Rattle.uno_model.specs.Entities as plain
+use Rattle.plan_model.specs.Lines as line
+use Rattle.plan_lines.specs.Terms.{term_of}
+use Rattle.plan_lines.specs.declared.term.Term.{Term}
+use Rattle.plan_types.specs.Expressions as rust
+use Rattle.plan_types.specs.declared.expression.Argument as given
+use Rattle.behaviour_text.specs.Typed.{told_list}
+
+-- parameters from a place on
+params_at : (ps : List Param) (i : ℕ) (p : Param) → i < length ps → p ≡ get_or ps i p → map param_of (drop i ps) ≡ param_of p ∷ map param_of (drop (i + 1) ps)
+params_at ps i p within is = ap (map param_of) (drop_more ps i p within) ∙ ap (λ q. param_of q ∷ map param_of (drop (i + 1) ps)) (sym is)
+
+-- ---- as variables
+
+first_parameter : (p : plain.Param) (ps : List plain.Param) → parameters (p ∷ ps) ≡ parameters (p ∷ []) ++ parameters ps
+unfolding parameters
+first_parameter p ps = refl
+
+no_parameters : parameters [] ≡ []
+unfolding parameters
+no_parameters = refl
+
+pub param_next : (ps : List Param) (i : ℕ) (p : Param) (old new : List Scoped) (x : Scoped) (target : List Scoped) → i < length ps → p ≡ get_or ps i p
+    → x ∷ [] ≡ parameters (param_of p ∷ []) → new ≡ old ++ x ∷ [] → old ++ parameters (map param_of (drop i ps)) ≡ target → new ++ parameters (map param_of (drop (i + 1) ps)) ≡ target
+param_next ps i p old new x target within is one pushed so_far =
+    ap (λ xs. xs ++ parameters (map param_of (drop (i + 1) ps))) (pushed ∙ ap (λ y. old ++ y) one)
+    ∙ append_assoc old (parameters (param_of p ∷ [])) (parameters (map param_of (drop (i + 1) ps)))
+    ∙ ap (λ y. old ++ y) (sym (first_parameter (param_of p) (map param_of (drop (i + 1) ps))) ∙ ap parameters (sym (params_at ps i p within is)))
+    ∙ so_far
+
+pub param_end : (ps : List Param) (i : ℕ) (old target : List Scoped) → length ps ≤ i → old ++ parameters (map param_of (drop i ps)) ≡ target → old ≡ target
+param_end ps i old target past so_far =
+    sym (append-nil old) ∙ ap (λ y. old ++ y) (sym (ap (λ qs. parameters (map param_of qs)) (drop_all i ps past) ∙ no_parameters)) ∙ so_far
+
+-- ---- arguments
+
+abbrev pub prepend : List e.Argument → Option (List e.Argument) → Option (List e.Argument)
+prepend xs others = option_map (λ rest. xs ++ rest) others
+
+abbrev views : List given.Argument → List e.Argument
+views xs = map rust.argument_of xs
+
+one_more : (xs ys : List e.Argument) (x : e.Argument) (found : Option e.Argument) (others : Option (List e.Argument)) → found ≡ Some x → ys ≡ xs ++ x ∷ []
+    → prepend ys others ≡ prepend xs (both_values found others (λ a rest. Some (a ∷ rest)))
+one_more xs ys x found None is pushed = rw is refl
+one_more xs ys x found (Some rest) is pushed = rw is (ap Some (ap (λ zs. zs ++ rest) pushed ∙ append_assoc xs (x ∷ []) rest))
+
+module _ (reg : List plain.Entity) (c : Context) where
+  more_of : (p : plain.Param) (ps : List plain.Param) (t : line.Term) (ts : List line.Term) → arguments_of reg c (p ∷ ps) (t ∷ ts) ≡ both_values (argument_of reg c p t) (arguments_of reg c ps ts) (λ a rest. Some (a ∷ rest))
+  unfolding arguments_of
+  more_of p ps t ts = refl
+
+  none_of : (p : plain.Param) (ps : List plain.Param) → arguments_of reg c (p ∷ ps) [] ≡ None
+  unfolding arguments_of
+  none_of p ps = refl
+
+  done_of : (ts : List Term) (xs : List e.Argument) (is : Bool) → is ≡ (length ts == 0) → told_list is xs ≡ prepend xs (arguments_of reg c [] (map term_of ts))
+  unfolding arguments_of
+  done_of [] xs is e = rw e (ap Some (sym (append-nil xs)))
+  done_of (t ∷ ts) xs is e = let some : (length (t ∷ ts) == 0) ≡ false = grind arith in rw (e, some) refl
+
+  module _ (ps : List Param) (i : ℕ) (rest : List Term) (target : Option (List e.Argument)) where
+    pub argument_lacks : (p : Param) (xs : List e.Argument) → i < length ps → p ≡ get_or ps i p → rest ≡ []
+        → prepend xs (arguments_of reg c (map param_of (drop i ps)) (map term_of rest)) ≡ target → None ≡ target
+    argument_lacks p xs within is lacks so_far = sym (rw (params_at ps i p within is, lacks, none_of (param_of p) (map param_of (drop (i + 1) ps))) refl) ∙ so_far
+
+    pub argument_stops : (p : Param) (t : Term) (behind : List Term) (found : Option given.Argument) (xs : List e.Argument) → i < length ps → p ≡ get_or ps i p → rest ≡ t ∷ behind
+        → option_map rust.argument_of found ≡ argument_of reg c (param_of p) (term_of t) → found ≡ None
+        → prepend xs (arguments_of reg c (map param_of (drop i ps)) (map term_of rest)) ≡ target → None ≡ target
+    argument_stops p t behind found xs within is cut fits lacks so_far =
+        let lost : argument_of reg c (param_of p) (term_of t) ≡ None = sym fits ∙ ap (option_map rust.argument_of) lacks in
+        sym (rw (params_at ps i p within is, cut, more_of (param_of p) (map param_of (drop (i + 1) ps)) (term_of t) (map term_of behind), lost) refl) ∙ so_far
+
+    pub argument_goes : (p : Param) (t : Term) (behind : List Term) (found : Option given.Argument) (a : given.Argument) (xs ys : List given.Argument) → i < length ps → p ≡ get_or ps i p
+        → rest ≡ t ∷ behind → option_map rust.argument_of found ≡ argument_of reg c (param_of p) (term_of t) → found ≡ Some a → ys ≡ xs ++ a ∷ []
+        → prepend (views xs) (arguments_of reg c (map param_of (drop i ps)) (map term_of rest)) ≡ target
+        → prepend (views ys) (arguments_of reg c (map param_of (drop (i + 1) ps)) (map term_of behind)) ≡ target
+    argument_goes p t behind found a xs ys within is cut fits some pushed so_far =
+        let one : argument_of reg c (param_of p) (term_of t) ≡ Some (rust.argument_of a) = sym fits ∙ ap (option_map rust.argument_of) some in
+        one_more (views xs) (views ys) (rust.argument_of a) (argument_of reg c (param_of p) (term_of t)) (arguments_of reg c (map param_of (drop (i + 1) ps)) (map term_of behind)) one
+        (ap views pushed ∙ map-append rust.argument_of xs (a ∷ []))
+        ∙ ap (prepend (views xs)) (sym (more_of (param_of p) (map param_of (drop (i + 1) ps)) (term_of t) (map term_of behind)))
+        ∙ (rw (params_at ps i p within is, cut) at so_far)
+
+    pub argument_ends : (xs : List e.Argument) (is : Bool) → length ps ≤ i → is ≡ (length rest == 0)
+        → prepend xs (arguments_of reg c (map param_of (drop i ps)) (map term_of rest)) ≡ target → told_list is xs ≡ target
+    argument_ends xs is past e so_far = done_of rest xs is e ∙ (rw (drop_all i ps past) at so_far)

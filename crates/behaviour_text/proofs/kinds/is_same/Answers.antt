@@ -1,0 +1,9 @@
+use Rattle.std.proofs.Common.{sym, ap, ◌∙◌}
+use Rattle.uno_entities.specs.TypeNames.{kind_of}
+use Rattle.uno_model.specs.Codes.{same_kind}
+use Rattle.behaviour_text.specs.Lent.{lent_kind}
+use Rattle.behaviour_text.proofs.Truths.{kind_told}
+use Rattle.behaviour_text.proofs.kinds.is_same.Goals as goal
+
+pub returns-in-Interface : goal.returns-in-Interface
+returns-in-Interface c = kind_told _ _ _ c.is_interface.ensures ∙ ap (λ f. same_kind (kind_of c.args.wanted.now) (lent_kind f)) (sym c.in-Interface.is)

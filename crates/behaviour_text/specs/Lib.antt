@@ -1,0 +1,9 @@
+pub mod Constructors
+pub mod Contexts
+pub mod Indexes
+pub mod Lent
+pub mod LentBehaviours
+pub mod Reading
+pub mod Steps
+pub mod Typed
+pub mod Variables

@@ -1,0 +1,187 @@
+//! The plan that a text says.
+ghost use Rattle.std.specs.Prelude.{◌≡◌, ℕ, suc, ◌+◌, ◌<◌, ◌≤◌, ◌^◌, length, List, ◌∷◌, Ok, Err, IfOk, IfErr, OnOk, IsTrue, None, true, false};
+ghost use Rattle.plan_model.specs.Contexts.{opening};
+ghost use Rattle.plan_model.specs.Building.{behind};
+ghost use Rattle.plan_model.specs.Forms.{is_line};
+ghost use Rattle.plan_model.specs.Keeps.{at_end, reason_of, Wrong};
+ghost use Rattle.plan_lines.specs.Lines.{line_of};
+ghost use Rattle.plan_model.specs.PlanText.{Numbered, said_from, lines_of, lines_behind, begins_plan};
+ghost use Rattle.plan_model.specs.declared.line_reason.LineReason.{LineReason};
+ghost use Rattle.uno_model.specs.Sound.{IsSound};
+ghost use Rattle.plan_reading_model.specs.TextReading.{verdict, verdict_by, comes};
+ghost use Rattle.plan_types.specs.Plans.{plan_of};
+ghost use Rattle.behaviour_text.specs.Contexts.{context_of};
+ghost use Rattle.behaviour_text.specs.Reading.{Reads, Stops, StopsAt};
+
+mod text;
+
+use crate::PlanError;
+use crate::context::{Block, Context};
+use crate::scope::Scope;
+use crate::step::step;
+use plan_lines::{Line, Words, read_line};
+use plan_types::{LineReason, Plan};
+use std::alloc::Global;
+use text::{begins_plan, behind_blanks, is_skipped, next_line, split_line};
+use uno_types::Registry;
+
+/// How many bytes a plan may have.
+const MOST_BYTES: usize = 4194304;
+
+/// The plan that a text says, or the first line of it that is wrong.
+#[tactic(auto, unfolding(plan_reading_model::specs::TextReading::verdict, plan_model::specs::Keeps::is_too_large))]
+pub fn read_plan(alloc: Global, registry: &Registry, bytes: &[u8]) -> Result<Plan, PlanError>
+    requires { IsSound registry.now }
+    ensures found { IfOk result (λ p. verdict registry.now bytes.now ≡ Ok (plan_of p)) }
+    ensures wrong { (n : ℕ) (why : LineReason) → result ≡ Err (PlanError.BadLine n why) → verdict registry.now bytes.now ≡ Err (record { line = n; reason = why }) }
+{
+    read_text(alloc, registry, bytes)
+}
+
+#[tactic(auto, unfolding(plan_reading_model::specs::TextReading::verdict, plan_model::specs::Keeps::is_too_large))]
+fn read_text(alloc: Global, registry: &Registry, bytes: &[u8]) -> Result<Plan, PlanError>
+    requires { IsSound registry.now }
+    ensures { Reads result (verdict registry.now bytes.now) }
+{
+    if bytes.len() > MOST_BYTES {
+        return Err(PlanError::BadLine(0, LineReason::Limit));
+    }
+    let (first, rest) = split_line(bytes);
+    if !begins_plan(first) {
+        return Err(PlanError::BadLine(1, LineReason::Form));
+    }
+    read_lines(alloc, registry, rest)
+}
+
+/// What comes of the lines behind the first one.
+fn read_lines(alloc: Global, registry: &Registry, bytes: &[u8]) -> Result<Plan, PlanError>
+    requires sound { IsSound registry.now }
+    requires within { length bytes.now ≤ 4194304 }
+    ensures { Reads result (comes registry.now (1 + length (lines_of bytes.now)) opening (said_from 2 (lines_of bytes.now))) }
+{
+    let words = Words::new(alloc, registry)?;
+    let mut context = opening(alloc);
+    let mut rest = bytes;
+    let mut number: u32 = 1;
+    while let Some((line, behind)) = next_line(rest) {
+        number += 1;
+        read_said(alloc, registry, &words, &mut context, number, line)?;
+        rest = behind;
+    }
+    at_end(number, context)
+}
+
+/// The context in which nothing is read.
+fn opening(alloc: Global) -> Context
+    ensures { context_of result ≡ opening }
+{
+    Context {
+        plan: Plan {
+            behaviours: Vec::new(alloc),
+            exports: Vec::new(alloc),
+            services: Vec::new(alloc),
+            singletons: Vec::new(alloc),
+            threads: Vec::new(alloc),
+        },
+        block: Block::Top,
+        variables: Scope::new(alloc),
+    }
+}
+
+/// The plan, where no block is open behind the last line.
+fn at_end(last: u32, context: Context) -> Result<Plan, PlanError>
+    ensures { Reads result (at_end last (context_of context)) }
+{
+    let Context {
+        plan,
+        block,
+        variables,
+    } = context;
+    drop(variables);
+    match block {
+        Block::Top => Ok(plan),
+        other => {
+            drop(other);
+            drop(plan);
+            Err(PlanError::BadLine(last, LineReason::Open))
+        }
+    }
+}
+
+/// Reads a line, unless it says nothing.
+fn read_said(
+    alloc: Global,
+    registry: &Registry,
+    words: &Words<'_>,
+    context: &mut Context,
+    number: u32,
+    line: &[u8],
+) -> Result<(), PlanError>
+    requires sound { IsSound registry.now }
+    requires same { words.now ≡ registry.now }
+    ensures on { OnOk result ((last : ℕ) (ls : List (List ℕ)) → comes registry.now last (context_of context.old) (said_from number (line.now ∷ ls)) ≡ comes registry.now last (context_of context.new) (said_from (suc number) ls)) }
+    ensures wrong { IfErr result (λ e. (last : ℕ) (ls : List (List ℕ)) → Stops e (comes registry.now last (context_of context.old) (said_from number (line.now ∷ ls)))) }
+{
+    let text = behind_blanks(line);
+    if is_skipped(text) {
+        return Ok(());
+    }
+    match read_text_line(alloc, registry, words, context, number, text) {
+        Ok(()) => Ok(()),
+        Err(error) => Err(error),
+    }
+}
+
+/// Reads a line that says something.
+fn read_text_line(
+    alloc: Global,
+    registry: &Registry,
+    words: &Words<'_>,
+    context: &mut Context,
+    number: u32,
+    text: &[u8],
+) -> Result<(), PlanError>
+    requires sound { IsSound registry.now }
+    requires same { words.now ≡ registry.now }
+    ensures on { OnOk result ((last : ℕ) (ns : List Numbered) → comes registry.now last (context_of context.old) (record { number = number; text = text.now } ∷ ns) ≡ comes registry.now last (context_of context.new) ns) }
+    ensures wrong { IfErr result (λ e. (last : ℕ) (ns : List Numbered) → Stops e (comes registry.now last (context_of context.old) (record { number = number; text = text.now } ∷ ns))) }
+{
+    let found = read_line(alloc, words, text)?;
+    let Some(line) = found else {
+        return Err(PlanError::BadLine(number, LineReason::Form));
+    };
+    match read_one(alloc, registry, context, number, line) {
+        Ok(()) => Ok(()),
+        Err(error) => Err(error),
+    }
+}
+
+/// Goes on behind a line.
+fn read_one(
+    alloc: Global,
+    registry: &Registry,
+    context: &mut Context,
+    number: u32,
+    line: Line,
+) -> Result<(), PlanError>
+    requires sound { IsSound registry.now }
+    requires formed { IsTrue (is_line registry.now (line_of line)) }
+    ensures right { OnOk result (reason_of registry.now (context_of context.old) (line_of line) ≡ None) }
+    ensures behind { OnOk result (context_of context.new ≡ behind registry.now (line_of line) (context_of context.old)) }
+    ensures wrong { IfErr result (λ e. StopsAt number e (reason_of registry.now (context_of context.old) (line_of line))) }
+{
+    match step(alloc, registry, context, &line) {
+        Ok(None) => {
+            drop(line);
+            Ok(())
+        }
+        Ok(Some(why)) => {
+            drop(line);
+            Err(PlanError::BadLine(number, why))
+        }
+        Err(error) => {
+            drop(line);
+            Err(PlanError::from(error))
+        }
+    }
+}

@@ -1,0 +1,4 @@
+pub mod HomeLemmas
+pub mod NameLemmas
+pub mod PositionLemmas
+pub mod SupportLemmas

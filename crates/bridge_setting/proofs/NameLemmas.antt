@@ -1,0 +1,52 @@
+-- The names of roots, by their numbers.
+use Rattle.std.proofs.Common.{◌≡◌, ◌≢◌, ℕ, zero, suc, ◌+◌, ◌-◌, List, [], ◌∷◌, ◌++◌, length, refl, sym, ap, ◌∙◌, arith, slice_get, Option, None, Some}
+use Rattle.std.proofs.lemmas.List.{length-append}
+use Rattle.std.specs.Option.{IfSome, option_map}
+use Rattle.std.specs.Borrow.{Bor}
+use Rattle.bridge_setting.specs.Naming.{name_of, AreNames}
+use Rattle.uno_entities.specs.declared.tid.Tid.{Tid}
+
+nothing_at : {A : Type 0} (i : ℕ) (x : A) → slice_get [] i ≡ Some x → ⊥
+nothing_at i x found = cc
+
+first_is : {A : Type 0} (a x : A) (xs : List A) → slice_get (a ∷ xs) 0 ≡ Some x → a ≡ x
+first_is a x xs found = cc
+
+name_at : (tag : List ℕ) (n : ℕ) (xs : List (List ℕ)) (i : ℕ) (x : List ℕ) → AreNames tag n xs → slice_get xs i ≡ Some x → x ≡ name_of tag (i + n)
+unfolding AreNames
+name_at tag n [] i x names found = absurd (nothing_at i x found)
+name_at tag n (y ∷ xs) zero x names found =
+    let same : n ≡ zero + n = omega arith in
+    sym (first_is y x xs found) ∙ names.0 ∙ ap (λ m. name_of tag m) same
+name_at tag n (y ∷ xs) (suc i) x names found =
+    let next : i + suc n ≡ suc i + n = omega arith in
+    name_at tag (suc n) xs i x names.1 found ∙ ap (λ m. name_of tag m) next
+
+-- the name of a root
+pub root_named : (tag : List ℕ) (xs : List (List ℕ)) (root : ℕ) (o : Option (Bor Tid)) → AreNames tag 1 xs → (root ≡ 0 → ⊥)
+    → option_map (λ t. t.now) o ≡ slice_get xs (root - 1) → IfSome o (λ t. t.now ≡ name_of tag root)
+root_named tag xs root None names some same = tt
+root_named tag xs root (Some t) names some same =
+    let is : (root - 1) + 1 ≡ root = omega (arith, some) in
+    name_at tag 1 xs (root - 1) t.now names (sym same) ∙ ap (λ m. name_of tag m) is
+
+-- names with the next one behind them
+pub one_more_named : (tag : List ℕ) (n : ℕ) (xs : List (List ℕ)) (x : List ℕ) → AreNames tag n xs → x ≡ name_of tag (length xs + n) → AreNames tag n (xs ++ x ∷ [])
+unfolding AreNames
+one_more_named tag n [] x names is =
+    let same : 0 + n ≡ n = omega arith in
+    (is ∙ ap (λ m. name_of tag m) same , tt)
+one_more_named tag n (y ∷ xs) x names is =
+    let next : suc (length xs) + n ≡ length xs + suc n = omega arith in
+    (names.0 , one_more_named tag (suc n) xs x names.1 (is ∙ ap (λ m. name_of tag m) next))
+
+-- the names so far, and one more
+pub also_named : (tag : List ℕ) (xs ys : List (List ℕ)) (x : List ℕ) (i : ℕ) → AreNames tag 1 xs → length xs ≡ i → x ≡ name_of tag (i + 1) → ys ≡ xs ++ x ∷ []
+    → AreNames tag 1 ys × (length ys ≡ i + 1)
+also_named tag xs ys x i names count is all =
+    let more : length (xs ++ x ∷ []) ≡ i + 1 = length-append xs (x ∷ []) ∙ ap (λ m. m + 1) count in
+    rw (all) (one_more_named tag 1 xs x names (is ∙ ap (λ m. name_of tag (m + 1)) (sym count)) , more)
+
+pub none_named : (tag : List ℕ) (xs : List (List ℕ)) → xs ≡ [] → AreNames tag 1 xs × (length xs ≡ 0)
+unfolding AreNames
+none_named tag xs none = rw (none) (tt , refl)

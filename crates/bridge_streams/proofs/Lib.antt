@@ -1,0 +1,6 @@
+mod CuttingLemmas
+mod DrainingLemmas
+mod HeaderLemmas
+mod QueueLemmas
+mod TakingLemmas
+mod WaitingLemmas

@@ -1,0 +1,4 @@
+pub mod Draining
+pub mod Taking
+pub mod Queues
+pub mod Spoken

@@ -1,0 +1,4 @@
+pub mod BirthLaws
+pub mod EntryLaws
+pub mod PlaceLaws
+pub mod StackLaws

@@ -1,0 +1,4 @@
+pub mod Births
+pub mod Rows
+pub mod ValueCodes
+pub mod WaitingCalls

@@ -1,0 +1,14 @@
+-- Calls that wait for the peer, and that no two stacks are of one thread.
+use Rattle.std.specs.Prelude.{◌≡◌, false, List, [], ◌∷◌}
+use Rattle.std.specs.List.{list_any}
+use Rattle.message_model.specs.Calls.{Waiting}
+use Rattle.plan_model.specs.Frames.{Outgoing, Stack, is_of}
+
+-- what was called
+abbrev pub call_of : Outgoing → Waiting
+call_of o = record { face = o.face; function = o.function }
+
+-- behind a stack none has its TID
+abbrev pub HaveOwnTids : List Stack → Type 0
+HaveOwnTids [] = Unit
+HaveOwnTids (s ∷ ss) = (list_any (is_of s.tid) ss ≡ false) × HaveOwnTids ss

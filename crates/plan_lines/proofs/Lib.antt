@@ -1,0 +1,7 @@
+pub mod ClassLemmas
+pub mod LeafLemmas
+pub mod NameLemmas
+pub mod PathLemmas
+pub mod RunLemmas
+pub mod TermLemmas
+pub mod WordLemmas

@@ -1,0 +1,10 @@
+pub mod Classes
+pub mod Fronts
+pub mod Index
+pub mod Inside
+pub mod Lines
+pub mod Reads
+pub mod Runs
+pub mod Statements
+pub mod Terms
+pub mod Views

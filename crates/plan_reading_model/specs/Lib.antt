@@ -1,0 +1,4 @@
+pub mod LineReading
+pub mod Parts
+pub mod TermReading
+pub mod TextReading

@@ -1,0 +1,9 @@
+//! The tests of what plans run in, over public calls alone: the effects of statements, the stacks of frames, and the service manager.
+#![tactic(auto)]
+
+#[cfg(test)]
+mod effects;
+#[cfg(test)]
+mod services;
+#[cfg(test)]
+mod stacks;

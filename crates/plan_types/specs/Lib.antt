@@ -1,0 +1,4 @@
+pub mod Expressions
+pub mod Frames
+pub mod Plans
+pub mod Statements

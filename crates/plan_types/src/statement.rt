@@ -1,0 +1,77 @@
+//! Statements of methods and of roots: a variant for each form in which they are written.
+
+use crate::{Argument, Expression, Word};
+use plan_model::Comparison;
+use uno_types::{Field, Name, Text};
+
+/// A function by the interface that declares it and its name.
+#[derive(Debug, Drop)]
+pub struct Callee {
+    pub owner: Name,
+    pub name: Name,
+}
+
+/// A call: the object, the function, an argument for each parameter in order, and the variable that the result becomes, where it is named.
+#[derive(Debug, Drop)]
+pub struct Call {
+    pub target: Word,
+    pub callee: Callee,
+    pub arguments: Vec<Argument>,
+    pub to: Option<Field>,
+}
+
+/// A query: the object, the interface that is asked, and the variable that the answer becomes.
+#[derive(Debug, Drop)]
+pub struct Query {
+    pub target: Word,
+    pub wanted: Name,
+    pub to: Name,
+}
+
+/// A new object: the number of its behaviour, the interface under which it is held, and the variable that it becomes.
+#[derive(Debug, Drop)]
+pub struct Making {
+    pub behaviour: u32,
+    pub face: Name,
+    pub to: Name,
+}
+
+/// A test: what a word stands for against an expression.
+#[derive(Debug, Drop)]
+pub struct Test {
+    pub left: Word,
+    pub comparison: Comparison,
+    pub right: Expression,
+}
+
+/// A statement of a method; what is returned is left out where the result is void.
+#[derive(Debug, Drop)]
+pub enum Statement {
+    Let(Field, Expression),
+    SetVariable(Name, Expression),
+    SetField(Name, Expression),
+    Call(Call),
+    Query(Query),
+    Make(Making),
+    Drop(Name),
+    When(Test, Option<Expression>),
+    Return(Option<Expression>),
+    /// The name of an exception, and its value.
+    Raise(Name, Expression),
+    Dispose,
+}
+
+/// A statement of a root.
+#[derive(Debug, Drop)]
+pub enum RootStatement {
+    /// Asks the peer for the object of an exported name, which becomes a variable of the wanted interface.
+    Ask { to: Name, wanted: Name, name: Text },
+    /// The same for the name that the session is about.
+    AskInstance { to: Name, wanted: Name },
+    Call(Call),
+    Query(Query),
+    Make(Making),
+    Drop(Name),
+    Same(Name, Name),
+    Dispose,
+}

@@ -1,0 +1,4 @@
+pub mod AnswerLaws
+pub mod ArgumentLaws
+pub mod NameLaws
+pub mod SingletonLaws
