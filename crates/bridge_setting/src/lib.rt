@@ -5,6 +5,7 @@ mod home;
 mod names;
 mod setting;
 mod supporting;
+mod threads;
 
 pub use home::{home_answer, home_each, told};
 pub use names::Names;

@@ -1,5 +1,6 @@
 //! Names that an end gives: its tag, `;`, and a number.
-ghost use Rattle.std.specs.Prelude.{◌≡◌, ◌++◌, IfOk, IfSome, OnOk, length, take, string_bytes, codes, slice_get, option_map};
+ghost use Rattle.std.specs.Prelude.{◌≡◌, ◌++◌, IfOk, IfSome, OnOk, not, nat_lt, ◌&&◌, length, take, string_bytes, codes, slice_get, option_map};
+ghost use Rattle.std.specs.Option.{is_some};
 ghost use Rattle.std.specs.Str.{bytes_eq};
 ghost use Rattle.bridge_setting.specs.Naming.{name_of, AreNames};
 
@@ -59,7 +60,8 @@ impl Names {
 
     /// The thread of a root, which are numbered from 1.
     pub fn root(&self, root: u32) -> Option<&Tid>
-        ensures { IfSome result (λ tid. tid.now ≡ name_of self.now.tag root) }
+        ensures name { IfSome result (λ tid. tid.now ≡ name_of self.now.tag root) }
+        ensures there { is_some result ≡ (nat_lt 0 root && not (nat_lt self.now.roots root)) }
     {
         if root == 0 {
             return None;

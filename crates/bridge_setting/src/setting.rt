@@ -1,5 +1,6 @@
 //! What an end of a bridge is set up with.
-ghost use Rattle.std.specs.Prelude.{◌≡◌, IfOk, IfSome};
+ghost use Rattle.std.specs.Option.{is_some};
+ghost use Rattle.std.specs.Prelude.{◌≡◌, ◌&&◌, IfOk, IfSome, length, nat_lt, not};
 ghost use Rattle.bridge_model.specs.Settings.{own_oid, root_tid, release_tid, is_own};
 ghost use Rattle.bridge_setting.specs.Settings.{setting_of};
 ghost use Rattle.plan_types.specs.Plans.{plan_of};
@@ -25,7 +26,8 @@ impl Setting {
         plan: Plan,
         tag: Tag,
     ) -> Result<Setting, NoMemory>
-        ensures { IfOk result (λ s. setting_of s ≡ record { tag = tag; registry = registry; plan = plan_of plan }) }
+        ensures setting { IfOk result (λ s. setting_of s ≡ record { tag = tag; registry = registry; plan = plan_of plan }) }
+        ensures roots { IfOk result (λ s. s.names.roots ≡ length (plan_of plan).threads) }
     {
         let roots = plan.threads.len();
         match Names::new(alloc, tag, roots) {
@@ -53,7 +55,8 @@ impl Setting {
     /// The thread of a root of the plan; roots are numbered from 1.
     #[tactic(auto, unfolding(bridge_model::specs::Settings::root_tid))]
     pub fn root_tid(&self, root: u32) -> Option<&Tid>
-        ensures { IfSome result (λ tid. tid.now ≡ root_tid (setting_of self.now) root) }
+        ensures name { IfSome result (λ tid. tid.now ≡ root_tid (setting_of self.now) root) }
+        ensures there { is_some result ≡ (nat_lt 0 root && not (nat_lt self.now.names.roots root)) }
     {
         self.names.root(root)
     }

@@ -106,6 +106,13 @@ impl Incoming {
         self.listener = None;
     }
 
+    /// How many bytes stand before the open block.
+    pub fn place(&self) -> u64
+        ensures { result ≡ self.now.place }
+    {
+        self.blocks.place()
+    }
+
     /// How many bytes were taken.
     pub fn fed(&self) -> u64
         ensures { result ≡ fed_count self.now }

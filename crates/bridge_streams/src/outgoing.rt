@@ -67,6 +67,7 @@ impl Outgoing {
         ensures drained { IfOk result (λ bytes. Drained registry.now (length bytes.items) self.old unsaid.old self.new unsaid.new) }
         ensures forgotten { OnErr result (self.new ≡ nothing_goes) }
         ensures unsaid { OnErr result (unsaid.new ≡ nothing_unsaid unsaid.old.tid) }
+        ensures rest { AreSayable registry.now unsaid.new.said }
     {
         match self.next_bytes(registry, unsaid, max as usize) {
             Ok(bytes) => Ok(bytes),
@@ -105,6 +106,7 @@ impl Outgoing {
         ensures bytes { IfOk result (λ bytes. bytes.items ≡ take most (waiting_bytes registry.now unsaid.old.said self.old)) }
         ensures drained { IfOk result (λ bytes. Drained registry.now (length bytes.items) self.old unsaid.old self.new unsaid.new) }
         ensures tid { unsaid.new.tid ≡ unsaid.old.tid }
+        ensures rest { AreSayable registry.now unsaid.new.said }
     {
         self.spell_for(registry, unsaid, most)?;
         let bytes = self.ready.take(most.min(self.ready.len()))?;
@@ -123,6 +125,7 @@ impl Outgoing {
         ensures outgoing { OnOk result (self.new ≡ (spells_for registry.now wanted unsaid.old.said self.old).outgoing) }
         ensures unsaid { OnOk result (unsaid.new ≡ with_said (spells_for registry.now wanted unsaid.old.said self.old).unsaid unsaid.old) }
         ensures tid { unsaid.new.tid ≡ unsaid.old.tid }
+        ensures rest { AreSayable registry.now unsaid.new.said }
     {
         while self.ready.len() < wanted {
             let Some(message) = unsaid.first() else {

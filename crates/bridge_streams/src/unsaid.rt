@@ -96,6 +96,13 @@ impl Unsaid {
         self.said.push_back_reserved(Message::Release { tid, oid, face });
     }
 
+    /// How many releases have their room.
+    pub fn kept(&self) -> usize
+        ensures { result ≡ self.now.kept }
+    {
+        self.kept.len()
+    }
+
     /// Whether nothing is said.
     pub fn is_empty(&self) -> bool
         ensures { IsTrue result ↔ (self.now.said ≡ []) }

@@ -55,6 +55,15 @@ impl Stacks {
         }
     }
 
+    /// Drops all stacks.
+    pub fn clear(&mut self)
+        ensures { self.new ≡ [] }
+    {
+        self.births = BTreeMap::new(self.alloc);
+        self.stacks = BTreeMap::new(self.alloc);
+        self.next = 0;
+    }
+
     /// Puts a frame on the stack of a TID, and begins one where it has none.
     pub fn push(&mut self, tid: &Tid, frame: Frame) -> Result<(), NoMemory>
         ensures pushed { OnOk result (self.new ≡ pushed tid.now (frame_of frame) self.old) }

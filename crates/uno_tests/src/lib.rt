@@ -38,6 +38,8 @@ mod nesting;
 #[cfg(test)]
 mod order;
 #[cfg(test)]
+mod passing;
+#[cfg(test)]
 mod refusing;
 #[cfg(test)]
 mod runs;
