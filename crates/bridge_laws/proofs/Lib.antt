@@ -14,6 +14,7 @@ pub mod EvaluationLaws
 pub mod FrameCountLaws
 pub mod FrameGrowsLaws
 pub mod FrameLaws
+pub mod FrontLaws
 pub mod GrowsLaws
 pub mod HandingLaws
 pub mod HearingLaws

@@ -101,9 +101,9 @@ unfolding ends_by
 ends_by_lives g why s fine = record { live = fine.live; alive = end_alive g (first_count g) fine.live why s.tables fine.alive; told = stacks_none g }
 
 pub runs_out_lives : (g : Setting) (why : Option Cause) (s : Side) → LivesIn g s → LivesIn g (runs_out why s)
-unfolding runs_out
-runs_out_lives g None s fine = ends_by_lives g cause.NoMemory s fine
-runs_out_lives g (Some why) s fine = fine
+unfolding runs_out ends_by
+runs_out_lives g None s fine = let live = ends_by_lives g cause.NoMemory s fine in record { live = live.live; alive = live.alive; told = live.told }
+runs_out_lives g (Some why) s fine = record { live = fine.live; alive = fine.alive; told = fine.told }
 
 -- ---- requests
 

@@ -1,5 +1,5 @@
 -- A step of a bridge that has ended brings no message and says none.
-use Rattle.std.proofs.Common.{◌≡◌, refl, ◌∙◌, ℕ, true, false, not, List, [], ◌∷◌, length, drop, Option, None, Some}
+use Rattle.std.proofs.Common.{◌≡◌, refl, ◌∙◌, ℕ, zero, suc, true, false, not, List, [], ◌∷◌, length, drop, Option, None, Some}
 use Rattle.message_model.specs.Messages.{Message}
 use Rattle.uno_model.specs.Values.{Ref, null, own, peer}
 use Rattle.table_model.specs.declared.holder.Holder.{Holder}
@@ -59,10 +59,15 @@ unfolding runs_out
 out_ends None s is not_standing = clash (stands s) (rw is refl) not_standing
 out_ends (Some why) s is not_standing = refl
 
-out_silent : (why : Option Cause) (s : Side) → s.cause ≡ why → stands s ≡ false → (runs_out why s).tables.unsaid ≡ s.tables.unsaid
+no_more : {X : Type 0} (n : ℕ) → drop {A = X} n [] ≡ []
+no_more zero = refl
+no_more (suc n) = refl
+
+-- nothing is said where all is forgotten
+out_silent : (why : Option Cause) (s : Side) → drop (length s.tables.unsaid) (runs_out why s).tables.unsaid ≡ []
 unfolding runs_out
-out_silent None s is not_standing = clash (stands s) (rw is refl) not_standing
-out_silent (Some why) s is not_standing = refl
+out_silent None s = no_more (length s.tables.unsaid)
+out_silent (Some why) s = no_more (length s.tables.unsaid)
 
 out_stacks : (why : Option Cause) (s : Side) → s.cause ≡ why → stands s ≡ false → (runs_out why s).stacks ≡ s.stacks
 unfolding runs_out
@@ -108,5 +113,5 @@ stays_ended g no_memory s quiet is it =
       ended = out_ends s.cause s refl is;
       quiet = out_stacks s.cause s refl is ∙ quiet is;
       got = refl;
-      said = said_nothing s.tables.unsaid _ (out_silent s.cause s refl is);
+      said = out_silent s.cause s;
     }

@@ -1,11 +1,9 @@
--- What is drained is a prefix of what was said: each entry but a drain only says more, and a drain takes the next bytes that wait.
-use Rattle.std.proofs.Common.{◌≡◌, refl, sym, subst, ◌∙◌, ℕ, zero, suc, Bool, true, false, not, ◌&&◌, ◌==◌, List, [], ◌∷◌, ◌++◌, Option, None, Some, Result, Ok, Err, if◌then◌else◌}
-use Rattle.std.proofs.lemmas.Bool.{and_parts}
+-- What each entry but a drain and want of memory says stands behind what was said before, and what goes out stays as it was.
+use Rattle.std.proofs.Common.{◌≡◌, refl, ◌∙◌, ℕ, zero, suc, Bool, true, false, ◌==◌, List, [], ◌∷◌, ◌++◌, Option, None, Some, Result, Ok, Err, if◌then◌else◌}
 use Rattle.std.proofs.lemmas.List.{append_assoc}
 use Rattle.message_model.specs.Headers.{Heard}
 use Rattle.message_model.specs.Messages.{Message, request, release, reply}
 use Rattle.message_model.specs.ReadingMessages.{message_at}
-use Rattle.message_model.specs.Said.{spoken_after, spell}
 use Rattle.uno_model.specs.Entities.{Entity}
 use Rattle.uno_model.specs.BuiltIn.{x_interface_name}
 use Rattle.uno_model.specs.Values.{Ref, null, own, peer, Plain}
@@ -16,27 +14,21 @@ use Rattle.plan_model.specs.Frames.{frames_of}
 use Rattle.table_model.specs.Stubs.{Stubs}
 use Rattle.bridge_model.specs.Applying.{effect_at}
 use Rattle.bridge_model.specs.Ends.{ends_by, runs_out}
-use Rattle.bridge_model.specs.Entries.{Entry, fed, ended, failed, asked, called, queried, made, dropped, applied, took, reaped, drained, disposed, full, no_memory}
 use Rattle.bridge_model.specs.Feeding.{Hearing, Next, gets, remembers, block_ends, hears_tested, hears_read, hears, feeds_part, feeds_whole, takes_block, heard_nothing, block_stands, header_fault, count_said, holds_bytes, feeds}
-use Rattle.bridge_model.specs.Going.{waiting_bytes, drains, are_next, reaps}
-use Rattle.bridge_model.specs.Histories.{Told, nothing_told, Leads}
-use Rattle.bridge_model.specs.Objects.{lowest}
+use Rattle.bridge_model.specs.Going.{reaps}
 use Rattle.bridge_model.specs.Receiving.{refusal, receives, below_top}
 use Rattle.bridge_model.specs.References.{each_home, home_answer}
 use Rattle.bridge_model.specs.Calls.{query_args}
 use Rattle.bridge_model.specs.Roots.{answered_before, begins_call, calls_unless, root_calls, begins_query, queries_unless, root_queries, asks_unless, root_asks, root_makes, root_drops, root_takes}
 use Rattle.plan_model.specs.declared.runtime_cause.RuntimeCause.{RuntimeCause}
 use Rattle.bridge_model.specs.Settings.{Setting, root_tid, ref_of}
-use Rattle.bridge_model.specs.Sides.{Object, Outgoing, nothing_goes, Side}
+use Rattle.bridge_model.specs.Sides.{Object, Outgoing, Side}
 use Rattle.bridge_model.specs.Stacks.{waits_of}
-use Rattle.bridge_model.specs.Steps.{Picked, picked, opening, no_objects, may, applies_effect, applies_picked, reaps_some, does, is_no_memory, is_some_bytes}
+use Rattle.bridge_model.specs.Steps.{Picked, applies_effect, applies_picked, reaps_some, is_no_memory}
 use Rattle.bridge_model.specs.declared.cause.Cause.{Cause}
-use Rattle.bridge_model.specs.declared.cause.Cause.TheVariants as cause
-use Rattle.plan_model.specs.Plans.{first_objects}
 use Rattle.bridge_laws.proofs.FrameGrowsLaws.{grows_serves, grows_hands_from_peer, grows_answers_at_once, grows_applies, grows_root_calls, grows_root_queries, grows_root_asks, grows_root_makes, grows_root_drops, grows_reaps}
-use Rattle.bridge_laws.proofs.GrowsLaws.{Grown, keeps_makes_all}
-use Rattle.bridge_laws.proofs.Replays.{IsKept, along_replay}
-use Rattle.bridge_laws.proofs.SpellingLaws.{Speaks, speaks_same, IsSpelled, spelled_on, spelled_drained}
+use Rattle.bridge_laws.proofs.GrowsLaws.{Grown}
+use Rattle.bridge_laws.proofs.SpellingLaws.{Speaks, speaks_same}
 
 -- ---- sides
 
@@ -64,14 +56,15 @@ says_if false s t u p q = q
 
 -- ---- ends
 
-says_ends_by : (why : Cause) (s : Side) → SaysMore s (ends_by why s)
+pub says_ends_by : (why : Cause) (s : Side) → SaysMore s (ends_by why s)
 unfolding ends_by
 says_ends_by why s = says_same s
 
-says_runs_out : (why : Option Cause) (s : Side) → SaysMore s (runs_out why s)
+-- want of memory is the cause then
+pub out_is_cause : (why : Option Cause) (s : Side) → is_no_memory (runs_out why s).cause ≡ true
 unfolding runs_out ends_by
-says_runs_out None s = says_same s
-says_runs_out (Some why) s = says_same s
+out_is_cause None s = refl
+out_is_cause (Some why) s = refl
 
 -- ---- receiving
 
@@ -121,7 +114,7 @@ says_part g bytes None s = either (block_stands bytes)
     either true = says_hears g (count_said bytes) s.incoming.place _ _ (heard_nothing (takes_block bytes s))
     either false = says_same s
 
-says_feeds : (g : Setting) (piece : List ℕ) (s : Side) → SaysMore s (feeds g piece s).side
+pub says_feeds : (g : Setting) (piece : List ℕ) (s : Side) → SaysMore s (feeds g piece s).side
 unfolding feeds
 says_feeds g piece s = says_part g _ (header_fault _) s
 
@@ -131,11 +124,11 @@ says_effect : (g : Setting) (tid : List ℕ) (p : Picked) (e : Effect) (s : Side
 says_effect g tid p disposes s = says_ends_by _ s
 says_effect g tid p e s = of_grown s.outgoing (grows_applies g tid p.method p.below e s.tables)
 
-says_picked : (g : Setting) (tid : List ℕ) (p : Option Picked) (s : Side) → SaysMore s (applies_picked g tid p s)
+pub says_picked : (g : Setting) (tid : List ℕ) (p : Option Picked) (s : Side) → SaysMore s (applies_picked g tid p s)
 says_picked g tid None s = says_same s
 says_picked g tid (Some p) s = says_effect g tid p (effect_at g tid p.method p.below s.tables) s
 
-says_reaps : (g : Setting) (o : Option Object) (s : Side) → SaysMore s (reaps_some g o s)
+pub says_reaps : (g : Setting) (o : Option Object) (s : Side) → SaysMore s (reaps_some g o s)
 unfolding reaps
 says_reaps g None s = says_same s
 says_reaps g (Some o) s = of_grown s.outgoing (grows_reaps g o s)
@@ -152,7 +145,7 @@ calls_go : (g : Setting) (root : ℕ) (oid face : List ℕ) (function : ℕ) (ar
 calls_go g root oid face function args None s = call_goes g root (ref_of g oid face) function args s
 calls_go g root oid face function args (Some why) s = refl
 
-says_calls : (g : Setting) (root : ℕ) (oid face : List ℕ) (function : ℕ) (args : List Plain) (s : Side) → SaysMore s (root_calls g root oid face function args s)
+pub says_calls : (g : Setting) (root : ℕ) (oid face : List ℕ) (function : ℕ) (args : List Plain) (s : Side) → SaysMore s (root_calls g root oid face function args s)
 unfolding root_calls
 says_calls g root oid face function args s =
     let grown = grows_root_calls g root oid face function args s in
@@ -168,7 +161,7 @@ queries_go : (g : Setting) (root : ℕ) (oid face wanted : List ℕ) (why : Opti
 queries_go g root oid face wanted None s = query_goes g root (ref_of g oid face) wanted s
 queries_go g root oid face wanted (Some why) s = refl
 
-says_queries : (g : Setting) (root : ℕ) (oid face wanted : List ℕ) (s : Side) → SaysMore s (root_queries g root oid face wanted s)
+pub says_queries : (g : Setting) (root : ℕ) (oid face wanted : List ℕ) (s : Side) → SaysMore s (root_queries g root oid face wanted s)
 unfolding root_queries
 says_queries g root oid face wanted s =
     let grown = grows_root_queries g root oid face wanted s in
@@ -178,64 +171,20 @@ asks_go : (g : Setting) (root : ℕ) (name wanted : List ℕ) (why : Option Runt
 asks_go g root name wanted None s = refl
 asks_go g root name wanted (Some why) s = refl
 
-says_asks : (g : Setting) (root : ℕ) (name wanted : List ℕ) (s : Side) → SaysMore s (root_asks g root name wanted s)
+pub says_asks : (g : Setting) (root : ℕ) (name wanted : List ℕ) (s : Side) → SaysMore s (root_asks g root name wanted s)
 unfolding root_asks
 says_asks g root name wanted s =
     let grown = grows_root_asks g root name wanted s in
     record { new = grown.new; said = grown.said; same = asks_go g root name wanted (answered_before (root_tid g root) name x_interface_name 0 (query_args wanted)) s }
 
-says_makes : (g : Setting) (root behaviour : ℕ) (wanted : List ℕ) (s : Side) → SaysMore s (root_makes g root behaviour wanted s)
+pub says_makes : (g : Setting) (root behaviour : ℕ) (wanted : List ℕ) (s : Side) → SaysMore s (root_makes g root behaviour wanted s)
 unfolding root_makes
 says_makes g root behaviour wanted s = of_grown s.outgoing (grows_root_makes g root behaviour wanted s)
 
-says_drops : (g : Setting) (root : ℕ) (oid face : List ℕ) (s : Side) → SaysMore s (root_drops g root oid face s)
+pub says_drops : (g : Setting) (root : ℕ) (oid face : List ℕ) (s : Side) → SaysMore s (root_drops g root oid face s)
 unfolding root_drops
 says_drops g root oid face s = of_grown s.outgoing (grows_root_drops g root oid face s)
 
-says_takes : (root : ℕ) (s : Side) → SaysMore s (root_takes root s)
+pub says_takes : (root : ℕ) (s : Side) → SaysMore s (root_takes root s)
 unfolding root_takes
 says_takes root s = says_same s
-
--- ---- histories
-
--- what is told is what was drained, what waits and what was said
-abbrev pub AreSpelled : Setting → Told → Type 0
-AreSpelled g x = IsSpelled g.registry x.bytes_out x.side.tables.unsaid x.side.outgoing x.said
-
-nothing_spelled : (g : Setting) → AreSpelled g (nothing_told g)
-unfolding opening spell spoken_after
-nothing_spelled g =
-    let quiet = keeps_makes_all g (first_objects g.plan) (no_objects g.plan) in
-    subst (λ ms. IsSpelled g.registry [] ms nothing_goes []) (sym quiet.said) (record { bytes = refl; spoken = refl })
-
-spelled_kept : (g : Setting) → IsKept g (AreSpelled g)
-unfolding does may drains are_next waiting_bytes
-spelled_kept g x (fed b) fine ok = spelled_on g.registry _ _ _ _ _ _ fine (says_feeds g b x.side)
-spelled_kept g x ended fine ok = spelled_on g.registry _ _ _ _ _ _ fine (says_ends_by cause.Ended x.side)
-spelled_kept g x failed fine ok = spelled_on g.registry _ _ _ _ _ _ fine (says_ends_by cause.Failed x.side)
-spelled_kept g x (asked root name wanted) fine ok = spelled_on g.registry _ _ _ _ _ _ fine (says_asks g root name wanted x.side)
-spelled_kept g x (called root oid face function args) fine ok = spelled_on g.registry _ _ _ _ _ _ fine (says_calls g root oid face function args x.side)
-spelled_kept g x (queried root oid face wanted) fine ok = spelled_on g.registry _ _ _ _ _ _ fine (says_queries g root oid face wanted x.side)
-spelled_kept g x (made root behaviour wanted) fine ok = spelled_on g.registry _ _ _ _ _ _ fine (says_makes g root behaviour wanted x.side)
-spelled_kept g x (dropped root oid face) fine ok = spelled_on g.registry _ _ _ _ _ _ fine (says_drops g root oid face x.side)
-spelled_kept g x (applied tid) fine ok = spelled_on g.registry _ _ _ _ _ _ fine (says_picked g tid (picked tid x.side) x.side)
-spelled_kept g x (took root) fine ok = spelled_on g.registry _ _ _ _ _ _ fine (says_takes root x.side)
-spelled_kept g x (reaped object) fine ok = spelled_on g.registry _ _ _ _ _ _ fine (says_reaps g (lowest g x.side.tables) x.side)
-spelled_kept g x (drained b) fine ok =
-    let parts = and_parts (is_some_bytes b) (not (is_no_memory x.side.cause) && are_next g b x.side) ok in
-    let next = and_parts (not (is_no_memory x.side.cause)) (are_next g b x.side) parts.1 in
-    spelled_drained g.registry x.bytes_out b x.side.tables.unsaid x.side.outgoing x.said fine next.1
-spelled_kept g x disposed fine ok = spelled_on g.registry _ _ _ _ _ _ fine (says_ends_by cause.Disposed x.side)
-spelled_kept g x full fine ok = spelled_on g.registry _ _ _ _ _ _ fine (says_ends_by cause.Full x.side)
-spelled_kept g x no_memory fine ok = spelled_on g.registry _ _ _ _ _ _ fine (says_runs_out x.side.cause x.side)
-
--- over every history
-pub are_spelled : (g : Setting) (es : List Entry) (x : Told) → Leads g es x → AreSpelled g x
-are_spelled g es x leads = along_replay g (AreSpelled g) (nothing_spelled g) (spelled_kept g) es x leads
-
-pub drained_and_waiting : (g : Setting) (es : List Entry) (x : Told) → Leads g es x → x.bytes_out ++ waiting_bytes g x.side ≡ spell g.registry x.said
-unfolding waiting_bytes
-drained_and_waiting g es x leads = (are_spelled g es x leads).bytes
-
-pub drained_prefix : (g : Setting) (es : List Entry) (x : Told) → Leads g es x → (rest : List ℕ) × (spell g.registry x.said ≡ x.bytes_out ++ rest)
-drained_prefix g es x leads = (waiting_bytes g x.side, sym (drained_and_waiting g es x leads))

@@ -21,6 +21,8 @@ pub use living_laws::{constants_of_a_plan_refer_to_nothing, what_is_held_or_was_
 pub use order_laws::what_is_written_depends_on_what_is_read_alone;
 pub use paid_laws::what_came_is_held_or_released;
 pub use rooted_laws::{a_root_waits_where_its_thread_has_a_stack, a_thread_of_this_end_is_a_roots};
-pub use speaking_laws::what_is_drained_and_waits_is_what_was_said;
+pub use speaking_laws::{
+    what_is_drained_and_waits_is_what_was_said, what_is_drained_is_a_front_of_what_was_said,
+};
 pub use standing_laws::what_was_used_is_held_or_released;
 pub use step_laws::{entries_are_counted, messages_come_by_bytes_alone, what_has_ended_stays_so};
