@@ -1,0 +1,1 @@
+-- What came out, argument by argument.

@@ -1,0 +1,3 @@
+mod VariableLemmas
+mod FirstLemmas
+mod AnswerLemmas

@@ -1,0 +1,105 @@
+-- Variables by their names: what stands at the place of the first one of a name.
+use Rattle.std.proofs.Common.{◌≡◌, ℕ, zero, suc, ◌<◌, Bool, true, false, not, List, [], ◌∷◌, length, map, refl, sym, ap, ap2, ◌∙◌, arith, absurd, get_or, set, cond}
+use Rattle.std.specs.List.{filter}
+use Rattle.std.specs.Str.{bytes_eq}
+use Rattle.plan_model.specs.Evaluation.{value_under}
+use Rattle.plan_model.specs.Frames as plain
+use Rattle.plan_model.specs.Holdings.{put, without}
+use Rattle.plan_types.specs.Frames.{variable_of, variables_of}
+use Rattle.plan_types.specs.declared.frame.Variable.{Variable}
+use Rattle.uno_model.specs.Values.{Plain}
+use Rattle.uno_model.specs.Values as v
+use Rattle.uno_values.specs.Values.{plain_of}
+
+abbrev pub has_name : List ℕ → Variable → Bool
+has_name name x = bytes_eq name x.name
+
+-- the first variable of a name is at this place
+pub record IsFirst (name : List ℕ) (xs : List Variable) (i : ℕ) (d : Variable) : Type 0 where
+  pub within : i < length xs
+  pub here : has_name name (get_or xs i d) ≡ true
+  pub before : (k : ℕ) → k < i → has_name name (get_or xs k d) ≡ false
+
+abbrev pub IsNowhere : List ℕ → List Variable → Variable → Type 0
+IsNowhere name xs d = (k : ℕ) → k < length xs → has_name name (get_or xs k d) ≡ false
+
+below_none : {A : Type 0} (i : ℕ) → i < 0 → A
+below_none i below = absurd (omega (arith, below))
+
+below_rest : (i n : ℕ) → suc i < suc n → i < n
+below_rest i n below = omega (arith, below)
+
+above : (i n : ℕ) → i < n → suc i < suc n
+above i n below = omega (arith, below)
+
+first_above : (n : ℕ) → 0 < suc n
+first_above n = omega arith
+
+first_behind : (name : List ℕ) (x d : Variable) (xs : List Variable) (i : ℕ) → IsFirst name (x ∷ xs) (suc i) d → IsFirst name xs i d
+first_behind name x d xs i is =
+    record {
+      within = below_rest i (length xs) is.within;
+      here = is.here;
+      before = λ k below. is.before (suc k) (above k i below);
+    }
+
+nowhere_behind : (name : List ℕ) (x d : Variable) (xs : List Variable) → IsNowhere name (x ∷ xs) d → IsNowhere name xs d
+nowhere_behind name x d xs is = λ k below. is (suc k) (above k (length xs) below)
+
+-- ---- the value under a name
+
+pub value_here : (name : List ℕ) (xs : List Variable) (i : ℕ) (d : Variable) → IsFirst name xs i d → plain_of (get_or xs i d).value ≡ value_under name (variables_of xs)
+unfolding value_under
+value_here name [] i d is = below_none i is.within
+value_here name (x ∷ xs) zero d is = rw (is.here) refl
+value_here name (x ∷ xs) (suc i) d is = rw (is.before 0 (first_above i)) (value_here name xs i d (first_behind name x d xs i is))
+
+pub value_nowhere : (name : List ℕ) (xs : List Variable) (d : Variable) → IsNowhere name xs d → v.void ≡ value_under name (variables_of xs)
+unfolding value_under
+value_nowhere name [] d is = refl
+value_nowhere name (x ∷ xs) d is = rw (is 0 (first_above (length xs))) (value_nowhere name xs d (nowhere_behind name x d xs is))
+
+-- ---- another value under it
+
+pub put_here : (name : List ℕ) (xs : List Variable) (i : ℕ) (d y : Variable) (new : Plain) → IsFirst name xs i d → y.name ≡ (get_or xs i d).name → plain_of y.value ≡ new
+    → variables_of (set xs i y) ≡ put name new (variables_of xs)
+unfolding put
+put_here name [] i d y new is same value = below_none i is.within
+put_here name (x ∷ xs) zero d y new is same value = rw (is.here) (ap2 (λ (n : List ℕ) (w : Plain). record { name = n; value = w } ∷ variables_of xs) same value)
+put_here name (x ∷ xs) (suc i) d y new is same value =
+    rw (is.before 0 (first_above i)) (ap (λ ys. variable_of x ∷ ys) (put_here name xs i d y new (first_behind name x d xs i is) same value))
+
+pub put_nowhere : (name : List ℕ) (xs : List Variable) (d : Variable) (new : Plain) → IsNowhere name xs d → variables_of xs ≡ put name new (variables_of xs)
+unfolding put
+put_nowhere name [] d new is = refl
+put_nowhere name (x ∷ xs) d new is =
+    rw (is 0 (first_above (length xs))) (ap (λ ys. variable_of x ∷ ys) (put_nowhere name xs d new (nowhere_behind name x d xs is)))
+
+-- ---- without it
+
+abbrev pub others : List ℕ → List Variable → List Variable
+others name xs = filter (λ x. not (has_name name x)) xs
+
+kept_one : (b : Bool) (x : Variable) (ys : List Variable) → variables_of (cond b (x ∷ ys) ys) ≡ cond b (variable_of x ∷ variables_of ys) (variables_of ys)
+kept_one true x ys = refl
+kept_one false x ys = refl
+
+pub others_of : (name : List ℕ) (xs : List Variable) → variables_of (others name xs) ≡ without name (variables_of xs)
+others_of name [] = refl
+others_of name (x ∷ xs) =
+    kept_one (not (has_name name x)) x (others name xs) ∙ ap (λ ys. cond (not (has_name name x)) (variable_of x ∷ ys) ys) (others_of name xs)
+
+-- another value of a variable of the name makes no difference to the others
+pub others_same : (name : List ℕ) (xs : List Variable) (i : ℕ) (d y : Variable) → i < length xs → has_name name (get_or xs i d) ≡ true → y.name ≡ (get_or xs i d).name
+    → others name (set xs i y) ≡ others name xs
+others_same name [] i d y below here same = below_none i below
+others_same name (x ∷ xs) zero d y below here same =
+    let too : has_name name y ≡ true = ap (λ n. bytes_eq name n) same ∙ here in
+    rw (too, here) refl
+others_same name (x ∷ xs) (suc i) d y below here same =
+    ap (λ ys. cond (not (has_name name x)) (x ∷ ys) ys) (others_same name xs i d y (below_rest i (length xs) below) here same)
+
+pub nothing_else : (name : List ℕ) (xs : List Variable) (d : Variable) → IsNowhere name xs d → variables_of xs ≡ without name (variables_of xs)
+nothing_else name [] d is = refl
+nothing_else name (x ∷ xs) d is =
+    rw (is 0 (first_above (length xs))) (ap (λ ys. variable_of x ∷ ys) (nothing_else name xs d (nowhere_behind name x d xs is)))
