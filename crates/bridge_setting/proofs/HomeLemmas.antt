@@ -27,10 +27,10 @@ pub one_more_home : (g : Setting) (n : ℕ) (xs : List Value) (olds : List Plain
     → x ≡ get_or xs n x → plain_of now ≡ home_value g (plain_of x) → AreHome g (suc n) (set (set xs n meanwhile) n now) olds
 one_more_home g n [] olds x meanwhile now home below is same = absurd (not_below_none n below)
 one_more_home g zero (y ∷ xs) olds x meanwhile now home below is same =
-    subst (λ os. AreHome g 1 (now ∷ xs) os) home (same ∙ ap (λ v. home_value g (plain_of v)) is , refl)
+    subst (λ os. AreHome g 1 (now ∷ xs) os) home (same ∙ ap (λ v. home_value g (plain_of v)) is, refl)
 one_more_home g (suc n) (y ∷ xs) [] x meanwhile now home below is same = home
 one_more_home g (suc n) (y ∷ xs) (old ∷ olds) x meanwhile now home below is same =
-    (home.0 , one_more_home g n xs olds x meanwhile now home.1 (below_rest n (length xs) below) is same)
+    (home.0, one_more_home g n xs olds x meanwhile now home.1 (below_rest n (length xs) below) is same)
 
 -- where all are, each is
 pub all_home : (g : Setting) (n : ℕ) (xs : List Value) (olds : List Plain) → AreHome g n xs olds → n ≡ length xs → map plain_of xs ≡ each_home g olds

@@ -35,18 +35,18 @@ pub one_more_named : (tag : List ℕ) (n : ℕ) (xs : List (List ℕ)) (x : List
 unfolding AreNames
 one_more_named tag n [] x names is =
     let same : 0 + n ≡ n = omega arith in
-    (is ∙ ap (λ m. name_of tag m) same , tt)
+    (is ∙ ap (λ m. name_of tag m) same, tt)
 one_more_named tag n (y ∷ xs) x names is =
     let next : suc (length xs) + n ≡ length xs + suc n = omega arith in
-    (names.0 , one_more_named tag (suc n) xs x names.1 (is ∙ ap (λ m. name_of tag m) next))
+    (names.0, one_more_named tag (suc n) xs x names.1 (is ∙ ap (λ m. name_of tag m) next))
 
 -- the names so far, and one more
 pub also_named : (tag : List ℕ) (xs ys : List (List ℕ)) (x : List ℕ) (i : ℕ) → AreNames tag 1 xs → length xs ≡ i → x ≡ name_of tag (i + 1) → ys ≡ xs ++ x ∷ []
     → AreNames tag 1 ys × (length ys ≡ i + 1)
 also_named tag xs ys x i names count is all =
     let more : length (xs ++ x ∷ []) ≡ i + 1 = length-append xs (x ∷ []) ∙ ap (λ m. m + 1) count in
-    rw (all) (one_more_named tag 1 xs x names (is ∙ ap (λ m. name_of tag (m + 1)) (sym count)) , more)
+    rw (all) (one_more_named tag 1 xs x names (is ∙ ap (λ m. name_of tag (m + 1)) (sym count)), more)
 
 pub none_named : (tag : List ℕ) (xs : List (List ℕ)) → xs ≡ [] → AreNames tag 1 xs × (length xs ≡ 0)
 unfolding AreNames
-none_named tag xs none = rw (none) (tt , refl)
+none_named tag xs none = rw (none) (tt, refl)

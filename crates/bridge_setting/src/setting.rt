@@ -20,12 +20,7 @@ pub struct Setting {
 }
 
 impl Setting {
-    pub fn new(
-        alloc: Global,
-        registry: Registry,
-        plan: Plan,
-        tag: Tag,
-    ) -> Result<Setting, NoMemory>
+    pub fn new(alloc: Global, registry: Registry, plan: Plan, tag: Tag) -> Result<Setting, NoMemory>
         ensures setting { IfOk result (λ s. setting_of s ≡ record { tag = tag; registry = registry; plan = plan_of plan }) }
         ensures roots { IfOk result (λ s. s.names.roots ≡ length (plan_of plan).threads) }
     {

@@ -111,5 +111,7 @@ fn place_of(exports: &[Export], name: &str) -> Option<usize>
 fn place_named(exports: &[Export], name: &str) -> Option<usize>
     ensures { result ≡ position (λ (e : Export). bytes_eq name.now e.name) exports.now }
 {
-    exports.iter().position(|export| name == export.name.as_str())
+    exports
+        .iter()
+        .position(|export| name == export.name.as_str())
 }

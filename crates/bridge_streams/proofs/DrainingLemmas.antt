@@ -133,7 +133,7 @@ stops reg n (m ∷ ms) o none = let bad : ⊥ = cc in absurd bad
 
 -- where no more are spelled this is all that was to be done
 module _ (reg : List Entity) (n : ℕ) (o : Outgoing) (q before : Queue) (all : Spelling) (stop : spells_for reg n q.said o ≡ record { outgoing = o; unsaid = q.said })
-  (same : spells_for reg n q.said o ≡ all) (rest : q ≡ with_said q.said before) where
+    (same : spells_for reg n q.said o ≡ all) (rest : q ≡ with_said q.said before) where
   pub stopped_outgoing : o ≡ all.outgoing
   stopped_outgoing = ap (λ (x : Spelling). x.outgoing) (sym stop ∙ same)
 
@@ -142,7 +142,7 @@ module _ (reg : List Entity) (n : ℕ) (o : Outgoing) (q before : Queue) (all : 
 
 -- after a message what is left to do is the same
 module _ (reg : List Entity) (n : ℕ) (m : Message) (ms : List Message) (o p : Outgoing) (q after before : Queue) (first : q.said ≡ m ∷ ms) (spelt : p ≡ spells reg m o)
-  (dropped : after ≡ with_said (drop 1 q.said) q) where
+    (dropped : after ≡ with_said (drop 1 q.said) q) where
   left_said : after.said ≡ ms
   left_said = ap (λ (x : Queue). x.said) dropped ∙ ap (drop 1) first
 
@@ -179,7 +179,7 @@ outgoing_of ready spoken = record { ready = ready; spoken = spoken }
 
 -- the bytes that are taken of what is spelled
 module _ (reg : List Entity) (n count : ℕ) (queue : Queue) (before mid : Outgoing) (bytes : List ℕ) (spelt : mid ≡ (spells_for reg n queue.said before).outgoing)
-  (few : count ≡ min n (length mid.ready)) (taken : bytes ≡ take count mid.ready) where
+    (few : count ≡ min n (length mid.ready)) (taken : bytes ≡ take count mid.ready) where
   count_is : count ≡ given n (spells_for reg n queue.said before).outgoing
   count_is = few ∙ ap (given n) spelt
 

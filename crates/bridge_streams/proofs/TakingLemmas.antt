@@ -195,20 +195,21 @@ module _ (heard : Heard) (old mid : Stream) (piece : List ℕ) (n : ℕ) (unende
   whole_taken : (block : Block) (new : Stream) → Gave mid (record { place = block.place; count = block.count; body = block.body.items }) new
       → TookWhole (with_heard heard old) piece n block (with_heard heard new)
   whole_taken block new gave =
-    let bytes = sym mid_held ∙ gave.held in
-    let long : length (old.held ++ cut old.held piece) ≡ 8 + length block.body.items = ap length bytes ∙ length-spell_block block.count block.body.items in
-    let place : mid.place + 8 + length block.body.items ≡ old.place + length (old.held ++ cut old.held piece) = omega (arith, long, mid_place) in
-    record {
-      size = of_piece.size;
-      good = good;
-      stands = ap block_stands (sym mid_held) ∙ (stands_whole mid.held).0 (gave_whole block.count block.body.items gave.block.size_fits gave.block.count_fits gave.held);
-      given = record {
-        at = gave.block.place_is ∙ mid_place;
-        count = spelled_count block.count block.body.items gave.block.count_fits ∙ ap count_said (sym bytes);
-        body = spelled_body block.count block.body.items ∙ ap (drop 8) (sym bytes);
-      };
-      now = ap (with_heard heard) gave.now ∙ ap (λ p. record { place = p; held = []; heard = heard }) place;
-    }
+      let bytes = sym mid_held ∙ gave.held in
+      let long : length (old.held ++ cut old.held piece) ≡ 8 + length block.body.items = ap length bytes ∙ length-spell_block block.count block.body.items in
+      let place : mid.place + 8 + length block.body.items ≡ old.place + length (old.held ++ cut old.held piece) = omega (arith, long, mid_place) in
+      record {
+        size = of_piece.size;
+        good = good;
+        stands = ap block_stands (sym mid_held) ∙ (stands_whole mid.held).0 (gave_whole block.count block.body.items gave.block.size_fits gave.block.count_fits gave.held);
+        given = record {
+          at = gave.block.place_is ∙ mid_place;
+          count = spelled_count block.count block.body.items gave.block.count_fits ∙ ap count_said (sym bytes);
+          body = spelled_body block.count block.body.items ∙ ap (drop 8) (sym bytes);
+        };
+        now = ap (with_heard heard) gave.now ∙ ap (λ p. record { place = p; held = []; heard = heard }) place;
+      }
+
   pub ended_taken : (taken : Taken) (new : Stream) → Ended mid n taken new → side.Took (with_heard heard old) piece taken (with_heard heard new)
   ended_taken (Part m) new ended =
       subst (λ k. TookPart (with_heard heard old) piece k (with_heard heard new)) (sym ended.0)
@@ -225,7 +226,7 @@ module _ (heard : Heard) (old mid : Stream) (piece : List ℕ) (n : ℕ) (unende
 -- ---- a header that is refused, as a side sees it
 
 module _ (i : Incoming) (piece : List ℕ) (n : ℕ) (unended : ends_part i.held ≡ false) (at : BeginsBad (i.held ++ piece) → IsRefusedAt i.held piece (8 - length i.held))
-  (wants : n ≡ 8 - length i.held) where
+    (wants : n ≡ 8 - length i.held) where
   refused_took : (why : Reason) → IsRefusedAt i.held piece n → header_fault (i.held ++ take n piece) ≡ Some why → TookNone i piece n why i
   refused_took why is fault =
       let whole = refused_cut i.held piece n why unended is fault in

@@ -93,7 +93,8 @@ impl Unsaid {
             unreachable!()
         };
         let Release { oid, face } = release;
-        self.said.push_back_reserved(Message::Release { tid, oid, face });
+        self.said
+            .push_back_reserved(Message::Release { tid, oid, face });
     }
 
     /// How many releases have their room.

@@ -31,7 +31,13 @@ pub fn first_variables(
     let mut given = Given::new(args);
     let mut variables = Vec::new(alloc);
     for place in 0..function.param_count() {
-        push_first(alloc, registry, function.param(place), &mut given, &mut variables)?;
+        push_first(
+            alloc,
+            registry,
+            function.param(place),
+            &mut given,
+            &mut variables,
+        )?;
     }
     Ok(variables)
 }
@@ -66,8 +72,8 @@ fn first_value(
     given: &mut Given,
 ) -> Result<Value, NoMemory>
     requires { IsSound registry.now }
-    ensures value { IfOk result (λ x. plain_of x ≡ first_value registry.now (lent_param param) (left given.old)) }
-    ensures rest { left given.new ≡ behind_argument (lent_param param) (left given.old) }
+    ensures value { IfOk result (λ x. plain_of x ≡ first_value registry.now (lent_param param.entry) (left given.old)) }
+    ensures rest { left given.new ≡ behind_argument (lent_param param.entry) (left given.old) }
 {
     if !goes(param.way) {
         return default_of(alloc, registry, param.kind);

@@ -18,6 +18,8 @@ mod fitting;
 #[cfg(test)]
 mod front_page;
 #[cfg(test)]
+mod journals;
+#[cfg(test)]
 mod judging;
 #[cfg(test)]
 mod limits;

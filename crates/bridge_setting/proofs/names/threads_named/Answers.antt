@@ -7,4 +7,4 @@ loop-place-init c = none_named c.args.tag.now c.new-tids.result.items c.new-tids
 pub loop-place-preserved : goal.loop-place-preserved
 loop-place-preserved c =
     also_named c.args.tag.now c.loop-place.tids.items c.push.new.self.items c.in_ok-tid.tid c.loop-place.place c.loop-place.invariant.0 c.loop-place.invariant.1 c.in_ok-tid.ensures
-        c.in_ok-push.ensures.items
+    c.in_ok-push.ensures.items

@@ -11,4 +11,4 @@ returns-then-behaviour-eq-MANAGER c =
 pub returns : goal.returns
 returns c =
     behaviour_supports c.args.registry.now (plan_of c.args.plan.now) c.args.behaviour c.args.wanted.now _ c.if-behaviour-eq-MANAGER.false
-        (c.is_reached.ensures ∙ ap (λ faces. supports c.args.registry.now faces c.args.wanted.now) c.faces_in.ensures)
+    (c.is_reached.ensures ∙ ap (λ faces. supports c.args.registry.now faces c.args.wanted.now) c.faces_in.ensures)

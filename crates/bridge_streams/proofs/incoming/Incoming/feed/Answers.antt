@@ -6,9 +6,10 @@ use Rattle.bridge_streams.proofs.TakingLemmas.{unended_block, ended_taken, ended
 use Rattle.bridge_streams.proofs.incoming.Incoming.feed.Goals as goal
 
 pub invariant_of-self : goal.invariant_of-self
-invariant_of-self c =
-    (ended_rest (heard_by c.self.inside.listener) c.self.inside.blocks c.feed.new.self c.args.piece.now c.in-Ok.count c.self.invariant.0 c.in-Ok.ensures.took c.taken.result c.taken.new.blocks c.taken.ensures
-    , c.self.invariant.1)
+invariant_of-self c = (
+  ended_rest (heard_by c.self.inside.listener) c.self.inside.blocks c.feed.new.self c.args.piece.now c.in-Ok.count c.self.invariant.0 c.in-Ok.ensures.took c.taken.result c.taken.new.blocks c.taken.ensures,
+  c.self.invariant.1,
+)
 
 pub returns-in-Ok-clause-took : goal.returns-in-Ok-clause-took
 returns-in-Ok-clause-took c =

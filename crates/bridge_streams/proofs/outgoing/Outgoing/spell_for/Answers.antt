@@ -25,11 +25,11 @@ loop-self-preserved c =
     let below : length c.loop-self.self.ready < c.args.wanted = omega (arith, c.loop-self-test.true, c.len.ensures, ap (λ o. length o.ready) c.self.view_is) in
     record {
       same = step_same reg c.args.wanted m ms c.loop-self.self c.spell.new.self c.loop-self.unsaid c.drop_first.new.self c.args.unsaid.now first c.in_ok-spell.ensures c.drop_first.ensures
-        (spells_for reg c.args.wanted c.args.unsaid.now.said c.args.self.now) below c.loop-self.invariant.same;
+          (spells_for reg c.args.wanted c.args.unsaid.now.said c.args.self.now) below c.loop-self.invariant.same;
       rest = step_rest reg c.args.wanted m ms c.loop-self.self c.spell.new.self c.loop-self.unsaid c.drop_first.new.self c.args.unsaid.now first c.in_ok-spell.ensures c.drop_first.ensures
-        c.loop-self.invariant.rest;
+          c.loop-self.invariant.rest;
       sayable = step_sayable reg c.args.wanted m ms c.loop-self.self c.spell.new.self c.loop-self.unsaid c.drop_first.new.self c.args.unsaid.now first c.in_ok-spell.ensures c.drop_first.ensures
-        c.loop-self.invariant.sayable;
+          c.loop-self.invariant.sayable;
     }
 
 -- enough bytes are there
