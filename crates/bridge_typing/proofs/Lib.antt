@@ -1,3 +1,5 @@
 pub mod FineLaws
 pub mod NamedLaws
 pub mod TableLaws
+pub mod LeavingFits
+pub mod HandingFits

@@ -1,3 +1,4 @@
 pub mod Fine
 pub mod Given
 pub mod TablesFit
+pub mod FramesFit
