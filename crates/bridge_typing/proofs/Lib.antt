@@ -3,3 +3,4 @@ pub mod NamedLaws
 pub mod TableLaws
 pub mod LeavingFits
 pub mod HandingFits
+pub mod BeginFits
