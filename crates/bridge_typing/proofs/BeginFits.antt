@@ -193,6 +193,7 @@ module _ (g : Setting) (given : IsGiven g) (os : List Object) (made : ℕ) where
               rest =
                   rest_begins g.registry given.sound given.differ g.plan given.typed object.object.behaviour face function f gives.called.found
                   (manages g given.sound object.object.behaviour face object.supported);
+              begun = λ is. refl;
             }, no_peer, below);
         tables =
             gains_fits g given os made (holder.Frame t.frames_made) (own (own_oid g (number_of (object_named g oid t.objects))) face)
@@ -226,6 +227,7 @@ module _ (g : Setting) (given : IsGiven g) (os : List Object) (made : ℕ) where
               rest =
                   rest_begins g.registry given.sound given.differ g.plan given.typed object.object.behaviour face function f gives.called.found
                   (manages g given.sound object.object.behaviour face object.supported);
+              begun = λ is. refl;
             }, λ from_peer. rests, waited f fs rests below);
         tables =
             gains_fits g given os made (holder.Frame t.frames_made) (own (own_oid g (number_of (object_named g oid t.objects))) face)

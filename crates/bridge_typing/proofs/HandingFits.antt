@@ -71,6 +71,12 @@ written_by : (g : Setting) (n place : ℕ) (f : Function) (s : Statement) (b : B
 written_by g n place f s true is = absurd (cc)
 written_by g n place f s false is = is
 
+-- the service manager has no statements
+pub no_statement : (g : Setting) (n place : ℕ) (f : Function) (s : Statement) (b : Bool) → b ≡ true
+    → at_place place (if b then None else method_for f (methods_of (slice_get g.plan.behaviours n))) ≡ Some s → ⊥
+no_statement g n place f s true manages is = absurd (cc)
+no_statement g n place f s false manages is = absurd (cc)
+
 pub statement_is : (g : Setting) (os : List Object) (b : Body) (n : ℕ) (f : Function) (s : Statement) → numbered g.registry b.face b.function ≡ Some f
     → behaviour_at b.object os ≡ Some n → statement_at g.plan n b.place f ≡ Some s → handing.statement_at g os b ≡ Some s
 unfolding handing.statement_at
@@ -177,6 +183,7 @@ module _ (g : Setting) (given : IsGiven g) (os : List Object) (made : ℕ) (tid 
                   subst (λ s. BodyFits g os (goes_on (taken_by g s x outs b.variables).variables b) r.behaviour r.function (types_behind r.statement r.types)) (sym is)
                   (goes_on_fits called b x outs r goes);
               rest = r.rest;
+              begun = λ manages. absurd (no_statement g r.behaviour b.place r.function r.statement (r.behaviour == manager) manages r.found);
             }, rests, below);
         tables = lets_go_all_fits g given os made (holder.Frame b.number) (taken_by g o x outs b.variables).let_go t (omega arith) fit;
       }

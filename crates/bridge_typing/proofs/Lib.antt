@@ -4,3 +4,4 @@ pub mod TableLaws
 pub mod LeavingFits
 pub mod HandingFits
 pub mod BeginFits
+pub mod AskingFits

@@ -1,5 +1,5 @@
 -- Frames that fit: a method with variables of its types, a call that went out with its function, and below each of them what waits for its answer.
-use Rattle.std.specs.Prelude.{◌≡◌, ℕ, suc, ◌+◌, ◌≤◌, true, List, [], ◌∷◌, Option, None, Some}
+use Rattle.std.specs.Prelude.{◌≡◌, ℕ, suc, ◌+◌, ◌≤◌, ◌==◌, true, List, [], ◌∷◌, Option, None, Some}
 use Rattle.std.specs.Option.{option_map}
 use Rattle.message_model.specs.Messages.{Answer}
 use Rattle.message_model.specs.Sayable.{AnswerFits, IsCalled, name_weight, answer_weight}
@@ -8,6 +8,8 @@ use Rattle.uno_model.specs.Fits.{IsInterface}
 use Rattle.uno_model.specs.Functions.{Function}
 use Rattle.uno_model.specs.Kinds as kd
 use Rattle.uno_model.specs.Values.{own}
+use Rattle.plan_model.specs.Contexts.{parameters}
+use Rattle.plan_model.specs.Plans.{manager}
 use Rattle.plan_model.specs.Frames.{Body, Frame, base, body, outgoing}
 use Rattle.plan_model.specs.Holdings.{refs_under}
 use Rattle.plan_model.specs.Statements.{Statement, call, query}
@@ -40,13 +42,14 @@ pub record BodyFits (g : Setting) (os : List Object) (b : Body) (n : ℕ) (f : F
   pub fine : total (wrong g os) (refs_under b.variables) ≡ 0
   pub held : wrong g os (own (own_oid g b.object) b.face) ≡ 0
 
--- it is at the top of its stack: the statements from its place on are typed
+-- it is at the top of its stack: the statements from its place on are typed, and the service manager has none
 pub record Runs (g : Setting) (os : List Object) (b : Body) : Type 0 where
   pub behaviour : ℕ
   pub function : Function
   pub types : Types
   pub fits : BodyFits g os b behaviour function types
   pub rest : RestTyped g.registry g.plan behaviour b.place b.face function types
+  pub begun : (behaviour == manager) ≡ true → types.variables ≡ parameters function.params
 
 -- a statement takes what a function returns
 abbrev pub TakesFrom : List Entity → Types → Function → Statement → Type 0
