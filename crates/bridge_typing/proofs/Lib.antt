@@ -5,3 +5,4 @@ pub mod LeavingFits
 pub mod HandingFits
 pub mod BeginFits
 pub mod AskingFits
+pub mod JobFits

@@ -2,3 +2,4 @@ pub mod Fine
 pub mod Given
 pub mod TablesFit
 pub mod FramesFit
+pub mod ObjectsFit
