@@ -6,3 +6,4 @@ pub mod HandingFits
 pub mod BeginFits
 pub mod AskingFits
 pub mod JobFits
+pub mod LastingFits

@@ -1,10 +1,10 @@
 -- Objects whose fields fit, and have references that are fine; those of the beginning are there.
-use Rattle.std.specs.Prelude.{◌≡◌, ℕ, suc, ◌≤◌, List, Some, slice_get}
+use Rattle.std.specs.Prelude.{◌≡◌, ℕ, suc, ◌≤◌, true, List, Some, slice_get}
 use Rattle.std.specs.List.{AllByRecursion}
 use Rattle.plan_model.specs.Plans.{first_objects}
 use Rattle.plan_typing.specs.Scenes.{FieldsFit}
 use Rattle.bridge_laws.specs.Counting.{total}
-use Rattle.bridge_model.specs.Objects.{fields_of, as_variables}
+use Rattle.bridge_model.specs.Objects.{object_supports, fields_of, as_variables}
 use Rattle.bridge_model.specs.References.{refs_of_values}
 use Rattle.bridge_model.specs.Settings.{Setting}
 use Rattle.bridge_model.specs.Sides.{Object}
@@ -26,3 +26,8 @@ pub record ObjectsFit (g : Setting) (os : List Object) (made : ℕ) : Type 0 whe
   pub fine : total (object_wrong g os) os ≡ 0
   pub first : (n k : ℕ) → slice_get (first_objects g.plan) n ≡ Some k → behaviour_at (suc n) os ≡ Some k
   pub few : made ≤ 2000000
+
+-- objects keep their behaviours, and support what they supported
+pub record Lasts (g : Setting) (os now : List Object) : Type 0 where
+  pub behaves : (n k : ℕ) → behaviour_at n os ≡ Some k → behaviour_at n now ≡ Some k
+  pub supported : (oid face : List ℕ) → object_supports g oid face os ≡ true → object_supports g oid face now ≡ true
