@@ -7,3 +7,4 @@ pub mod BeginFits
 pub mod AskingFits
 pub mod JobFits
 pub mod LastingFits
+pub mod MakingFits
