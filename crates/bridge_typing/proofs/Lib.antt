@@ -8,3 +8,4 @@ pub mod AskingFits
 pub mod JobFits
 pub mod LastingFits
 pub mod MakingFits
+pub mod OwnFits
