@@ -131,7 +131,7 @@ module _ (g : Setting) (given : IsGiven g) (os : List Object) (made : ℕ) (obje
 
   -- ---- what they refer to
 
-  fields_fine : total (wrong g os) (refs_under (variables_of g (object_numbered b.object os))) ≡ 0
+  pub fields_fine : total (wrong g os) (refs_under (variables_of g (object_numbered b.object os))) ≡ 0
   unfolding object_numbered object_wrong
   fields_fine =
       let object = found_object b.object r.behaviour os r.fits.found in

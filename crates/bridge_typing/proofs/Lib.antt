@@ -9,3 +9,4 @@ pub mod JobFits
 pub mod LastingFits
 pub mod MakingFits
 pub mod OwnFits
+pub mod OwnEffects

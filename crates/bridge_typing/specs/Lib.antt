@@ -3,3 +3,4 @@ pub mod Given
 pub mod TablesFit
 pub mod FramesFit
 pub mod ObjectsFit
+pub mod Moves
