@@ -47,7 +47,7 @@ use Rattle.bridge_typing.proofs.HandingFits.{Found, found_object}
 
 -- ---- objects
 
-found_all : {X : Type 0} (P : X → Type 0) (test : X → Bool) (xs : List X) (x : X) → AllByRecursion P xs → find test xs ≡ Some x → P x
+pub found_all : {X : Type 0} (P : X → Type 0) (test : X → Bool) (xs : List X) (x : X) → AllByRecursion P xs → find test xs ≡ Some x → P x
 found_all P test [] x all is = absurd (cc)
 found_all P test (y ∷ ys) x all is = step (test y) (found_all P test ys x all.1) is
   where

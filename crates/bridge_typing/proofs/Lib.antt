@@ -10,3 +10,4 @@ pub mod LastingFits
 pub mod MakingFits
 pub mod OwnFits
 pub mod OwnEffects
+pub mod CreatingFits
