@@ -43,11 +43,11 @@ pub record TakesPlace (reg : List Entity) (b : Behaviour) (x : Variable) : Type 
   pub named : x.name ≡ place.name
   pub fits : Fits reg x.value place.kind
 
-abbrev OnOne : List Entity → Behaviour → Option Variable → Type 0
+abbrev pub OnOne : List Entity → Behaviour → Option Variable → Type 0
 OnOne reg b None = Unit
 OnOne reg b (Some x) = TakesPlace reg b x
 
-abbrev OnEach : List Entity → Behaviour → Option (List Variable) → Type 0
+abbrev pub OnEach : List Entity → Behaviour → Option (List Variable) → Type 0
 OnEach reg b None = Unit
 OnEach reg b (Some xs) = AllByRecursion (TakesPlace reg b) xs
 
@@ -96,7 +96,7 @@ module _ (reg : List Entity) (sound : IsSound reg) (b : Behaviour) where
   or_fits None y here rest = rest
   or_fits (Some xs) y here rest = here
 
-  first_fits : (cs : List Constructor) (args : List Plain) → list_all (serves b) cs ≡ true → FitAll reg (plains args) kd.any → OnEach reg b (first_filled reg cs args)
+  pub first_fits : (cs : List Constructor) (args : List Plain) → list_all (serves b) cs ≡ true → FitAll reg (plains args) kd.any → OnEach reg b (first_filled reg cs args)
   unfolding first_filled
   first_fits [] args serve fits = tt
   first_fits (c ∷ cs) args serve fits =
@@ -205,6 +205,6 @@ module _ (reg : List Entity) (sound : IsSound reg) (b : Behaviour) (differ : all
   fields_each [] typed agrees = tt
   fields_each (f ∷ fs) typed agrees = (value_by f (find (λ x. bytes_eq f.name x.name) xs) refl typed.0 agrees.0, fields_each fs typed.1 agrees.1)
 
-  fields_fit : AllByRecursion (IsTypedField reg) b.fields → FieldsFit reg (as_variables b.fields (fields_with reg xs b.fields)) b.fields
+  pub fields_fit : AllByRecursion (IsTypedField reg) b.fields → FieldsFit reg (as_variables b.fields (fields_with reg xs b.fields)) b.fields
   unfolding fields_with
   fields_fit typed = values_fit reg (field_value reg xs) b.fields (fields_each b.fields typed all_agree)

@@ -11,3 +11,4 @@ pub mod MakingFits
 pub mod OwnFits
 pub mod OwnEffects
 pub mod CreatingFits
+pub mod CreatedFits
