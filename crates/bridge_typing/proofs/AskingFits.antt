@@ -53,10 +53,11 @@ pub record CallsAt (reg : List Entity) (ts : Types) (o : Option Statement) (targ
   pub typed : IsTypedCall reg ts call
   pub found : IsFunctionOf reg typed.function target function
 
-pub record QueriesAt (reg : List Entity) (o : Option Statement) : Type 0 where
+pub record QueriesAt (reg : List Entity) (o : Option Statement) (asked : List ℕ) : Type 0 where
   pub query : Query
   pub is : o ≡ Some (Statement.query query)
   pub wanted : IsInterface reg query.wanted
+  pub same : asked ≡ query.wanted
 
 pub record MakesAt (o : Option Statement) (behaviour : ℕ) (face to : List ℕ) : Type 0 where
   pub making : Making
@@ -78,7 +79,7 @@ Asks reg ts f tid o (sets_field x) = GoesOn o
 Asks reg ts f tid o (drops name) = GoesOn o
 Asks reg ts f tid o skips = GoesOn o
 Asks reg ts f tid o (calls target function args to) = CallsAt reg ts o target function
-Asks reg ts f tid o (queries target wanted to) = QueriesAt reg o
+Asks reg ts f tid o (queries target wanted to) = QueriesAt reg o wanted
 Asks reg ts f tid o (makes behaviour face to) = MakesAt o behaviour face to
 Asks reg ts f tid o disposes = Unit
 Asks reg ts f tid o (creates name args) = ReturnsObject f × FitAll reg (plains args) kd.any
@@ -144,7 +145,7 @@ module _ (reg : List Entity) (sound : IsSound reg) (built : HasBuiltIn reg) (dif
     object_queried : (target : Ref) (oid face : List ℕ) → AsksQuery (queries_object reg r q target oid face)
     object_queried target oid face =
         sent_within reg r AsksQuery (fails_asks (Some (query q))) oid face 0 (v.kind (kd.interface q.wanted) ∷ []) (queries target q.wanted q.to)
-        (λ light flat. record { query = q; is = refl; wanted = wanted })
+        (λ light flat. record { query = q; is = refl; wanted = wanted; same = refl })
 
     target_queried : (target : Ref) → AsksQuery (queries_target reg r q target)
     target_queried null = fails_asks (Some (query q)) Null

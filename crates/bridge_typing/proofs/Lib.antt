@@ -12,3 +12,4 @@ pub mod OwnFits
 pub mod OwnEffects
 pub mod CreatingFits
 pub mod CreatedFits
+pub mod QueryFits
