@@ -76,7 +76,7 @@ module _ (g : Setting) (os now : List Object) (lasts : Lasts g os now) where
           (λ row. fewer_by (object_supports g row.0.oid row.0.face os) (object_supports g row.0.oid row.0.face now) (lasts.supported row.0.oid row.0.face)) stubs in
       omega arith
 
-  body_lasts : (b : Body) (n : ℕ) (f : Function) (ts : Types) → BodyFits g os b n f ts → BodyFits g now b n f ts
+  pub body_lasts : (b : Body) (n : ℕ) (f : Function) (ts : Types) → BodyFits g os b n f ts → BodyFits g now b n f ts
   body_lasts b n f ts fits =
       record {
         called = fits.called;

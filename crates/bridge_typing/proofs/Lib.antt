@@ -13,3 +13,5 @@ pub mod OwnEffects
 pub mod CreatingFits
 pub mod CreatedFits
 pub mod QueryFits
+pub mod CallingMoves
+pub mod MakingMoves
