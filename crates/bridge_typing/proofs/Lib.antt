@@ -15,3 +15,4 @@ pub mod CreatedFits
 pub mod QueryFits
 pub mod CallingMoves
 pub mod MakingMoves
+pub mod ApplyingMoves

@@ -1,5 +1,5 @@
 -- A method that makes an object, and the service manager that creates one, leave what fits.
-use Rattle.std.proofs.Common.{◌≡◌, ℕ, zero, suc, ◌+◌, ◌≤◌, ◌<◌, ◌^◌, ◌==◌, Bool, true, false, if◌then◌else◌, List, [], ◌∷◌, ◌++◌, length, map, Option, None, Some, Result, Ok, Err, slice_get, refl, sym, ap, subst, ◌∙◌, inl, arith, append_assoc}
+use Rattle.std.proofs.Common.{◌≡◌, ℕ, zero, suc, ◌+◌, ◌≤◌, ◌<◌, ◌^◌, ◌==◌, Bool, true, false, ◌||◌, if◌then◌else◌, List, [], ◌∷◌, ◌++◌, length, map, Option, None, Some, Result, Ok, Err, slice_get, refl, sym, ap, subst, ◌∙◌, inl, arith, append_assoc}
 use Rattle.std.specs.List.{AllByRecursion}
 use Rattle.message_model.specs.Calls.{out_kinds}
 use Rattle.message_model.specs.Messages.{Answer, returned, raised}
@@ -36,7 +36,7 @@ use Rattle.bridge_laws.proofs.VariableLaws.{values_none, with_variable_owes}
 use Rattle.bridge_model.specs.Applying.{applies_making, returns_object, applies_creating}
 use Rattle.bridge_model.specs.Calls.{Unwound, unwound}
 use Rattle.bridge_model.specs.Handing.{ends_frame}
-use Rattle.bridge_model.specs.Objects.{object_numbered, object_supports, fields_of, makes_object, defaults_of, makes_default}
+use Rattle.bridge_model.specs.Objects.{object_numbered, faces_at, object_supports, fields_of, makes_object, defaults_of, makes_default}
 use Rattle.bridge_model.specs.References.{gains, refs_of_values, refs_of_answer}
 use Rattle.bridge_model.specs.Settings.{Setting, own_oid}
 use Rattle.bridge_model.specs.Sides.{Object, Tables}
@@ -48,9 +48,14 @@ use Rattle.bridge_typing.specs.ObjectsFit.{ObjectsFit, Lasts}
 use Rattle.bridge_typing.specs.TablesFit.{TablesFit}
 use Rattle.bridge_typing.proofs.AskingFits.{MakesAt, ReturnsObject}
 use Rattle.bridge_typing.proofs.CallingMoves.{one_count, unmoved}
-use Rattle.bridge_typing.proofs.CreatedFits.{FreshFits, CreatedFits, created_fits, faces_are, root_interface}
+use Rattle.std.proofs.lemmas.List.{length-map}
+use Rattle.uno_model.specs.Sound.{is_some_list}
+use Rattle.uno_model.proofs.Options.{same_some}
+use Rattle.plan_typing.proofs.EffectPlaces.{all_at_place}
+use Rattle.bridge_typing.proofs.OwnEffects.{lasts_itself}
+use Rattle.bridge_typing.proofs.CreatedFits.{FreshFits, CreatedFits, created_fits, place_within, faces_are, root_interface}
 use Rattle.bridge_typing.proofs.FineLaws.{OwnFine, own_fine, fine_own}
-use Rattle.bridge_typing.proofs.HandingFits.{next_fits, no_statement, ends_frame_fits}
+use Rattle.bridge_typing.proofs.HandingFits.{Found, found_object, next_fits, no_statement, ends_frame_fits}
 use Rattle.bridge_typing.proofs.LastingFits.{refs_last, body_lasts, frames_last}
 use Rattle.bridge_typing.proofs.LeavingFits.{frame_goes}
 use Rattle.bridge_typing.proofs.MakingFits.{named_by_number, push_lasts, defaults_fit, made_now, made_fit, made_fine, makes_fits}
@@ -185,3 +190,108 @@ module _ (g : Setting) (given : IsGiven g) (os : List Object) (made : ℕ) (obje
           frames = ended.frames;
           tables = ended.tables;
         })
+
+    -- ---- singletons
+
+    slice_behind : {X : Type 0} (xs ys : List X) (n : ℕ) → slice_get (xs ++ ys) (length xs + n) ≡ slice_get ys n
+    slice_behind [] ys n = let same : 0 + n ≡ n = omega arith in ap (slice_get ys) same
+    slice_behind (x ∷ xs) ys n = let same : suc (length xs) + n ≡ suc (length xs + n) = omega arith in ap (slice_get (x ∷ (xs ++ ys))) same ∙ slice_behind xs ys n
+
+    slice_mapped : {X Y : Type 0} (f : X → Y) (xs : List X) (n : ℕ) (x : X) → slice_get xs n ≡ Some x → slice_get (map f xs) n ≡ Some (f x)
+    slice_mapped f [] n x is = absurd (cc)
+    slice_mapped f (y ∷ xs) zero x is = ap (λ z. Some (f z)) (same_some is)
+    slice_mapped f (y ∷ xs) (suc n) x is = slice_mapped f xs n x is
+
+    has_some : (a : Bool) (xs : List Offer) (n : ℕ) (x : Offer) → slice_get xs n ≡ Some x → (a || is_some_list xs) ≡ true
+    has_some true xs n x is = refl
+    has_some false [] n x is = absurd (cc)
+    has_some false (y ∷ xs) n x is = refl
+
+    singleton_first : (place : ℕ) (o : Offer) → slice_get g.plan.singletons place ≡ Some o → slice_get (first_objects g.plan) (length g.plan.exports + suc place) ≡ Some o.behaviour
+    unfolding first_objects
+    singleton_first place o is =
+        let before = map (λ e. e.behaviour) g.plan.exports in
+        let behind = manager ∷ map (λ o. o.behaviour) g.plan.singletons in
+        ap (λ b. slice_get (before ++ (if b then behind else [])) (length g.plan.exports + suc place)) (has_some (is_some_list g.plan.services) g.plan.singletons place o is)
+        ∙ (ap (λ n. slice_get (before ++ behind) (n + suc place)) (sym (length-map g.plan.exports (λ e. e.behaviour)))
+        ∙ (slice_behind before behind (suc place) ∙ slice_mapped (λ o. o.behaviour) g.plan.singletons place o is))
+
+    number_is : (place : ℕ) → singleton_object g.plan place ≡ suc (length g.plan.exports + suc place)
+    unfolding singleton_object
+    number_is place = omega arith
+
+    singleton_supports : (place : ℕ) (o : Offer) → slice_get g.plan.singletons place ≡ Some o
+        → object_supports g (own_oid g (suc (length g.plan.exports + suc place))) x_interface_name os ≡ true
+    unfolding object_supports faces_at
+    singleton_supports place o is =
+        let n = suc (length g.plan.exports + suc place) in
+        let first = singleton_first place o is in
+        let within = place_within (first_objects g.plan) (length g.plan.exports + suc place) o.behaviour first in
+        let count = given.objects in let few = objects.few in
+        let found = found_object n o.behaviour os (objects.first (length g.plan.exports + suc place) o.behaviour first) in
+        let named = named_by_number g made n os (omega arith) (omega arith) objects.each in
+        let offer = all_at_place (OfferFits g.registry g.plan) g.plan.singletons place o given.singletons is in
+        ap (λ o. supports g.registry (faces_at g o) x_interface_name) (named ∙ found.there)
+        ∙ (ap (λ k. supports g.registry (faces_of g.plan k) x_interface_name) found.behaves
+        ∙ (ap (λ faces. supports g.registry faces x_interface_name) (faces_are g given o.behaviour offer.behaviour offer.found) ∙ offer.root))
+
+    singleton_fine : (place : ℕ) (o : Offer) → slice_get g.plan.singletons place ≡ Some o → wrong g os (own (own_oid g (singleton_object g.plan place)) x_interface_name) ≡ 0
+    singleton_fine place o is =
+        let n = suc (length g.plan.exports + suc place) in
+        let first = singleton_first place o is in
+        let within = place_within (first_objects g.plan) (length g.plan.exports + suc place) o.behaviour first in
+        let count = given.objects in
+        let fine = fine_own g os (own_oid g n) x_interface_name
+            (record {
+              told = given_own g n;
+              identity = identity_named g n given.short (omega arith);
+              interface = root_interface g given;
+              supported = singleton_supports place o is;
+            }) in
+        subst (λ m. wrong g os (own (own_oid g m) x_interface_name) ≡ 0) (sym (number_is place)) fine
+
+    singleton_few : (place : ℕ) (o : Offer) → slice_get g.plan.singletons place ≡ Some o → singleton_object g.plan place < 2 ^ 64
+    singleton_few place o is =
+        let first = singleton_first place o is in
+        let within = place_within (first_objects g.plan) (length g.plan.exports + suc place) o.behaviour first in
+        let count = given.objects in let number = number_is place in omega arith
+
+    singleton_moves : (place : ℕ) (t : Tables) (o : Option Offer) → slice_get g.plan.singletons place ≡ o → place < length g.plan.singletons → TablesFit g os made t
+        → Moves g os made (returns_object g tid b (singleton_object g.plan place) fs t)
+    singleton_moves place t None is within fit = absurd (not_there g.plan.singletons place within is)
+      where
+        not_there : (xs : List Offer) (n : ℕ) → n < length xs → slice_get xs n ≡ None → ⊥
+        not_there [] n few none = omega arith
+        not_there (x ∷ xs) zero few none = absurd (cc)
+        not_there (x ∷ xs) (suc n) few none = not_there xs n (omega arith) none
+    singleton_moves place t (Some o) is within fit =
+        unmoved g os made (returns_object g tid b (singleton_object g.plan place) fs t) objects
+        (returns_fits os made (singleton_object g.plan place) t (lasts_itself g os) (singleton_few place o is) (singleton_fine place o is) fit)
+
+    -- ---- what a name creates
+
+    refusal_none : (why : Refusal) (name : List ℕ) → total (wrong g os) (refs_of_answer (raised (kd.exception exception_name) (refusal_exception why name))) ≡ 0
+    unfolding refs_of_answer refs total
+    refusal_none why name = refl
+
+    refused_moves : (why : Refusal) (name : List ℕ) (t : Tables) → TablesFit g os made t
+        → Moves g os made (ends_frame g tid b (leaving_frame g.registry tid b (raised (kd.exception exception_name) (refusal_exception why name))) fs t)
+    refused_moves why name t fit =
+        let goes = frame_goes g given os tid thread b r.function (raised (kd.exception exception_name) (refusal_exception why name)) r.fits.called
+            (base_fits g.registry given.built (refusal_message why name)) (refusal_none why name) in
+        unmoved g os made (ends_frame g tid b (leaving_frame g.registry tid b (raised (kd.exception exception_name) (refusal_exception why name))) fs t) objects
+        (ends_frame_fits g given os made tid thread b r.function (leaving_frame g.registry tid b (raised (kd.exception exception_name) (refusal_exception why name))) fs t r.fits.called
+        (r.fits.fine, r.fits.held) goes rests below fit)
+
+    created_moves : (name : List ℕ) (c : Result Created Refusal) (t : Tables) → CreatedFits g c → created_counts (wrong g os) c ≡ 0 → IsPlaced g.plan c → TablesFit g os made t
+        → Moves g os made (applies_creating g tid b name c fs t)
+    unfolding applies_creating
+    created_moves name (Ok (fresh behaviour values)) t fits fine placed fit = fresh_moves behaviour values t fits fine fit
+    created_moves name (Ok (singleton place)) t fits fine placed fit = singleton_moves place t (slice_get g.plan.singletons place) refl placed fit
+    created_moves name (Err why) t fits fine placed fit = refused_moves why name t fit
+
+    pub creating_moves : (name : List ℕ) (args : List Plain) (t : Tables) → FitAll g.registry (plains args) kd.any → total (wrong g os) (refs_of_values args) ≡ 0 → TablesFit g os made t
+        → Moves g os made (applies_creating g tid b name (created g.plan g.registry name args) fs t)
+    creating_moves name args t fits fine fit =
+        created_moves name (created g.plan g.registry name args) t (created_fits g given args fits name) (created_refs (wrong g os) g.registry g.plan name args fine)
+        (created_placed g.registry g.plan name args) fit
