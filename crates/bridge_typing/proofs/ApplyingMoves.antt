@@ -1,9 +1,10 @@
 -- Whatever a method asks leaves what fits.
-use Rattle.std.proofs.Common.{◌≡◌, ℕ, suc, ◌+◌, ◌≤◌, ◌<◌, Bool, true, false, List, [], ◌∷◌, Option, None, Some, refl, sym, ap, subst, ◌∙◌, arith}
+use Rattle.std.proofs.Common.{◌≡◌, ℕ, suc, ◌+◌, ◌≤◌, ◌<◌, Bool, true, false, List, [], ◌∷◌, length, Option, None, Some, refl, sym, ap, subst, ◌∙◌, arith}
 use Rattle.message_model.specs.Messages.{returned, raised}
 use Rattle.message_model.specs.Sayable.{IsThread}
 use Rattle.plan_model.specs.Asking.{Effect, lets, sets, sets_field, drops, skips, calls, queries, makes, disposes, creates, returns, raises}
 use Rattle.plan_model.specs.Frames.{Body, Frame, body}
+use Rattle.plan_model.specs.Plans.{first_objects}
 use Rattle.plan_model.specs.Services.{created}
 use Rattle.plan_typing.specs.Effects.{EffectFits}
 use Rattle.plan_typing.specs.Going.{statement_at, types_at}
@@ -27,7 +28,8 @@ use Rattle.bridge_typing.proofs.MakingMoves.{making_moves, creating_moves}
 use Rattle.bridge_typing.proofs.OwnEffects.{lets_moves, sets_moves, drops_moves, skips_moves, sets_field_moves}
 
 module _ (g : Setting) (given : IsGiven g) (os : List Object) (made : ℕ) (objects : ObjectsFit g os made) (room : made < 2000000) (tid : List ℕ) (thread : IsThread tid) (b : Body)
-    (fs : List Frame) (r : Runs g os b) (rests : b.from_peer ≡ true → Pauses fs) (below : FramesFit g os (Some r.function) fs) where
+    (fs : List Frame) (r : Runs g os b) (rests : b.from_peer ≡ true → Pauses fs) (below : FramesFit g os (Some r.function) fs)
+    (opened : length (first_objects g.plan) ≤ made) where
   applies_moves : (e : Effect) (t : Tables)
       → EffectFits g.registry g.plan r.function tid r.types (types_at (statement_at g.plan r.behaviour b.place r.function) r.types) (runs_with g given os made objects tid thread b fs r os).scene e
       → Asks g.registry r.types r.function tid (statement_at g.plan r.behaviour b.place r.function) e → effect_counts (wrong g os) e ≡ 0 → TablesFit g os made t
@@ -45,11 +47,11 @@ module _ (g : Setting) (given : IsGiven g) (os : List Object) (made : ℕ) (obje
       unmoved g os made (applies_query g tid target wanted (body b ∷ fs) t) objects
       (query_moves g given os made objects tid thread b fs r rests below target wanted t fits asks fine fit)
   applies_moves (makes behaviour face to) t fits asks fine fit =
-      making_moves g given os made objects room tid thread b fs r rests below behaviour face to fits asks t fit
+      making_moves g given os made objects room tid thread b fs r rests below opened behaviour face to fits asks t fit
   applies_moves disposes t fits asks fine fit =
       unmoved g os made (unwound (body b ∷ fs) t) objects (record { frames = (r, rests, below); tables = fit })
   applies_moves (creates name args) t fits asks fine fit =
-      creating_moves g given os made objects room tid thread b fs r rests below asks.0 name args t asks.1 fine fit
+      creating_moves g given os made objects room tid thread b fs r rests below opened asks.0 name args t asks.1 fine fit
   applies_moves (returns x outs) t fits asks fine fit =
       unmoved g os made (ends_frame g tid b (returned x outs) fs t) objects
       (end_moves g given os made objects tid thread b fs r rests below (returned x outs) t fits asks fine fit)

@@ -126,7 +126,7 @@ module _ (g : Setting) (given : IsGiven g) (os : List Object) (made : ℕ) (obje
           (λ other is. subst (IsInterface g.registry) (sym at.same ∙ wanted_is wanted other is) at.wanted) in
       let goes = query_goes g given os made objects tid face f x thread called any in
       subst (λ now. UnwoundFits g os made (answers_query g tid (object_answer g oid (kd.interface wanted) now) (body b ∷ fs) t)) (sym fit.same)
-      (hands_fits g given os made tid thread f (returned x []) (body b ∷ fs) (gains_below (body b ∷ fs) (returned x []) t) goes
+      (hands_fits g given os made tid thread f (returned x []) (body b ∷ fs) (gains_below (body b ∷ fs) (returned x []) t) (record { fits = goes.fits; fine = goes.fine })
       (query_waits wanted f at (query_result g given os made objects face f called))
       (gains_below_fits g given os made tid thread (body b ∷ fs) (returned x []) t goes.fine fit))
     where

@@ -39,7 +39,7 @@ use Rattle.bridge_model.specs.References.{says, refs_of_values, refs_of_answer}
 use Rattle.bridge_model.specs.Settings.{Setting, own_oid}
 use Rattle.bridge_model.specs.Sides.{Object, RootState, waits_query, answered, answer, Tables, state_of, with_root}
 use Rattle.bridge_typing.specs.Fine.{wrong}
-use Rattle.bridge_typing.specs.FramesFit.{behaviour_at, BodyFits, Runs, TakesFrom, Awaits, Pauses, FramesFit, AnswerGoes, UnwoundFits}
+use Rattle.bridge_typing.specs.FramesFit.{behaviour_at, BodyFits, Runs, TakesFrom, Awaits, Pauses, FramesFit, AnswerComes, AnswerGoes, UnwoundFits}
 use Rattle.bridge_typing.specs.Given.{IsGiven}
 use Rattle.bridge_typing.specs.TablesFit.{TablesFit}
 use Rattle.bridge_typing.proofs.LeavingFits.{frame_goes}
@@ -157,7 +157,7 @@ module _ (g : Setting) (given : IsGiven g) (os : List Object) (made : ℕ) (tid 
         held = fits.held;
       }
 
-  goes_on_fits : (called : Function) (b : Body) (x : Plain) (outs : List Plain) (r : Awaits g os called b) → AnswerGoes g os tid called (returned x outs)
+  goes_on_fits : (called : Function) (b : Body) (x : Plain) (outs : List Plain) (r : Awaits g os called b) → AnswerComes g os called (returned x outs)
       → BodyFits g os (goes_on (taken_by g (Some r.statement) x outs b.variables).variables b) r.behaviour r.function (types_behind r.statement r.types)
   goes_on_fits called b x outs r goes =
       let parts = returned_owes (wrong g os) x outs in let none = goes.fine in let before = r.fits.fine in
@@ -167,7 +167,7 @@ module _ (g : Setting) (given : IsGiven g) (os : List Object) (made : ℕ) (tid 
       (omega arith)
 
   going_on : (called : Function) (b : Body) (x : Plain) (outs : List Plain) (o : Option Statement) (fs : List Frame) (t : Tables) (r : Awaits g os called b) → o ≡ Some r.statement
-      → AnswerGoes g os tid called (returned x outs) → (b.from_peer ≡ true → Pauses fs) → FramesFit g os (Some r.function) fs → TablesFit g os made t
+      → AnswerComes g os called (returned x outs) → (b.from_peer ≡ true → Pauses fs) → FramesFit g os (Some r.function) fs → TablesFit g os made t
       → UnwoundFits g os made (goes_on_taking g b (taken_by g o x outs b.variables) fs t)
   unfolding FramesFit goes_on
   going_on called b x outs o fs t r is goes rests below fit =
@@ -189,7 +189,7 @@ module _ (g : Setting) (given : IsGiven g) (os : List Object) (made : ℕ) (tid 
       }
 
   goes_on_with_fits : (called : Function) (b : Body) (x : Plain) (outs : List Plain) (fs : List Frame) (t : Tables) (r : Awaits g os called b)
-      → AnswerGoes g os tid called (returned x outs) → (b.from_peer ≡ true → Pauses fs) → FramesFit g os (Some r.function) fs → TablesFit g os made t
+      → AnswerComes g os called (returned x outs) → (b.from_peer ≡ true → Pauses fs) → FramesFit g os (Some r.function) fs → TablesFit g os made t
       → UnwoundFits g os made (goes_on_with g b x outs fs t)
   unfolding goes_on_with
   goes_on_with_fits called b x outs fs t r goes rests below fit =
@@ -253,11 +253,14 @@ module _ (g : Setting) (given : IsGiven g) (os : List Object) (made : ℕ) (tid 
 
   -- ---- handing
 
+  pub handed_on : {f : Function} {a : Answer} → AnswerGoes g os tid f a → AnswerComes g os f a
+  handed_on goes = record { fits = goes.fits; fine = goes.fine }
+
   ends_either : (b : Bool) (there here : Unwound) → (b ≡ true → UnwoundFits g os made there) → UnwoundFits g os made here → UnwoundFits g os made (if b then there else here)
   ends_either true there here p q = p refl
   ends_either false there here p q = q
 
-  pub hands_fits : (called : Function) (a : Answer) (fs : List Frame) (t : Tables) → AnswerGoes g os tid called a → FramesFit g os (Some called) fs → TablesFit g os made t
+  pub hands_fits : (called : Function) (a : Answer) (fs : List Frame) (t : Tables) → AnswerComes g os called a → FramesFit g os (Some called) fs → TablesFit g os made t
       → UnwoundFits g os made (hands g tid a fs t)
   unfolding hands FramesFit
   hands_fits called a [] t goes frames fit = record { frames = tt; tables = fit }
@@ -277,7 +280,7 @@ module _ (g : Setting) (given : IsGiven g) (os : List Object) (made : ℕ) (tid 
         frames = paused g os r.function fs (frames.1 from_peer) frames.2;
         tables = answers_peer_fits b (refs x) r.function (leaving_frame g.registry tid b (raised k x)) t r.fits.called nothing holds leaves fit;
       })
-      (hands_fits r.function (leaving_frame g.registry tid b (raised k x)) fs (hands_over g b (refs x) (leaving_frame g.registry tid b (raised k x)) fs t) leaves frames.2
+      (hands_fits r.function (leaving_frame g.registry tid b (raised k x)) fs (hands_over g b (refs x) (leaving_frame g.registry tid b (raised k x)) fs t) (handed_on leaves) frames.2
       (hands_over_fits b (refs x) (leaving_frame g.registry tid b (raised k x)) fs t nothing holds leaves.fine fit))
 
   after_fits : (b : Body) (u : Unwound) → HoldsFine b → UnwoundFits g os made u → UnwoundFits g os made (after_letting_go g b u)
@@ -289,9 +292,9 @@ module _ (g : Setting) (given : IsGiven g) (os : List Object) (made : ℕ) (tid 
   unfolding total
   hands_down_fits b f (returned x outs) fs t holds goes frames fit =
       after_fits b (hands g tid (returned x outs) fs (gains_below fs (returned x outs) t)) holds
-      (hands_fits f (returned x outs) fs (gains_below fs (returned x outs) t) goes frames (gains_below_fits fs (returned x outs) t goes.fine fit))
+      (hands_fits f (returned x outs) fs (gains_below fs (returned x outs) t) (handed_on goes) frames (gains_below_fits fs (returned x outs) t goes.fine fit))
   hands_down_fits b f (raised k x) fs t holds goes frames fit =
-      hands_fits f (raised k x) fs (hands_over g b [] (raised k x) fs t) goes frames (hands_over_fits b [] (raised k x) fs t refl holds goes.fine fit)
+      hands_fits f (raised k x) fs (hands_over g b [] (raised k x) fs t) (handed_on goes) frames (hands_over_fits b [] (raised k x) fs t refl holds goes.fine fit)
 
   -- the frame of a method ends with what leaves it
   pub ends_frame_fits : (b : Body) (f : Function) (a : Answer) (fs : List Frame) (t : Tables) → IsCalled g.registry b.face b.function f → HoldsFine b → AnswerGoes g os tid f a
@@ -302,7 +305,7 @@ module _ (g : Setting) (given : IsGiven g) (os : List Object) (made : ℕ) (tid 
       (λ from_peer. record { frames = paused g os f fs (rests from_peer) frames; tables = answers_peer_fits b [] f a t called refl holds goes fit })
       (hands_down_fits b f a fs t holds goes frames fit)
 
-  pub hands_from_peer_fits : (called : Function) (a : Answer) (fs : List Frame) (t : Tables) → AnswerGoes g os tid called a → FramesFit g os (Some called) fs → TablesFit g os made t
+  pub hands_from_peer_fits : (called : Function) (a : Answer) (fs : List Frame) (t : Tables) → AnswerComes g os called a → FramesFit g os (Some called) fs → TablesFit g os made t
       → UnwoundFits g os made (hands_from_peer g tid a fs t)
   unfolding hands_from_peer
   hands_from_peer_fits called a fs t goes frames fit = hands_fits called a fs (takes_below g fs a t) goes frames (takes_below_fits fs a t goes.fine fit)

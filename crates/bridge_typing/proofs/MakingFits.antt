@@ -1,5 +1,5 @@
 -- Objects that are made: the new one is found under its name, and all others are as they were.
-use Rattle.std.proofs.Common.{◌≡◌, ℕ, zero, suc, ◌+◌, ◌≤◌, ◌<◌, ◌^◌, ◌==◌, eqb-true, Bool, true, false, cond, if◌then◌else◌, List, [], ◌∷◌, ◌++◌, length, map, find, Option, None, Some, slice_get, refl, sym, ap, subst, ◌∙◌, arith}
+use Rattle.std.proofs.Common.{◌≡◌, ◌≢◌, ℕ, zero, suc, ◌+◌, ◌≤◌, ◌<◌, ◌^◌, ◌==◌, eqb-true, Bool, true, false, cond, if◌then◌else◌, List, [], ◌∷◌, ◌++◌, length, map, find, Option, None, Some, slice_get, refl, sym, ap, subst, ◌∙◌, arith}
 use Rattle.std.specs.List.{AllByRecursion}
 use Rattle.std.specs.Fmt.{decimal}
 use Rattle.std.specs.Option.{option_map}
@@ -136,12 +136,30 @@ abbrev pub made_now : (made behaviour : ℕ) → List Plain → List Object → 
 made_now made behaviour fields os = os ++ record { number = suc made; behaviour = behaviour; fields = fields } ∷ []
 
 module _ (g : Setting) (given : IsGiven g) (os : List Object) (made : ℕ) (objects : ObjectsFit g os made) (room : made < 2000000) (behaviour : ℕ) (fields : List Plain)
-    (fit : FieldsFit g.registry (as_variables (fields_of g behaviour) fields) (fields_of g behaviour)) (fine : total (wrong g os) (refs_of_values fields) ≡ 0) where
+    (fit : FieldsFit g.registry (as_variables (fields_of g behaviour) fields) (fields_of g behaviour)) (fine : total (wrong g os) (refs_of_values fields) ≡ 0)
+    (next : (k : ℕ) → slice_get (first_objects g.plan) made ≡ Some k → behaviour ≡ k) where
   new_object : Object
   new_object = record { number = suc made; behaviour = behaviour; fields = fields }
 
   lasts : Lasts g os (made_now made behaviour fields os)
   lasts = push_lasts g os (record { number = suc made; behaviour = behaviour; fields = fields })
+
+  new_behaves : behaviour_at (suc made) (made_now made behaviour fields os) ≡ Some behaviour
+  unfolding behaviour_at
+  new_behaves = ap (option_map (λ o. o.behaviour)) (new_found g made os (record { number = suc made; behaviour = behaviour; fields = fields }) refl objects.each)
+
+  by_number : (n k : ℕ) (b : Bool) → (n == made) ≡ b → n < suc made → slice_get (first_objects g.plan) n ≡ Some k
+      → behaviour_at (suc n) (made_now made behaviour fields os) ≡ Some k
+  by_number n k true same within is =
+      let at = eqb-true n made same in
+      ap (λ m. behaviour_at (suc m) (made_now made behaviour fields os)) at
+      ∙ (new_behaves ∙ ap (λ j. Some j) (next k (ap (slice_get (first_objects g.plan)) (sym at) ∙ is)))
+  by_number n k false other within is =
+      let apart : n ≢ made = differs n made other in
+      lasts.behaves (suc n) k (objects.first n k (omega arith) is)
+    where
+      differs : (n m : ℕ) → (n == m) ≡ false → n ≢ m
+      differs n m other same = let alike : (n == m) ≡ (m == m) = ap (λ k. k == m) same in absurd (grind (arith, eqb-true))
 
   pub made_fit : ObjectsFit g (made_now made behaviour fields os) (suc made)
   unfolding object_wrong
@@ -154,7 +172,7 @@ module _ (g : Setting) (given : IsGiven g) (os : List Object) (made : ℕ) (obje
             all_push (ObjectFits g made) (ObjectFits g (suc made)) (λ o is. let most = is.most in record { least = is.least; most = omega arith; fields = is.fields }) os
             (record { number = suc made; behaviour = behaviour; fields = fields }) objects.each (record { least = omega arith; most = omega arith; fields = fit });
         fine = omega arith;
-        first = λ n k is. lasts.behaves (suc n) k (objects.first n k is);
+        first = λ n k within is. by_number n k (n == made) refl within is;
         few = omega arith;
       }
 

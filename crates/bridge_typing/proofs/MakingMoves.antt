@@ -62,7 +62,12 @@ use Rattle.bridge_typing.proofs.MakingFits.{named_by_number, push_lasts, default
 use Rattle.bridge_typing.proofs.TableLaws.{text_most, identity_named, gains_fits}
 
 module _ (g : Setting) (given : IsGiven g) (os : List Object) (made : ℕ) (objects : ObjectsFit g os made) (room : made < 2000000) (tid : List ℕ) (thread : IsThread tid) (b : Body)
-    (fs : List Frame) (r : Runs g os b) (rests : b.from_peer ≡ true → Pauses fs) (below : FramesFit g os (Some r.function) fs) where
+    (fs : List Frame) (r : Runs g os b) (rests : b.from_peer ≡ true → Pauses fs) (below : FramesFit g os (Some r.function) fs)
+    (opened : length (first_objects g.plan) ≤ made) where
+  -- the objects of the beginning are made
+  none_next : (behaviour k : ℕ) → slice_get (first_objects g.plan) made ≡ Some k → behaviour ≡ k
+  none_next behaviour k is = let within = place_within (first_objects g.plan) made k is in absurd (omega arith)
+
   -- ---- an object that a method makes
 
   module _ (behaviour : ℕ) (face to : List ℕ) (fits : MakingFits g.registry g.plan behaviour face) (at : MakesAt (statement_at g.plan r.behaviour b.place r.function) behaviour face to) where
@@ -76,13 +81,13 @@ module _ (g : Setting) (given : IsGiven g) (os : List Object) (made : ℕ) (obje
     now_lasts = push_lasts g os (record { number = suc made; behaviour = behaviour; fields = defaults_of g behaviour })
 
     now_fits : ObjectsFit g now (suc made)
-    now_fits = made_fit g given os made objects room behaviour (defaults_of g behaviour) (defaults_fit g given behaviour) default_fine
+    now_fits = made_fit g given os made objects room behaviour (defaults_of g behaviour) (defaults_fit g given behaviour) default_fine (none_next behaviour)
 
     supported : supports g.registry (faces_of g.plan behaviour) face ≡ true
     supported = subst (λ faces. supports g.registry faces face ≡ true) (sym (faces_are g given behaviour fits.made fits.found)) fits.supported
 
     new_fine : wrong g now (own (own_oid g (suc made)) face) ≡ 0
-    new_fine = made_fine g given os made objects room behaviour (defaults_of g behaviour) (defaults_fit g given behaviour) default_fine face fits.interface supported
+    new_fine = made_fine g given os made objects room behaviour (defaults_of g behaviour) (defaults_fit g given behaviour) default_fine (none_next behaviour) face fits.interface supported
 
     new_fits : Fits g.registry (v.ref (own (own_oid g (suc made)) face)) (kd.interface face)
     unfolding Fits
@@ -136,7 +141,7 @@ module _ (g : Setting) (given : IsGiven g) (os : List Object) (made : ℕ) (obje
           frames = now_frames;
           tables =
               gains_fits g given now (suc made) (holder.Frame b.number) (own (own_oid g (suc made)) face) (makes_default g behaviour t) new_fine
-              (makes_fits g given os made objects room behaviour (defaults_of g behaviour) (defaults_fit g given behaviour) default_fine t fit);
+              (makes_fits g given os made objects room behaviour (defaults_of g behaviour) (defaults_fit g given behaviour) default_fine (none_next behaviour) t fit);
         })
 
   -- ---- an object that is given out
@@ -177,16 +182,16 @@ module _ (g : Setting) (given : IsGiven g) (os : List Object) (made : ℕ) (obje
     fresh_moves behaviour values t fits fine fit =
         let now = made_now made behaviour values os in
         let lasts = push_lasts g os (record { number = suc made; behaviour = behaviour; fields = values }) in
-        let new = made_fine g given os made objects room behaviour values fits.fields fine x_interface_name (root_interface g given) fits.root in
+        let new = made_fine g given os made objects room behaviour values fits.fields fine (none_next behaviour) x_interface_name (root_interface g given) fits.root in
         let ended = returns_fits now (suc made) (suc made) (makes_object behaviour values t) lasts (omega arith) new
-            (makes_fits g given os made objects room behaviour values fits.fields fine t fit) in
+            (makes_fits g given os made objects room behaviour values fits.fields fine (none_next behaviour) t fit) in
         subst (λ n. Moves g os made (returns_object g tid b (suc n) fs (makes_object behaviour values t))) (sym fit.counted)
         (record {
           now = now;
           count = suc made;
           lasts = lasts;
           most = omega arith;
-          objects = made_fit g given os made objects room behaviour values fits.fields fine;
+          objects = made_fit g given os made objects room behaviour values fits.fields fine (none_next behaviour);
           frames = ended.frames;
           tables = ended.tables;
         })
@@ -228,7 +233,7 @@ module _ (g : Setting) (given : IsGiven g) (os : List Object) (made : ℕ) (obje
         let first = singleton_first place o is in
         let within = place_within (first_objects g.plan) (length g.plan.exports + suc place) o.behaviour first in
         let count = given.objects in let few = objects.few in
-        let found = found_object n o.behaviour os (objects.first (length g.plan.exports + suc place) o.behaviour first) in
+        let found = found_object n o.behaviour os (objects.first (length g.plan.exports + suc place) o.behaviour (omega arith) first) in
         let named = named_by_number g made n os (omega arith) (omega arith) objects.each in
         let offer = all_at_place (OfferFits g.registry g.plan) g.plan.singletons place o given.singletons is in
         ap (λ o. supports g.registry (faces_at g o) x_interface_name) (named ∙ found.there)

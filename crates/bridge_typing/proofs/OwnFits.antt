@@ -130,6 +130,6 @@ with_fields_fit g os made n o fields objects found fit fine =
     record {
       each = each_with g made n fields o os found objects.each fit;
       fine = omega arith;
-      first = λ m k is. lasts.behaves (suc m) k (objects.first m k is);
+      first = λ m k few is. lasts.behaves (suc m) k (objects.first m k few is);
       few = objects.few;
     }

@@ -82,7 +82,12 @@ FramesFit g os asked (outgoing o ∷ fs) = (f : Function) × IsCalled g.registry
 FramesFit g os None (body b ∷ fs) = (r : Runs g os b) × (b.from_peer ≡ true → Pauses fs) × FramesFit g os (Some r.function) fs
 FramesFit g os (Some f) (body b ∷ fs) = (r : Awaits g os f b) × (b.from_peer ≡ true → Pauses fs) × FramesFit g os (Some r.function) fs
 
--- an answer to a function that may go on a thread
+-- an answer to a function that may be handed down
+pub record AnswerComes (g : Setting) (os : List Object) (f : Function) (a : Answer) : Type 0 where
+  pub fits : AnswerFits g.registry f a
+  pub fine : total (wrong g os) (refs_of_answer a) ≡ 0
+
+-- one that may go on a thread too
 pub record AnswerGoes (g : Setting) (os : List Object) (tid : List ℕ) (f : Function) (a : Answer) : Type 0 where
   pub fits : AnswerFits g.registry f a
   pub light : 1 + (name_weight tid + answer_weight a) ≤ 16777216

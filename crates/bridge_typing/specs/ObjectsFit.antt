@@ -1,5 +1,5 @@
 -- Objects whose fields fit, and have references that are fine; those of the beginning are there.
-use Rattle.std.specs.Prelude.{◌≡◌, ℕ, suc, ◌≤◌, true, List, Some, slice_get}
+use Rattle.std.specs.Prelude.{◌≡◌, ℕ, suc, ◌≤◌, ◌<◌, true, List, Some, slice_get}
 use Rattle.std.specs.List.{AllByRecursion}
 use Rattle.plan_model.specs.Plans.{first_objects}
 use Rattle.plan_typing.specs.Scenes.{FieldsFit}
@@ -24,7 +24,7 @@ object_wrong g os o = total (wrong g os) (refs_of_values o.fields)
 pub record ObjectsFit (g : Setting) (os : List Object) (made : ℕ) : Type 0 where
   pub each : AllByRecursion (ObjectFits g made) os
   pub fine : total (object_wrong g os) os ≡ 0
-  pub first : (n k : ℕ) → slice_get (first_objects g.plan) n ≡ Some k → behaviour_at (suc n) os ≡ Some k
+  pub first : (n k : ℕ) → n < made → slice_get (first_objects g.plan) n ≡ Some k → behaviour_at (suc n) os ≡ Some k
   pub few : made ≤ 2000000
 
 -- objects keep their behaviours, and support what they supported
