@@ -28,11 +28,11 @@ is_identity_of : (oid : List ℕ) → IsIdentity oid → is_identity oid ≡ tru
 is_identity_of oid is = let some = is.some in let most = is.bounded in
     and_from (nat_lt 0 (length oid)) (nat_lt (length oid) 4097) (lt-ltb 0 (length oid) (omega arith)) (lt-ltb (length oid) 4097 (omega arith))
 
-well_is : (reg : List Entity) (oid face : List ℕ) → is_well reg oid face ≡ true → IsIdentity oid × IsInterface reg face
+pub well_is : (reg : List Entity) (oid face : List ℕ) → is_well reg oid face ≡ true → IsIdentity oid × IsInterface reg face
 unfolding is_well
 well_is reg oid face is = let parts = and_parts (is_identity oid) (is_type reg (kd.interface face)) is in (identity_is oid parts.0, parts.1)
 
-is_well_of : (reg : List Entity) (oid face : List ℕ) → IsIdentity oid → IsInterface reg face → is_well reg oid face ≡ true
+pub is_well_of : (reg : List Entity) (oid face : List ℕ) → IsIdentity oid → IsInterface reg face → is_well reg oid face ≡ true
 unfolding is_well
 is_well_of reg oid face identity there = and_from (is_identity oid) (is_type reg (kd.interface face)) (is_identity_of oid identity) there
 

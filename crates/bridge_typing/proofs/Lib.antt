@@ -16,3 +16,4 @@ pub mod QueryFits
 pub mod CallingMoves
 pub mod MakingMoves
 pub mod ApplyingMoves
+pub mod HomeFits
