@@ -15,12 +15,12 @@ use Rattle.bridge_model.specs.Calls.{Unwound, unwound}
 use Rattle.bridge_model.specs.Handing.{ends_frame}
 use Rattle.bridge_model.specs.Settings.{Setting}
 use Rattle.bridge_model.specs.Sides.{Object, Tables}
-use Rattle.bridge_typing.specs.Fine.{wrong}
-use Rattle.bridge_typing.specs.FramesFit.{Runs, Pauses, FramesFit}
-use Rattle.bridge_typing.specs.Given.{IsGiven}
-use Rattle.bridge_typing.specs.Moves.{Moves}
-use Rattle.bridge_typing.specs.ObjectsFit.{ObjectsFit}
-use Rattle.bridge_typing.specs.TablesFit.{TablesFit}
+use Rattle.bridge_typing.proofs.Fine.{wrong}
+use Rattle.bridge_typing.proofs.FramesFit.{Runs, Pauses, FramesFit}
+use Rattle.bridge_typing.proofs.Given.{IsGiven}
+use Rattle.bridge_typing.proofs.Moves.{Moves}
+use Rattle.bridge_typing.proofs.ObjectsFit.{ObjectsFit}
+use Rattle.bridge_typing.proofs.TablesFit.{TablesFit}
 use Rattle.bridge_typing.proofs.AskingFits.{Asks}
 use Rattle.bridge_typing.proofs.CallingMoves.{unmoved, call_moves, query_moves, end_moves}
 use Rattle.bridge_typing.proofs.JobFits.{runs_with, effect_is, asked_fits, asked_is, asked_fine}

@@ -39,10 +39,10 @@ use Rattle.bridge_model.specs.Objects.{object_numbered, object_named, number_of,
 use Rattle.bridge_model.specs.References.{says, gains_all, takes_all, refs_of_values}
 use Rattle.bridge_model.specs.Settings.{Setting, own_oid}
 use Rattle.bridge_model.specs.Sides.{Object, Tables}
-use Rattle.bridge_typing.specs.Fine.{wrong}
-use Rattle.bridge_typing.specs.FramesFit.{behaviour_at, BodyFits, Runs, Pauses, FramesFit, UnwoundFits}
-use Rattle.bridge_typing.specs.Given.{IsGiven}
-use Rattle.bridge_typing.specs.TablesFit.{TablesFit}
+use Rattle.bridge_typing.proofs.Fine.{wrong}
+use Rattle.bridge_typing.proofs.FramesFit.{behaviour_at, BodyFits, Runs, Pauses, FramesFit, UnwoundFits}
+use Rattle.bridge_typing.proofs.Given.{IsGiven}
+use Rattle.bridge_typing.proofs.TablesFit.{TablesFit}
 use Rattle.bridge_typing.proofs.FineLaws.{OwnFine, own_fine, fine_own}
 use Rattle.bridge_typing.proofs.TableLaws.{says_fits, gains_fits, gains_all_fits, takes_all_fits}
 

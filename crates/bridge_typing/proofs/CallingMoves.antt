@@ -27,12 +27,12 @@ use Rattle.bridge_model.specs.Objects.{object_answer}
 use Rattle.bridge_model.specs.References.{refs_of_values, refs_of_answer}
 use Rattle.bridge_model.specs.Settings.{Setting, own_oid}
 use Rattle.bridge_model.specs.Sides.{Object, Tables}
-use Rattle.bridge_typing.specs.Fine.{wrong}
-use Rattle.bridge_typing.specs.FramesFit.{Runs, Pauses, FramesFit, AnswerGoes, UnwoundFits}
-use Rattle.bridge_typing.specs.Given.{IsGiven}
-use Rattle.bridge_typing.specs.Moves.{Moves}
-use Rattle.bridge_typing.specs.ObjectsFit.{ObjectsFit, Lasts}
-use Rattle.bridge_typing.specs.TablesFit.{TablesFit}
+use Rattle.bridge_typing.proofs.Fine.{wrong}
+use Rattle.bridge_typing.proofs.FramesFit.{Runs, Pauses, FramesFit, AnswerGoes, UnwoundFits}
+use Rattle.bridge_typing.proofs.Given.{IsGiven}
+use Rattle.bridge_typing.proofs.Moves.{Moves}
+use Rattle.bridge_typing.proofs.ObjectsFit.{ObjectsFit, Lasts}
+use Rattle.bridge_typing.proofs.TablesFit.{TablesFit}
 use Rattle.bridge_typing.proofs.AskingFits.{CallsAt, QueriesAt}
 use Rattle.bridge_typing.proofs.BeginFits.{Gives, calls_own_fits, calls_peer_fits}
 use Rattle.bridge_typing.proofs.FineLaws.{OwnFine, own_fine, PeerFine, peer_fine}
@@ -53,7 +53,7 @@ one_count f r = omega arith
 -- with the objects that were there
 pub unmoved : (g : Setting) (os : List Object) (made : ℕ) (u : Unwound) → ObjectsFit g os made → UnwoundFits g os made u → Moves g os made u
 unmoved g os made u objects fits =
-    record { now = os; count = made; lasts = lasts_itself g os; most = omega arith; objects = objects; frames = fits.frames; tables = fits.tables }
+    record { now = os; count = made; lasts = lasts_itself g os; least = omega arith; most = omega arith; objects = objects; frames = fits.frames; tables = fits.tables }
 
 module _ (g : Setting) (given : IsGiven g) (os : List Object) (made : ℕ) (objects : ObjectsFit g os made) (tid : List ℕ) (thread : IsThread tid) (b : Body) (fs : List Frame)
     (r : Runs g os b) (rests : b.from_peer ≡ true → Pauses fs) (below : FramesFit g os (Some r.function) fs) where

@@ -20,7 +20,7 @@ use Rattle.plan_typing.proofs.TermFunctions.{interface_type}
 use Rattle.bridge_laws.proofs.CreatedLaws.{IsPlaced, created_placed}
 use Rattle.bridge_model.specs.Objects.{fields_of, as_variables}
 use Rattle.bridge_model.specs.Settings.{Setting}
-use Rattle.bridge_typing.specs.Given.{OfferFits, ServiceFits, FieldsDiffer, IsGiven}
+use Rattle.bridge_typing.proofs.Given.{OfferFits, ServiceFits, FieldsDiffer, IsGiven}
 use Rattle.bridge_typing.proofs.CreatingFits.{TakesPlace, OnEach, first_fits, fields_fit}
 use Rattle.bridge_typing.proofs.JobFits.{found_all}
 

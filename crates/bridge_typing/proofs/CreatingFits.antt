@@ -30,7 +30,7 @@ use Rattle.plan_typing.proofs.EffectFrames.{behaviour_fields}
 use Rattle.plan_typing.proofs.EffectPlaces.{all_at_place}
 use Rattle.bridge_model.specs.Objects.{fields_of, as_variables}
 use Rattle.bridge_model.specs.Settings.{Setting}
-use Rattle.bridge_typing.specs.Given.{ServiceFits, FieldsDiffer, IsGiven}
+use Rattle.bridge_typing.proofs.Given.{ServiceFits, FieldsDiffer, IsGiven}
 use Rattle.bridge_typing.proofs.JobFits.{found_all}
 use Rattle.bridge_typing.proofs.MakingFits.{values_fit}
 

@@ -18,7 +18,7 @@ use Rattle.bridge_model.specs.Objects.{object_supports, object_named, faces_at}
 use Rattle.bridge_model.specs.Settings.{Setting, is_own}
 use Rattle.bridge_model.specs.Sides.{Object}
 use Rattle.bridge_laws.specs.Counting.{one_if}
-use Rattle.bridge_typing.specs.Fine.{is_well, is_fine_own, is_fine_peer, wrong}
+use Rattle.bridge_typing.proofs.Fine.{is_well, is_fine_own, is_fine_peer, wrong}
 
 identity_is : (oid : List ℕ) → is_identity oid ≡ true → IsIdentity oid
 identity_is oid is = let parts = and_parts (nat_lt 0 (length oid)) (nat_lt (length oid) 4097) is in

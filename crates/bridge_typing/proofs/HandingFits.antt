@@ -38,10 +38,10 @@ use Rattle.bridge_model.specs.Objects.{object_numbered}
 use Rattle.bridge_model.specs.References.{says, refs_of_values, refs_of_answer}
 use Rattle.bridge_model.specs.Settings.{Setting, own_oid}
 use Rattle.bridge_model.specs.Sides.{Object, RootState, waits_query, answered, answer, Tables, state_of, with_root}
-use Rattle.bridge_typing.specs.Fine.{wrong}
-use Rattle.bridge_typing.specs.FramesFit.{behaviour_at, BodyFits, Runs, TakesFrom, Awaits, Pauses, FramesFit, AnswerComes, AnswerGoes, UnwoundFits}
-use Rattle.bridge_typing.specs.Given.{IsGiven}
-use Rattle.bridge_typing.specs.TablesFit.{TablesFit}
+use Rattle.bridge_typing.proofs.Fine.{wrong}
+use Rattle.bridge_typing.proofs.FramesFit.{behaviour_at, BodyFits, Runs, TakesFrom, Awaits, Pauses, FramesFit, AnswerComes, AnswerGoes, UnwoundFits}
+use Rattle.bridge_typing.proofs.Given.{IsGiven}
+use Rattle.bridge_typing.proofs.TablesFit.{TablesFit}
 use Rattle.bridge_typing.proofs.LeavingFits.{frame_goes}
 use Rattle.bridge_typing.proofs.TableLaws.{says_fits, gains_all_fits, takes_all_fits, lets_go_all_fits}
 

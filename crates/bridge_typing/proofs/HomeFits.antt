@@ -21,7 +21,7 @@ use Rattle.bridge_model.specs.Receiving.{own_refusal, named_refusal, ref_refusal
 use Rattle.bridge_model.specs.References.{home_value, home_values, each_home, home_answer, refs_of_values, refs_of_answer}
 use Rattle.bridge_model.specs.Settings.{Setting, is_own, ref_of, at_home}
 use Rattle.bridge_model.specs.Sides.{Object, Tables}
-use Rattle.bridge_typing.specs.Fine.{is_well, wrong}
+use Rattle.bridge_typing.proofs.Fine.{is_well, wrong}
 use Rattle.bridge_typing.proofs.FineLaws.{is_well_of, well_is, fine_own, fine_peer}
 
 -- ---- as values are here

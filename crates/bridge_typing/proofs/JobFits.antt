@@ -37,10 +37,10 @@ use Rattle.bridge_model.specs.Objects.{object_numbered, variables_of, fields_of,
 use Rattle.bridge_model.specs.References.{refs_of_values}
 use Rattle.bridge_model.specs.Settings.{Setting, own_oid}
 use Rattle.bridge_model.specs.Sides.{Object, Tables}
-use Rattle.bridge_typing.specs.Fine.{wrong}
-use Rattle.bridge_typing.specs.FramesFit.{behaviour_at, BodyFits, Runs}
-use Rattle.bridge_typing.specs.Given.{IsGiven}
-use Rattle.bridge_typing.specs.ObjectsFit.{ObjectFits, object_wrong, ObjectsFit}
+use Rattle.bridge_typing.proofs.Fine.{wrong}
+use Rattle.bridge_typing.proofs.FramesFit.{behaviour_at, BodyFits, Runs}
+use Rattle.bridge_typing.proofs.Given.{IsGiven}
+use Rattle.bridge_typing.proofs.ObjectsFit.{ObjectFits, object_wrong, ObjectsFit}
 use Rattle.bridge_typing.proofs.AskingFits.{Asks, body_asks}
 use Rattle.bridge_typing.proofs.FineLaws.{OwnFine, own_fine, fine_own, object_supports_base}
 use Rattle.bridge_typing.proofs.HandingFits.{Found, found_object}

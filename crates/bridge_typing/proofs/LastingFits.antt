@@ -14,10 +14,10 @@ use Rattle.bridge_laws.proofs.Sums.{total_at_most}
 use Rattle.bridge_model.specs.Objects.{object_supports}
 use Rattle.bridge_model.specs.Settings.{Setting, is_own, own_oid}
 use Rattle.bridge_model.specs.Sides.{Object, Tables}
-use Rattle.bridge_typing.specs.Fine.{is_well, is_fine_own, is_fine_peer, wrong}
-use Rattle.bridge_typing.specs.FramesFit.{BodyFits, Runs, Awaits, FramesFit}
-use Rattle.bridge_typing.specs.ObjectsFit.{Lasts, object_wrong}
-use Rattle.bridge_typing.specs.TablesFit.{is_wrong_pair, held_wrong, is_unsupported, sent_wrong, TablesFit}
+use Rattle.bridge_typing.proofs.Fine.{is_well, is_fine_own, is_fine_peer, wrong}
+use Rattle.bridge_typing.proofs.FramesFit.{BodyFits, Runs, Awaits, FramesFit}
+use Rattle.bridge_typing.proofs.ObjectsFit.{Lasts, object_wrong}
+use Rattle.bridge_typing.proofs.TablesFit.{is_wrong_pair, held_wrong, is_unsupported, sent_wrong, TablesFit}
 
 fewer_by : (a b : Bool) → (a ≡ true → b ≡ true) → one_if (not b) ≤ one_if (not a)
 fewer_by true b more = let is = more refl in rw is (omega arith)

@@ -24,9 +24,9 @@ use Rattle.bridge_laws.proofs.EffectLaws.{leaving_counts}
 use Rattle.bridge_model.specs.References.{refs_of_answer}
 use Rattle.bridge_model.specs.Settings.{Setting}
 use Rattle.bridge_model.specs.Sides.{Object}
-use Rattle.bridge_typing.specs.Fine.{wrong}
-use Rattle.bridge_typing.specs.FramesFit.{AnswerGoes}
-use Rattle.bridge_typing.specs.Given.{IsGiven}
+use Rattle.bridge_typing.proofs.Fine.{wrong}
+use Rattle.bridge_typing.proofs.FramesFit.{AnswerGoes}
+use Rattle.bridge_typing.proofs.Given.{IsGiven}
 use Rattle.bridge_typing.proofs.TableLaws.{text_most}
 
 -- the reply of an answer on a thread is not too heavy

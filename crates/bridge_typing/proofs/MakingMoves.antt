@@ -40,12 +40,12 @@ use Rattle.bridge_model.specs.Objects.{object_numbered, faces_at, object_support
 use Rattle.bridge_model.specs.References.{gains, refs_of_values, refs_of_answer}
 use Rattle.bridge_model.specs.Settings.{Setting, own_oid}
 use Rattle.bridge_model.specs.Sides.{Object, Tables}
-use Rattle.bridge_typing.specs.Fine.{wrong}
-use Rattle.bridge_typing.specs.FramesFit.{behaviour_at, BodyFits, Runs, Pauses, FramesFit, AnswerGoes, UnwoundFits}
-use Rattle.bridge_typing.specs.Given.{IsGiven, OfferFits}
-use Rattle.bridge_typing.specs.Moves.{Moves}
-use Rattle.bridge_typing.specs.ObjectsFit.{ObjectsFit, Lasts}
-use Rattle.bridge_typing.specs.TablesFit.{TablesFit}
+use Rattle.bridge_typing.proofs.Fine.{wrong}
+use Rattle.bridge_typing.proofs.FramesFit.{behaviour_at, BodyFits, Runs, Pauses, FramesFit, AnswerGoes, UnwoundFits}
+use Rattle.bridge_typing.proofs.Given.{IsGiven, OfferFits}
+use Rattle.bridge_typing.proofs.Moves.{Moves}
+use Rattle.bridge_typing.proofs.ObjectsFit.{ObjectsFit, Lasts}
+use Rattle.bridge_typing.proofs.TablesFit.{TablesFit}
 use Rattle.bridge_typing.proofs.AskingFits.{MakesAt, ReturnsObject}
 use Rattle.bridge_typing.proofs.CallingMoves.{one_count, unmoved}
 use Rattle.std.proofs.lemmas.List.{length-map}
@@ -136,6 +136,7 @@ module _ (g : Setting) (given : IsGiven g) (os : List Object) (made : ℕ) (obje
           now = now;
           count = suc made;
           lasts = now_lasts;
+          least = omega arith;
           most = omega arith;
           objects = now_fits;
           frames = now_frames;
@@ -190,6 +191,7 @@ module _ (g : Setting) (given : IsGiven g) (os : List Object) (made : ℕ) (obje
           now = now;
           count = suc made;
           lasts = lasts;
+          least = omega arith;
           most = omega arith;
           objects = made_fit g given os made objects room behaviour values fits.fields fine (none_next behaviour);
           frames = ended.frames;

@@ -21,7 +21,7 @@ use Rattle.bridge_laws.proofs.EffectLaws.{plains_count}
 use Rattle.bridge_laws.proofs.HandingLaws.{returned_owes, raised_owes}
 use Rattle.bridge_laws.proofs.NamingLaws.{message_refs}
 use Rattle.bridge_laws.proofs.Sums.{total_append}
-use Rattle.bridge_typing.specs.Fine.{is_fine_own, wrong}
+use Rattle.bridge_typing.proofs.Fine.{is_fine_own, wrong}
 use Rattle.bridge_typing.proofs.FineLaws.{own_tested, object_supports_base}
 
 -- 1 for an own object under an interface that it does not support

@@ -22,12 +22,12 @@ use Rattle.bridge_model.specs.Objects.{object_numbered, variables_of, fields_of,
 use Rattle.bridge_model.specs.References.{gains_all, lets_go_all, refs_of_values}
 use Rattle.bridge_model.specs.Settings.{Setting}
 use Rattle.bridge_model.specs.Sides.{Object, Tables}
-use Rattle.bridge_typing.specs.Fine.{wrong}
-use Rattle.bridge_typing.specs.FramesFit.{Runs, Pauses, FramesFit}
-use Rattle.bridge_typing.specs.Given.{IsGiven}
-use Rattle.bridge_typing.specs.Moves.{Moves}
-use Rattle.bridge_typing.specs.ObjectsFit.{ObjectsFit, Lasts}
-use Rattle.bridge_typing.specs.TablesFit.{TablesFit}
+use Rattle.bridge_typing.proofs.Fine.{wrong}
+use Rattle.bridge_typing.proofs.FramesFit.{Runs, Pauses, FramesFit}
+use Rattle.bridge_typing.proofs.Given.{IsGiven}
+use Rattle.bridge_typing.proofs.Moves.{Moves}
+use Rattle.bridge_typing.proofs.ObjectsFit.{ObjectsFit, Lasts}
+use Rattle.bridge_typing.proofs.TablesFit.{TablesFit}
 use Rattle.bridge_typing.proofs.AskingFits.{GoesOn}
 use Rattle.bridge_typing.proofs.HandingFits.{next_fits, no_statement, Found, found_object}
 use Rattle.bridge_typing.proofs.JobFits.{fields_fine}
@@ -67,7 +67,7 @@ module _ (g : Setting) (given : IsGiven g) (os : List Object) (made : ℕ) (obje
   moved : (xs : List Variable) (t : Tables) → FramesFit g os None (body (goes_on xs b) ∷ fs) → TablesFit g os made t
       → Moves g os made (record { frames = body (goes_on xs b) ∷ fs; tables = t })
   moved xs t frames tables =
-      record { now = os; count = made; lasts = lasts_itself g os; most = omega arith; objects = objects; frames = frames; tables = tables }
+      record { now = os; count = made; lasts = lasts_itself g os; least = omega arith; most = omega arith; objects = objects; frames = frames; tables = tables }
 
   -- ---- variables
 
@@ -158,6 +158,7 @@ module _ (g : Setting) (given : IsGiven g) (os : List Object) (made : ℕ) (obje
         now = now;
         count = made;
         lasts = lasts;
+        least = omega arith;
         most = omega arith;
         objects = fields_with_fit x fields fine;
         frames = frames_last g os now lasts None (body (goes_on b.variables b) ∷ fs) (goes_on_with b.variables on variables r.fits.fine);

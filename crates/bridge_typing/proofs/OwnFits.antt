@@ -28,11 +28,11 @@ use Rattle.bridge_model.specs.Objects.{object_numbered, object_named, variables_
 use Rattle.bridge_model.specs.References.{gains_all, lets_go_all, refs_of_values}
 use Rattle.bridge_model.specs.Settings.{Setting, own_oid}
 use Rattle.bridge_model.specs.Sides.{Object, Tables}
-use Rattle.bridge_typing.specs.Fine.{wrong}
-use Rattle.bridge_typing.specs.FramesFit.{behaviour_at, BodyFits, Runs, Pauses, FramesFit, UnwoundFits}
-use Rattle.bridge_typing.specs.Given.{IsGiven}
-use Rattle.bridge_typing.specs.ObjectsFit.{ObjectFits, object_wrong, ObjectsFit, Lasts}
-use Rattle.bridge_typing.specs.TablesFit.{TablesFit}
+use Rattle.bridge_typing.proofs.Fine.{wrong}
+use Rattle.bridge_typing.proofs.FramesFit.{behaviour_at, BodyFits, Runs, Pauses, FramesFit, UnwoundFits}
+use Rattle.bridge_typing.proofs.Given.{IsGiven}
+use Rattle.bridge_typing.proofs.ObjectsFit.{ObjectFits, object_wrong, ObjectsFit, Lasts}
+use Rattle.bridge_typing.proofs.TablesFit.{TablesFit}
 use Rattle.bridge_typing.proofs.AskingFits.{GoesOn}
 use Rattle.bridge_typing.proofs.HandingFits.{next_fits, no_statement, Found, found_object}
 use Rattle.bridge_typing.proofs.LastingFits.{objects_last, refs_last, frames_last, tables_last}

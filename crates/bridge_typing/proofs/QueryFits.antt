@@ -26,10 +26,10 @@ use Rattle.bridge_model.specs.Objects.{object_named, faces_at, object_supports, 
 use Rattle.bridge_model.specs.References.{refs_of_values, refs_of_answer}
 use Rattle.bridge_model.specs.Settings.{Setting, is_own, own_oid}
 use Rattle.bridge_model.specs.Sides.{Object}
-use Rattle.bridge_typing.specs.Fine.{wrong}
-use Rattle.bridge_typing.specs.FramesFit.{AnswerGoes}
-use Rattle.bridge_typing.specs.Given.{IsGiven}
-use Rattle.bridge_typing.specs.ObjectsFit.{ObjectFits, ObjectsFit}
+use Rattle.bridge_typing.proofs.Fine.{wrong}
+use Rattle.bridge_typing.proofs.FramesFit.{AnswerGoes}
+use Rattle.bridge_typing.proofs.Given.{IsGiven}
+use Rattle.bridge_typing.proofs.ObjectsFit.{ObjectFits, ObjectsFit}
 use Rattle.bridge_typing.proofs.BeginFits.{Named, named_object, named_itself}
 use Rattle.bridge_typing.proofs.FineLaws.{fine_own}
 use Rattle.bridge_typing.proofs.JobFits.{found_all}

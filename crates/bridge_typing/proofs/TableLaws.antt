@@ -37,9 +37,9 @@ use Rattle.bridge_model.specs.declared.cause.Cause.{Cause}
 use Rattle.bridge_laws.specs.Counting.{total, one_if}
 use Rattle.bridge_laws.proofs.NamingLaws.{message_refs}
 use Rattle.bridge_laws.proofs.StrayLaws.{fewer_kept, more_put, found_passes}
-use Rattle.bridge_typing.specs.Fine.{is_fine_own, is_fine_peer, wrong}
-use Rattle.bridge_typing.specs.Given.{IsGiven}
-use Rattle.bridge_typing.specs.TablesFit.{is_wrong_pair, held_wrong, is_unsupported, sent_wrong, Table, TablesFit}
+use Rattle.bridge_typing.proofs.Fine.{is_fine_own, is_fine_peer, wrong}
+use Rattle.bridge_typing.proofs.Given.{IsGiven}
+use Rattle.bridge_typing.proofs.TablesFit.{is_wrong_pair, held_wrong, is_unsupported, sent_wrong, Table, TablesFit}
 use Rattle.bridge_typing.proofs.FineLaws.{peer_fine}
 use Rattle.bridge_typing.proofs.NamedLaws.{unsupported, message_named}
 

@@ -8,8 +8,8 @@ use Rattle.bridge_model.specs.Objects.{object_supports, fields_of, as_variables}
 use Rattle.bridge_model.specs.References.{refs_of_values}
 use Rattle.bridge_model.specs.Settings.{Setting}
 use Rattle.bridge_model.specs.Sides.{Object}
-use Rattle.bridge_typing.specs.Fine.{wrong}
-use Rattle.bridge_typing.specs.FramesFit.{behaviour_at}
+use Rattle.bridge_typing.proofs.Fine.{wrong}
+use Rattle.bridge_typing.proofs.FramesFit.{behaviour_at}
 
 -- an object is one of those that were made, and its fields fit those of its behaviour
 pub record ObjectFits (g : Setting) (made : ℕ) (o : Object) : Type 0 where

@@ -9,7 +9,7 @@ use Rattle.bridge_model.specs.Objects.{object_supports}
 use Rattle.bridge_model.specs.Saying.{AreSayable}
 use Rattle.bridge_model.specs.Settings.{Setting}
 use Rattle.bridge_model.specs.Sides.{Object, Tables}
-use Rattle.bridge_typing.specs.Fine.{is_fine_own, is_fine_peer}
+use Rattle.bridge_typing.proofs.Fine.{is_fine_own, is_fine_peer}
 
 abbrev pub is_wrong_pair : Setting → List Object → Pair → Bool
 is_wrong_pair g os p = not (is_fine_own g os p.oid p.face || is_fine_peer g p.oid p.face)

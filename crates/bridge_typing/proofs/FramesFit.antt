@@ -24,8 +24,8 @@ use Rattle.bridge_model.specs.Objects.{object_numbered, fields_of}
 use Rattle.bridge_model.specs.References.{refs_of_answer}
 use Rattle.bridge_model.specs.Settings.{Setting, own_oid}
 use Rattle.bridge_model.specs.Sides.{Object}
-use Rattle.bridge_typing.specs.Fine.{wrong}
-use Rattle.bridge_typing.specs.TablesFit.{TablesFit}
+use Rattle.bridge_typing.proofs.Fine.{wrong}
+use Rattle.bridge_typing.proofs.TablesFit.{TablesFit}
 
 -- the behaviour of the object of a number
 unfoldable pub behaviour_at : ℕ → List Object → Option ℕ
