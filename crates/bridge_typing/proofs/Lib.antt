@@ -25,3 +25,6 @@ pub mod SideFits
 pub mod SideLaws
 pub mod TableLaws
 pub mod TablesFit
+pub mod ReadingFits
+pub mod ReceivingFits
+pub mod FeedingFits

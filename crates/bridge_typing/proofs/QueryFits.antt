@@ -99,7 +99,7 @@ module _ (g : Setting) (given : IsGiven g) (os : List Object) (made : ℕ) (obje
 
   -- ---- function 0
 
-  query_is : (face : List ℕ) (f : Function) → IsCalled g.registry face 0 f → f ≡ fn.call x_interface_name query_interface
+  pub query_is : (face : List ℕ) (f : Function) → IsCalled g.registry face 0 f → f ≡ fn.call x_interface_name query_interface
   query_is face f called =
       same_some (sym called.found ∙ query_at g.registry given.sound given.built face (interface_there g.registry face called.interface))
 
