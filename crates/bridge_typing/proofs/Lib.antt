@@ -28,3 +28,4 @@ pub mod TablesFit
 pub mod ReadingFits
 pub mod ReceivingFits
 pub mod FeedingFits
+pub mod RootFits

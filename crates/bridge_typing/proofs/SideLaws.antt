@@ -68,7 +68,7 @@ put_fit g os tid fs [] thread fit all = stack_with_fit g os tid fs [] thread fit
 put_fit g os tid fs (s ∷ ss) thread fit all =
     put_by g os (is_of tid s) (stack_with tid fs ss) (puts_frames tid fs ss) s (stack_with_fit g os tid fs ss thread fit all.1) all.0 (put_fit g os tid fs ss thread fit all.1)
 
-stacks_last : (g : Setting) (os now : List Object) → Lasts g os now → (ss : List Stack) → AllByRecursion (StackFits g os) ss → AllByRecursion (StackFits g now) ss
+pub stacks_last : (g : Setting) (os now : List Object) → Lasts g os now → (ss : List Stack) → AllByRecursion (StackFits g os) ss → AllByRecursion (StackFits g now) ss
 stacks_last g os now lasts [] all = tt
 stacks_last g os now lasts (s ∷ ss) all =
     (record { thread = all.0.thread; frames = frames_last g os now lasts None s.frames all.0.frames }, stacks_last g os now lasts ss all.1)
