@@ -29,3 +29,4 @@ pub mod ReadingFits
 pub mod ReceivingFits
 pub mod FeedingFits
 pub mod RootFits
+pub mod ReapingFits
