@@ -30,3 +30,4 @@ pub mod ReceivingFits
 pub mod FeedingFits
 pub mod RootFits
 pub mod ReapingFits
+pub mod OpeningFits
