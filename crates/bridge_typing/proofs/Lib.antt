@@ -31,3 +31,4 @@ pub mod FeedingFits
 pub mod RootFits
 pub mod ReapingFits
 pub mod OpeningFits
+pub mod StepFits
