@@ -111,7 +111,7 @@ body_by : (f : Ref → ℕ) (b : Bool) (x y : Effect) → effect_counts f x ≡ 
 body_by f true x y p q = p
 body_by f false x y p q = q
 
-body_counts : (f : Ref → ℕ) (reg : List Entity) (plan : Plan) (behaviour place : ℕ) (r : Running) → scene_counts f r.scene ≡ 0 → total f (plan_constants plan) ≡ 0
+pub body_counts : (f : Ref → ℕ) (reg : List Entity) (plan : Plan) (behaviour place : ℕ) (r : Running) → scene_counts f r.scene ≡ 0 → total f (plan_constants plan) ≡ 0
     → effect_counts f (body_effect reg plan behaviour place r) ≡ 0
 unfolding body_effect
 body_counts f reg plan behaviour place r scene constants =

@@ -156,7 +156,7 @@ query_lives g m live tid (peer oid face) wanted fs t target told alive = calls_p
 
 -- ---- new objects
 
-defaults_of_fields : (f : Ref → ℕ) (reg : List Entity) (fs : List Field) → total f (refs_of_values (map (λ x. default_of_kind reg x.kind) fs)) ≡ 0
+pub defaults_of_fields : (f : Ref → ℕ) (reg : List Entity) (fs : List Field) → total f (refs_of_values (map (λ x. default_of_kind reg x.kind) fs)) ≡ 0
 unfolding total
 defaults_of_fields f reg [] = values_none f
 defaults_of_fields f reg (x ∷ xs) =

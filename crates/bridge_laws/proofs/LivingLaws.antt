@@ -57,14 +57,14 @@ itself : (h : Hold) → one_if (is_hold h h) ≡ 1
 unfolding is_hold
 itself h = ap (λ o. one_if (is_eq o)) (tied_itself hold_order h)
 
-held_step : (g : Setting) (live : List ℕ → Bool) (who : Holder) (oid face : List ℕ) (rest : Hold → ℕ) (hs : Holdings) → held_strays g live hs ≡ 0
+pub held_step : (g : Setting) (live : List ℕ → Bool) (who : Holder) (oid face : List ℕ) (rest : Hold → ℕ) (hs : Holdings) → held_strays g live hs ≡ 0
     → ((h : Hold) → one_if (is_hold h (hold who (pair oid face))) + rest h ≤ times h hs) → one_if (is_stray g live oid) ≡ 0
 held_step g live who oid face rest hs none held =
     let one = itself (hold who (pair oid face)) in let here = held (hold who (pair oid face)) in
     held_unstray g live (hold who (pair oid face)) hs (omega arith) none
 
 -- references that are told, and held, live
-told_lives : (g : Setting) (live : List ℕ → Bool) (who : Holder) (rs : List Ref) (hs : Holdings) → held_strays g live hs ≡ 0 → AreHeld who rs hs
+pub told_lives : (g : Setting) (live : List ℕ → Bool) (who : Holder) (rs : List Ref) (hs : Holdings) → held_strays g live hs ≡ 0 → AreHeld who rs hs
     → total (strays g live) rs ≤ total (untold g) rs
 unfolding total strays untold ref_owes
 told_lives g live who [] hs none held = omega arith
@@ -82,7 +82,7 @@ told_lives g live who (peer oid face ∷ rs) hs none held =
 abbrev pub AllCovered : Setting → Side → Type 0
 AllCovered g s = (h : Hold) → SideCovers g h s
 
-method_held : (g : Setting) (tid : List ℕ) (b : Body) (fs : List Frame) (s : Side) → frames_of tid s.stacks ≡ body b ∷ fs → AllCovered g s → (h : Hold)
+pub method_held : (g : Setting) (tid : List ℕ) (b : Body) (fs : List Frame) (s : Side) → frames_of tid s.stacks ≡ body b ∷ fs → AllCovered g s → (h : Hold)
     → body_has g h b ≤ times h s.tables.holdings
 method_held g tid b fs s is covered h =
     let thread = thread_covers g tid h s (covered h) in
@@ -107,7 +107,7 @@ itself_lives g live b hs none held face =
     (held_step g live (holder.Frame b.number) (own_oid g b.object) b.face (λ h. refs_owe h (holder.Frame b.number) (refs_under b.variables)) hs none
     (λ h. let parts = body_parts g h b in let all = held h in omega arith))
 
-object_held : (n : ℕ) (o : Object) (os : List Object) → object_numbered n os ≡ Some o → (h : Hold) → object_has h o ≤ objects_have h os
+pub object_held : (n : ℕ) (o : Object) (os : List Object) → object_numbered n os ≡ Some o → (h : Hold) → object_has h o ≤ objects_have h os
 unfolding object_numbered objects_have
 object_held n o os found h =
     let one = refs_owe_is h (holder.Object o.number) (refs_of_values o.fields) in

@@ -38,7 +38,7 @@ often_step h k test rest hs true is more there =
 often_step h k test rest hs false is more there = let behind = more (omega arith) in omega arith
 
 -- an occurrence that is there passes where it counts
-often_passes : (h : Hold) (test : Hold → Bool) (hs : Holdings) → 1 ≤ how_often hold_cmp h hs → cond (test h) 1 0 ≤ how_many test hs
+pub often_passes : (h : Hold) (test : Hold → Bool) (hs : Holdings) → 1 ≤ how_often hold_cmp h hs → cond (test h) 1 0 ≤ how_many test hs
 often_passes h test [] there = absurd (omega arith)
 often_passes h test (k ∷ hs) there = often_step h k test (how_many test hs) hs (eq_by_cmp hold_cmp h k) refl (λ more. often_passes h test hs more) there
 

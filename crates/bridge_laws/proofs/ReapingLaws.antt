@@ -42,7 +42,7 @@ pub record MayGo (g : Setting) (t : Tables) (o : Object) : Type 0 where
   pub unheld : is_held_object (own_oid g o.number) t.holdings ≡ false
   pub unsent : has_stub (own_oid g o.number) t.stubs ≡ false
 
-lowest_may_go : (g : Setting) (t : Tables) (o : Object) → lowest g t ≡ Some o → MayGo g t o
+pub lowest_may_go : (g : Setting) (t : Tables) (o : Object) → lowest g t ≡ Some o → MayGo g t o
 unfolding lowest
 lowest_may_go g t o found =
     let all = and_parts (nat_lt (first_count g) o.number) (not (is_held_object (own_oid g o.number) t.holdings) && not (has_stub (own_oid g o.number) t.stubs))
@@ -164,7 +164,7 @@ gains_made who null t = refl
 gains_made who (own oid face) t = refl
 gains_made who (peer oid face) t = refl
 
-gains_all_made : (who : Holder) (rs : List Ref) (t : Tables) → (gains_all who rs t).objects_made ≡ t.objects_made
+pub gains_all_made : (who : Holder) (rs : List Ref) (t : Tables) → (gains_all who rs t).objects_made ≡ t.objects_made
 unfolding gains_all
 gains_all_made who [] t = refl
 gains_all_made who (r ∷ rs) t = gains_all_made who rs (gains who r t) ∙ gains_made who r t

@@ -13,6 +13,7 @@ pub mod Receiving
 pub mod References
 pub mod RootRuns
 pub mod Roots
+pub mod Saying
 pub mod Settings
 pub mod Sides
 pub mod Stacks

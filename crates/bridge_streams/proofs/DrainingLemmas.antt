@@ -13,7 +13,8 @@ use Rattle.urp_model.proofs.BlockLaws.{length-spell_block}
 use Rattle.bridge_model.specs.Answers.{is_some_piece}
 use Rattle.bridge_model.specs.Going.{Spelling, spells, spells_for, less_ready}
 use Rattle.bridge_model.specs.Sides.{Outgoing}
-use Rattle.bridge_streams.specs.Draining.{IsSayable, AreSayable, waiting_bytes, Drained}
+use Rattle.bridge_model.specs.Saying.{IsSayable, AreSayable}
+use Rattle.bridge_streams.specs.Draining.{waiting_bytes, Drained}
 use Rattle.bridge_streams.specs.Queues.{Queue, with_said}
 
 -- a block has eight bytes at least

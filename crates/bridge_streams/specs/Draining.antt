@@ -1,22 +1,11 @@
--- What goes out: which messages can be spelled, which bytes wait, and what a drain leaves.
-use Rattle.std.specs.Prelude.{◌≡◌, ℕ, ◌≤◌, List, [], ◌∷◌, ◌++◌}
+-- What goes out: which bytes wait, and what a drain leaves.
+use Rattle.std.specs.Prelude.{◌≡◌, ℕ, List, ◌++◌}
 use Rattle.message_model.specs.Messages.{Message}
-use Rattle.message_model.specs.Sayable.{MayBeSaid, message_weight}
 use Rattle.message_model.specs.WritingMessages.{messages_spelling}
 use Rattle.uno_model.specs.Entities.{Entity}
 use Rattle.bridge_model.specs.Going.{spells_for, less_ready}
 use Rattle.bridge_model.specs.Sides.{Outgoing}
 use Rattle.bridge_streams.specs.Queues.{Queue, with_said}
-
--- a message may be said, and is not too heavy for a block
-pub record IsSayable (reg : List Entity) (m : Message) : Type 0 where
-  pub may : MayBeSaid reg m
-  pub light : message_weight m ≤ 16777216
-
--- and so is each of these
-abbrev pub AreSayable : List Entity → List Message → Type 0
-AreSayable reg [] = Unit
-AreSayable reg (m ∷ ms) = IsSayable reg m × AreSayable reg ms
 
 -- all bytes that wait where these messages are not spelled
 abbrev pub waiting_bytes : List Entity → List Message → Outgoing → List ℕ

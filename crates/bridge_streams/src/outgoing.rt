@@ -8,7 +8,8 @@ ghost use Rattle.uno_model.specs.Entities.{Entity};
 ghost use Rattle.uno_model.specs.Sound.{IsSound};
 ghost use Rattle.urp_message.specs.Messages.{message_of};
 ghost use Rattle.urp_model.specs.Blocks.{spell_block};
-ghost use Rattle.bridge_streams.specs.Draining.{IsSayable, AreSayable, Drained, waiting_bytes};
+ghost use Rattle.bridge_model.specs.Saying.{IsSayable, AreSayable};
+ghost use Rattle.bridge_streams.specs.Draining.{Drained, waiting_bytes};
 ghost use Rattle.bridge_streams.specs.Queues.{nothing_unsaid, with_said};
 ghost use Rattle.bridge_streams.specs.Spoken.{spoken_by};
 

@@ -86,7 +86,7 @@ module _ (reg : List Entity) (sound : IsSound reg) (built : HasBuiltIn reg) wher
   root_first face is = (rooted reg face sound (interface_found reg built) is).0
 
   -- no interface has more than 65,536 functions
-  few : (face : List ℕ) → length (functions_of reg face) ≤ 65536
+  pub few : (face : List ℕ) → length (functions_of reg face) ≤ 65536
   few face = by_entity (find_entity face reg) refl
     where
       by_entity : (o : Option Entity) → find_entity face reg ≡ o → length (functions_of reg face) ≤ 65536

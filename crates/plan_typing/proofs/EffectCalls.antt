@@ -98,7 +98,7 @@ module _ (reg : List Entity) (sound : IsSound reg) (s : Scene) (ts : Types) (fit
 -- ---- interfaces
 
 -- an interface of the registry is there
-interface_there : (reg : List Entity) (face : List ℕ) → IsInterface reg face → is_there reg is_interface face ≡ true
+pub interface_there : (reg : List Entity) (face : List ℕ) → IsInterface reg face → is_there reg is_interface face ≡ true
 interface_there reg face is =
     let formed = (and_parts (is_formed reg (kd.interface face)) (is_namable (kd.interface face)) is).0 in
     (and_parts (kind_known reg (kd.interface face)) (elements_storable (kd.interface face)) formed).0

@@ -100,14 +100,14 @@ declares_is owner (interface bases members) f has = refl
 declares_is owner _ f has = absurd (omega (arith, has.1))
 
 module _ (reg : List Entity) (sound : IsSound reg) where
-  owner_type : (f : Function) → Contains (declared_at reg f.owner) f → IsInterface reg f.owner
+  pub owner_type : (f : Function) → Contains (declared_at reg f.owner) f → IsInterface reg f.owner
   owner_type f has = by_entity (find_entity f.owner reg) refl has
     where
       by_entity : (o : Option Entity) → find_entity f.owner reg ≡ o → Contains (declared_by f.owner o) f → IsInterface reg f.owner
       by_entity None found there = absurd (omega (arith, there.1))
       by_entity (Some e) found there = interface_type reg sound f.owner e found (declares_is f.owner e.body f there)
 
-  behaviour_fields : (plan : Plan) (n : ℕ) → IsTypedPlan reg plan → AllByRecursion (IsTypedField reg) (fields_of_behaviour (slice_get plan.behaviours n))
+  pub behaviour_fields : (plan : Plan) (n : ℕ) → IsTypedPlan reg plan → AllByRecursion (IsTypedField reg) (fields_of_behaviour (slice_get plan.behaviours n))
   behaviour_fields plan n typed = by_behaviour (slice_get plan.behaviours n) refl
     where
       by_behaviour : (o : Option Behaviour) → slice_get plan.behaviours n ≡ o → AllByRecursion (IsTypedField reg) (fields_of_behaviour o)

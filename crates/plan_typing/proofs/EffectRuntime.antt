@@ -54,3 +54,16 @@ module _ (reg : List Entity) (built : HasBuiltIn reg) where
   pub runtime_fits : (message : List ℕ) → Fits reg (v.any (kd.exception runtime_exception_name) (v.tuple runtime_exception_name (v.more (v.str message) (v.more (v.ref null) v.none)))) kd.any
   unfolding Fits FitEach
   runtime_fits message = (refl, (λ e. absurd (cc)), runtime_type, (inr refl, runtime_type, rw runtime_kinds (refl, (interface_type, tt))))
+
+  base_kinds : member_kinds reg exception_name ≡ kd.str ∷ (kd.interface x_interface_name ∷ [])
+  base_kinds =
+      let some = some_entity reg exception_name base_exception base_found in
+      ap (λ fs. map (λ f. f.kind) fs) (ap (λ n. members_within (suc n) reg exception_name) some.1 ∙ base_members (suc some.0))
+
+  base_type : is_type reg (kd.exception exception_name) ≡ true
+  base_type = rw base_found refl
+
+  -- the same of the base of all exceptions
+  pub base_fits : (message : List ℕ) → Fits reg (v.any (kd.exception exception_name) (v.tuple exception_name (v.more (v.str message) (v.more (v.ref null) v.none)))) kd.any
+  unfolding Fits FitEach
+  base_fits message = (refl, (λ e. absurd (cc)), base_type, (inr refl, base_type, rw base_kinds (refl, (interface_type, tt))))

@@ -1,6 +1,6 @@
 use Rattle.std.proofs.Common.{◌≡◌, length}
 use Rattle.bridge_model.specs.Going.{spells_for}
-use Rattle.bridge_streams.specs.Draining.{AreSayable}
+use Rattle.bridge_model.specs.Saying.{AreSayable}
 use Rattle.bridge_streams.specs.Queues.{with_said}
 use Rattle.bridge_streams.proofs.outgoing.Outgoing.spell_for.Given as goal
 
