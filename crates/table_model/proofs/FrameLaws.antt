@@ -1,5 +1,5 @@
 -- Holdings in two parts: what frames hold, and behind it what others do.
-use Rattle.std.proofs.Common.{◌≡◌, ℕ, ◌+◌, Bool, true, false, cond, not, ◌&&◌, ◌||◌, List, [], ◌∷◌, ◌++◌, refl, sym, ap, ◌∙◌, subst, arith}
+use Rattle.std.proofs.Common.{◌≡◌, ℕ, ◌+◌, ◌≤◌, Bool, true, false, cond, not, ◌&&◌, ◌||◌, List, [], ◌∷◌, ◌++◌, refl, sym, ap, ◌∙◌, subst, arith}
 use Rattle.std.proofs.lemmas.Bool.{true≢false}
 use Rattle.std.specs.Prelude.{T}
 use Rattle.std.specs.declared.cmp.Ordering.TheVariants.{Less, Greater}
@@ -7,18 +7,12 @@ use Rattle.std.specs.List.{filter, list_all, list_any}
 use Rattle.std.specs.Ordering.{is_gt, is_eq, eq_by_cmp}
 use Rattle.std.specs.Str.{bytes_eq}
 use Rattle.table_model.specs.Bags.{how_many, how_often, one_more, one_less}
-use Rattle.table_model.specs.Holdings.{Hold, Holdings, hold, hold_cmp, is_frame, is_of_frame, outlasts, without_holds, frames_without}
-use Rattle.table_model.specs.Pair.{Pair}
+use Rattle.table_model.specs.Holdings.{Hold, Holdings, hold, holder_cmp, hold_cmp, is_frame, is_of_frame, outlasts, are_frames, are_others, without_holds, frames_without, holders}
+use Rattle.table_model.specs.Pair.{Pair, is_pair}
 use Rattle.table_model.specs.declared.holder.Holder.{Holder}
 use Rattle.table_model.specs.declared.holder.Holder.TheVariants.{Frame, Object, Root}
 use Rattle.table_model.proofs.BagLaws.{how_many_append, any_one_more}
-
--- all of these are of frames, or none is
-abbrev pub are_frames : Holdings → Bool
-are_frames fs = list_all is_of_frame fs
-
-abbrev pub are_others : Holdings → Bool
-are_others os = list_all outlasts os
+use Rattle.table_model.proofs.HoldLaws.{is_hold_by_parts}
 
 first : (a b : Bool) → T (a && b) → T a
 first true b p = tt
@@ -193,3 +187,15 @@ frames_part oid (f ∷ fs) os frames others =
 -- one occurrence more holds its OID, and every other OID is held as before
 pub any_more : (oid : List ℕ) (h : Hold) (hs : Holdings) → list_any (λ h. bytes_eq oid h.pair.oid) (one_more hold_cmp h hs) ≡ (bytes_eq oid h.pair.oid || list_any (λ h. bytes_eq oid h.pair.oid) hs)
 any_more oid h hs = any_one_more hold_cmp (λ h. bytes_eq oid h.pair.oid) h hs
+
+-- a holder that has an occurrence of a pair is one of the pair's
+pub often_among : (h : Hold) (hs : Holdings) → how_often hold_cmp h hs ≤ holders h.pair hs
+often_among h [] = omega arith
+often_among h (k ∷ hs) =
+    let rest = often_among h hs in
+    ap_le (eq_by_cmp hold_cmp h k) (eq_by_cmp holder_cmp h.holder k.holder) (is_pair h.pair k.pair) (is_hold_by_parts h k) (how_often hold_cmp h hs) (holders h.pair hs) rest
+  where
+    ap_le : (c a b : Bool) → c ≡ (a && b) → (n m : ℕ) → n ≤ m → cond c 1 0 + n ≤ cond b 1 0 + m
+    ap_le c true b is n m le = subst (λ c. cond c 1 0 + n ≤ cond b 1 0 + m) (sym is) (omega arith)
+    ap_le c false true is n m le = subst (λ c. cond c 1 0 + n ≤ 1 + m) (sym is) (omega arith)
+    ap_le c false false is n m le = subst (λ c. cond c 1 0 + n ≤ 0 + m) (sym is) (omega arith)

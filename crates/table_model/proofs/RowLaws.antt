@@ -118,3 +118,24 @@ module _ {K X : Type 0} {cmp : K → K → Ordering} (order : IsTotalOrder cmp) 
   find_below [] h = refl
   find_below (row ∷ rows) h =
       elim (cmp k row.0) as (λ o. T (is_lt o && below_all cmp k rows) → cond (is_eq o) (Some row.1) (find cmp k rows) ≡ None) [ Less ↦ λ h. find_below rows h | Equal ↦ λ h. absurd h | Greater ↦ λ h. absurd h ] h
+
+module _ {K X : Type 0} {cmp : K → K → Ordering} (order : IsTotalOrder cmp) (P : K → X → Type 0) (row : K × X) (rows : List (K × X))
+    (all : (q : K) → IfSome (find cmp q (row ∷ rows)) (P q)) where
+  -- what holds of each value that is found holds of the first
+  pub first_found : P row.0 row.1
+  first_found = subst (λ b. IfSome (cond b (Some row.1) (find cmp row.0 rows)) (P row.0)) (ap is_eq (tied_itself order row.0)) (all row.0)
+
+  -- and of each that is found behind it
+  pub rest_found : IsAntisymmetric cmp → T (is_sorted cmp (row ∷ rows)) → (q : K) → IfSome (find cmp q rows) (P q)
+  rest_found same rises q =
+      elim (eq_by_cmp cmp q row.0) as (λ b. eq_by_cmp cmp q row.0 ≡ b → IfSome (cond b (Some row.1) (find cmp q rows)) (P q) → IfSome (find cmp q rows) (P q)) [
+        | true ↦ λ is _.
+            let none : find cmp q rows ≡ None =
+            ap (λ q. find cmp q rows) (same q row.0 ((Equal-is _).0 is)) ∙ find_below order row.0 rows (first_rises (below_all cmp row.0 rows) (is_sorted cmp rows) rises) in
+            subst (λ found. IfSome found (P q)) (sym none) tt
+        | false ↦ λ _ p. p
+      ] refl (all q)
+    where
+      first_rises : (a b : Bool) → T (a && b) → T a
+      first_rises true b p = tt
+      first_rises false b p = p

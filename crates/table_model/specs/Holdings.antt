@@ -1,7 +1,7 @@
 -- Holdings: who holds which pair, in rising order, one item for each occurrence.
 use Rattle.std.specs.Prelude.{ℕ, Bool, true, false, not, ◌&&◌, List, nat_lt}
 use Rattle.std.specs.declared.cmp.Ordering.{Ordering}
-use Rattle.std.specs.List.{filter}
+use Rattle.std.specs.List.{filter, list_all}
 use Rattle.std.specs.Ordering.{nat_cmp, then_cmp, on}
 use Rattle.std.specs.Str.{bytes_eq}
 use Rattle.table_model.specs.Bags.{how_many, how_often, one_more, one_less}
@@ -71,6 +71,14 @@ is_of_frame h = is_frame h.holder
 -- what frames hold goes at the end of a bridge, and all else stays
 abbrev pub outlasts : Hold → Bool
 outlasts h = not (is_of_frame h)
+
+-- all of these are of frames
+abbrev pub are_frames : Holdings → Bool
+are_frames holdings = list_all is_of_frame holdings
+
+-- none of these is
+abbrev pub are_others : Holdings → Bool
+are_others holdings = list_all outlasts holdings
 
 -- the holdings without those of an OID
 abbrev pub without_holds : List ℕ → Holdings → Holdings

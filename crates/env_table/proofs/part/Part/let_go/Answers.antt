@@ -4,7 +4,7 @@ use Rattle.table_model.proofs.BagLaws.{one_less_none}
 use Rattle.table_model.proofs.HoldLaws.{hold_order}
 use Rattle.env_table.proofs.Occurrences.{holders_are, times_are}
 use Rattle.env_table.proofs.RowChanges.{view_less, refused, answered}
-use Rattle.env_table.proofs.environment.Environment.let_go.Goals as goal
+use Rattle.env_table.proofs.part.Part.let_go.Goals as goal
 
 pub let_go-requires : goal.let_go-requires
 let_go-requires c = let times = c.times.ensures.times in omega arith

@@ -2,7 +2,7 @@ use Rattle.std.proofs.Common.{◌∙◌, ap, nat_eq, refl, subst, sym, ◌<◌, 
 use Rattle.table_model.specs.Holdings.{held}
 use Rattle.env_table.proofs.Occurrences.{holders_are}
 use Rattle.env_table.proofs.RowChanges.{view_more}
-use Rattle.env_table.proofs.environment.Environment.hold.Goals as goal
+use Rattle.env_table.proofs.part.Part.hold.Goals as goal
 
 pub hold-requires : goal.hold-requires
 hold-requires c = subst (λ n. n < 2 ^ 64 - 1) (sym (holders_are c.self.inside.pairs c.number-first.ensures.rises c.args.self.now c.self.view_is _ _ refl)) c.requires
