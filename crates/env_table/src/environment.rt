@@ -1,5 +1,5 @@
 //! The environment, which contracts see as its occurrences in rising order: those of frames, and behind them all others.
-ghost use Rattle.std.specs.Prelude.{◌≡◌, ℕ, ◌<◌, ◌&&◌, [], if◌then◌else◌, None, Some, nat_eq, length, IfOk, IfSome, IfNone, OnOk, OnErr};
+ghost use Rattle.std.specs.Prelude.{◌≡◌, ℕ, ◌<◌, ◌&&◌, [], if◌then◌else◌, None, Some, nat_eq, length, IfOk, IfSome, IfNone, OnOk, OnErr, option_map};
 ghost use Rattle.std.specs.List.{filter, list_any};
 ghost use Rattle.std.specs.Result.{result_ok};
 ghost use Rattle.std.specs.Str.{bytes_eq};
@@ -63,11 +63,11 @@ impl Environment {
         ensures gone { self.new ≡ let_go (hold holder (pair oid.now face.now)) self.old }
     {
         if is_frame(holder) {
-            let last = self.frames.let_go(holder, oid, face)?;
-            return Ok(alone(last, self.others.holders(oid, face)));
+            let gone = self.frames.let_go(holder, oid, face);
+            return last_of(gone, self.others.holders(oid, face));
         }
-        let last = self.others.let_go(holder, oid, face)?;
-        Ok(alone(last, self.frames.holders(oid, face)))
+        let gone = self.others.let_go(holder, oid, face);
+        last_of(gone, self.frames.holders(oid, face))
     }
 
     /// How many occurrences a pair has.
@@ -126,4 +126,14 @@ fn alone(test: bool, others: u64) -> bool
         return false;
     }
     others == 0
+}
+
+/// Whether what is gone was the last, where others have so many occurrences.
+fn last_of(gone: Result<bool, NotHeld>, others: u64) -> Result<bool, NotHeld>
+    ensures { result_ok result ≡ option_map (λ last. last && nat_eq others 0) (result_ok gone) }
+{
+    match gone {
+        Ok(last) => Ok(alone(last, others)),
+        Err(NotHeld) => Err(NotHeld),
+    }
 }

@@ -1,11 +1,12 @@
-use Rattle.std.proofs.Common.{◌∙◌, ap, nat_eq, refl, subst, sym, ◌<◌, ◌-◌, ◌^◌}
+use Rattle.std.proofs.Common.{◌∙◌, ap, nat_eq}
 use Rattle.table_model.specs.Holdings.{held}
 use Rattle.env_table.proofs.Occurrences.{holders_are}
+use Rattle.env_table.proofs.Parts.{held_more}
 use Rattle.env_table.proofs.RowChanges.{view_more}
 use Rattle.env_table.proofs.part.Part.hold.Goals as goal
 
-pub hold-requires : goal.hold-requires
-hold-requires c = subst (λ n. n < 2 ^ 64 - 1) (sym (holders_are c.self.inside.pairs c.number-first.ensures.rises c.args.self.now c.self.view_is _ _ refl)) c.requires
+pub invariant_of-self-2 : goal.invariant_of-self-2
+invariant_of-self-2 c = held_more c.args.holder _ c.self.inside.pairs c.hold.new.pairs c.self.invariant c.in_ok-hold.ensures.held
 
 pub returns-clause-held : goal.returns-clause-held
 returns-clause-held c = view_more c.args.holder _ c.self.inside.pairs c.hold.new.pairs c.number-first.ensures.rises c.in_ok-hold.ensures.held ∙ ap (held _) c.self.view_is

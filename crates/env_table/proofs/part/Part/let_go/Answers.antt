@@ -3,8 +3,12 @@ use Rattle.table_model.specs.Holdings.{let_go}
 use Rattle.table_model.proofs.BagLaws.{one_less_none}
 use Rattle.table_model.proofs.HoldLaws.{hold_order}
 use Rattle.env_table.proofs.Occurrences.{holders_are, times_are}
+use Rattle.env_table.proofs.Parts.{held_less}
 use Rattle.env_table.proofs.RowChanges.{view_less, refused, answered}
 use Rattle.env_table.proofs.part.Part.let_go.Goals as goal
+
+pub invariant_of-self : goal.invariant_of-self
+invariant_of-self c = held_less c.args.holder _ c.self.inside.pairs c.let_go.new.pairs c.self.invariant _ c.let_go.ensures.gone
 
 pub let_go-requires : goal.let_go-requires
 let_go-requires c = let times = c.times.ensures.times in omega arith
