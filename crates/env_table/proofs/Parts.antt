@@ -4,7 +4,6 @@ use Rattle.std.proofs.lemmas.List.Elements.{filter-append}
 use Rattle.std.proofs.lemmas.List.Folds.{list_any-append}
 use Rattle.std.specs.Prelude.{T}
 use Rattle.std.specs.FinMap.{find, put, is_sorted}
-use Rattle.std.specs.FinMap.Entries.{find-where_key}
 use Rattle.std.specs.List.{filter, list_any}
 use Rattle.std.specs.Str.{bytes_eq}
 use Rattle.table_model.specs.Bags.{bag_of, one_more}
@@ -13,8 +12,8 @@ use Rattle.table_model.specs.Pair.{Pair, pair_cmp, without_oid}
 use Rattle.table_model.specs.declared.holder.Holder.{Holder}
 use Rattle.table_model.proofs.BagLaws.{any_bag_of, bag_filter, fewer_left, length_one_more}
 use Rattle.table_model.proofs.HoldLaws.{hold_order, same_hold}
-use Rattle.table_model.proofs.PairLaws.{pair_order, same_pair}
-use Rattle.table_model.proofs.RowLaws.{all_put, all_without, first_found, rest_found}
+use Rattle.table_model.proofs.PairLaws.{pair_order, same_pair, other_oids}
+use Rattle.table_model.proofs.RowLaws.{all_put, all_where, all_without, first_found, rest_found}
 use Rattle.env_table.specs.Holders.{occurrences, all_occurrences, holders_at, with_holders}
 
 -- each pair that has a row has a holder
@@ -91,15 +90,7 @@ module _ (rows after : List (Pair × List Holder)) (holdings : List Hold) (is : 
         (fewer_left (λ h. bytes_eq oid h.pair.oid) holdings (sym (any_held oid true rises held (sym there))))
 
     pub held_without : AreHeld rows → AreHeld after
-    held_without held p =
-        subst (λ rows. IfSome (find pair_cmp p rows) (λ holders. 0 < length holders)) (sym gone)
-        (subst (λ found. IfSome found (λ holders. 0 < length holders))
-        (sym (find-where_key pair_cmp (λ q. not (bytes_eq oid q.oid)) p (λ x tied. ap (λ q. not (bytes_eq oid q.oid)) (sym (same_pair p x tied))) rows))
-        (kept (not (bytes_eq oid p.oid)) (find pair_cmp p rows) (held p)))
-      where
-        kept : (b : Bool) (found : Option (List Holder)) → IfSome found (λ holders. 0 < length holders) → IfSome (cond b found None) (λ holders. 0 < length holders)
-        kept true found h = h
-        kept false found h = tt
+    held_without held = subst AreHeld (sym gone) (all_where pair_order (λ holders. 0 < length holders) (record { oid = oid; face = [] }) rows held (λ p. not (bytes_eq oid p.oid)) (other_oids oid))
 
   -- wherever rows of an OID go, less is held
   pub fewer_some : (o : Option (List ℕ)) → T (is_sorted pair_cmp rows) → AreHeld rows → IfSome o (λ oid. after ≡ without_oid oid rows) → IfSome o (λ oid. list_any (λ row. bytes_eq oid row.0.oid) rows ≡ true)

@@ -7,7 +7,7 @@ use Rattle.std.specs.Ordering.{eq_by_cmp, is_eq, is_lt}
 use Rattle.std.specs.List.{list_any}
 use Rattle.std.specs.Cmp.{IsTotalOrder, Equal-is, eq_by_cmp_equiv, alike_right, tied_itself}
 use Rattle.std.specs.FinMap.{find, put, is_sorted, IsAntisymmetric}
-use Rattle.std.specs.FinMap.Entries.{by_order, below_all, is_sorted-put, is_sorted-where_key, find-put, find-where_key, same_entries}
+use Rattle.std.specs.FinMap.Entries.{by_order, below_all, is_sorted-put, is_sorted-where_key, find-put, find-where_key, same_entries, where_key}
 use Rattle.table_model.specs.Rows.{without, in_order}
 
 module _ {K X : Type 0} {cmp : K → K → Ordering} (order : IsTotalOrder cmp) where
@@ -80,6 +80,12 @@ module _ {K X : Type 0} {cmp : K → K → Ordering} (order : IsTotalOrder cmp) 
   -- what holds of each value holds of each after one that it holds of is put
   pub all_put : (v : X) → P v → (q : K) → IfSome (find cmp q (put cmp k v rows)) P
   all_put v p q = subst (λ found. IfSome found P) (sym (find-put cmp order q k v rows)) (either_way (λ found. IfSome found P) (eq_by_cmp cmp q k) (Some v) (find cmp q rows) p (all q))
+
+  -- and after those of some keys are gone
+  pub all_where : (test : K → Bool) → ((q x : K) → cmp q x ≡ Equal → test x ≡ test q) → (q : K) → IfSome (find cmp q (where_key cmp test rows)) P
+  all_where test alike q =
+      subst (λ found. IfSome found P) (sym (find-where_key cmp test q (alike q) rows))
+      (either_way (λ found. IfSome found P) (test q) (find cmp q rows) None (all q) tt)
 
   -- and after a row is gone
   pub all_without : (q : K) → IfSome (find cmp q (without cmp k rows)) P
