@@ -1,0 +1,4 @@
+mod Lists
+mod Marking
+mod Numbers
+pub mod TableLaws

@@ -4,6 +4,7 @@ ghost use Rattle.std.specs.Fmt.{decimal};
 ghost use Rattle.table_model.specs.Objects.{object};
 ghost use Rattle.bridge_objects.specs.Marks.{is_free, free_at, IsMarked, AreMarked};
 ghost use Rattle.bridge_objects.specs.Objects.{objects_of};
+ghost use Rattle.uno_values.specs.Values.{plain_of};
 
 use crate::naming;
 use env_table::Environment;
@@ -56,7 +57,7 @@ pub fn refresh(
     oid: &Text,
 )
     ensures marked { ((n : ℕ) → (oid.now ≡ prefix.now ++ decimal n → ⊥) → IsMarked (free_at prefix.now first environment.now stubs.now) store.old.rows n) → AreMarked (free_at prefix.now first environment.now stubs.now) store.new.rows }
-    ensures objects { objects_of store.new.rows ≡ objects_of store.old.rows }
+    ensures objects { objects_of plain_of store.new.rows ≡ objects_of plain_of store.old.rows }
     ensures made { store.new.made ≡ store.old.made }
 {
     let Some(number) = living(store, prefix, oid.as_str()) else {

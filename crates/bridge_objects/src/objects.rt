@@ -36,13 +36,18 @@ pub struct Objects {
 }
 
 impl Model for Objects {
+    ghost use Rattle.std.specs.Coded.{codes};
+    ghost use Rattle.call_stacks.specs.ValueCodes.{value_code};
     ghost use Rattle.bridge_objects.specs.Kept.{Kept};
     ghost use Rattle.bridge_objects.specs.Marks.{free_at, AreMarked};
     ghost use Rattle.bridge_objects.specs.Objects.{objects_of};
+    ghost use Rattle.uno_values.specs.Values.{plain_of};
 
     ghost Value = { Kept };
 
-    ghost view = { λ o. record { prefix = o.prefix; first = o.first; objects = objects_of o.store.rows; objects_made = o.store.made; holdings = o.environment; stubs = o.stubs } };
+    ghost coded = { Prim.hlevel (codes, value_code) };
+
+    ghost view = { λ o. record { prefix = o.prefix; first = o.first; objects = objects_of plain_of o.store.rows; objects_made = o.store.made; holdings = o.environment; stubs = o.stubs } };
 
     ghost invariant = { λ o. AreMarked (free_at o.prefix o.first o.environment o.stubs) o.store.rows };
 }

@@ -5,6 +5,7 @@ ghost use Rattle.table_model.specs.Holdings.{outlasts};
 ghost use Rattle.bridge_objects.specs.Kept.{ended};
 ghost use Rattle.bridge_objects.specs.Marks.{free_at, AreMarked};
 ghost use Rattle.bridge_objects.specs.Objects.{objects_of};
+ghost use Rattle.uno_values.specs.Values.{plain_of};
 
 use crate::{Objects, marks};
 use env_table::Environment;
@@ -44,7 +45,7 @@ fn end_frames(
 )
     requires { AreMarked (free_at prefix.now first environment.old stubs.now) store.old.rows }
     ensures marked { AreMarked (free_at prefix.now first environment.new stubs.now) store.new.rows }
-    ensures objects { objects_of store.new.rows ≡ objects_of store.old.rows }
+    ensures objects { objects_of plain_of store.new.rows ≡ objects_of plain_of store.old.rows }
     ensures made { store.new.made ≡ store.old.made }
     ensures gone { environment.new ≡ filter outlasts environment.old }
 {
@@ -63,7 +64,7 @@ fn end_stubs(
 )
     requires { AreMarked (free_at prefix.now first environment.now stubs.old) store.old.rows }
     ensures marked { AreMarked (free_at prefix.now first environment.now stubs.new) store.new.rows }
-    ensures objects { objects_of store.new.rows ≡ objects_of store.old.rows }
+    ensures objects { objects_of plain_of store.new.rows ≡ objects_of plain_of store.old.rows }
     ensures made { store.new.made ≡ store.old.made }
     ensures gone { stubs.new ≡ [] }
 {
