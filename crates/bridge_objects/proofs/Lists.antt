@@ -1,5 +1,5 @@
 -- The objects that rows stand for, beside the rows.
-use Rattle.std.proofs.Common.{◌≡◌, ℕ, suc, ◌+◌, ◌<◌, ◌≤◌, Bool, true, false, cond, not, ◌&&◌, ◌==◌, if◌then◌else◌, List, [], ◌∷◌, ◌++◌, map, Option, None, Some, IfSome, option_map, refl, sym, ap, ◌∙◌, subst, arith}
+use Rattle.std.proofs.Common.{◌≡◌, ℕ, suc, ◌+◌, ◌<◌, ◌≤◌, Bool, true, false, cond, not, ◌&&◌, ◌==◌, if◌then◌else◌, List, [], ◌∷◌, ◌++◌, map, Option, None, Some, IsSome, IfSome, IfNone, option_map, refl, sym, ap, ◌∙◌, subst, arith}
 use Rattle.std.proofs.lemmas.Bool.{true≢false}
 use Rattle.std.specs.Prelude.{T, nat_lt, nat_eq}
 use borrow.Author.Tests.{ltb-true}
@@ -9,6 +9,7 @@ use Rattle.std.specs.Cmp.{nat_cmp_total, tied_itself, unsigned_ties}
 use Rattle.std.specs.FinMap.{find, put, is_sorted, nat_cmp-IsAntisymmetric}
 use Rattle.std.specs.FinMap.Entries.{by_order, below_all}
 use Rattle.std.specs.List as list
+use Rattle.std.specs.Option.{is_some}
 use Rattle.std.specs.Ordering.{nat_cmp, eq_by_cmp, is_eq, is_lt}
 use Rattle.uno_model.specs.Values.{Plain}
 use Rattle.table_model.specs.Objects as model
@@ -30,6 +31,41 @@ second false b p = absurd p
 both : (a b : Bool) → T a → T b → T (a && b)
 both true b p q = q
 both false b p q = p
+
+-- ---- options
+
+-- what is there is one
+pub the_one : {X : Type 0} (o : Option X) → IsSome o → (x : X) × (o ≡ Some x)
+the_one (Some x) h = (x, refl)
+the_one None h = let bad : false ≡ true = h in cc
+
+pub some_one : {X : Type 0} (o : Option X) → is_some o ≡ true → (x : X) × (o ≡ Some x)
+some_one (Some x) h = (x, refl)
+some_one None h = absurd (true≢false (sym h))
+
+pub no_one : {X : Type 0} (o : Option X) → is_some o ≡ false → o ≡ None
+no_one (Some x) h = absurd (true≢false h)
+no_one None h = refl
+
+pub at_none : {A P : Type 0} (o : Option A) → P → IfNone o P
+at_none None p = p
+at_none (Some x) p = tt
+
+pub if_some : {A : Type 0} {P Q : A → Type 0} (o : Option A) → ((x : A) → P x → Q x) → IfSome o P → IfSome o Q
+if_some None f p = p
+if_some (Some x) f p = f x p
+
+pub if_none : {A : Type 0} {P Q : Type 0} (o : Option A) → (P → Q) → IfNone o P → IfNone o Q
+if_none None f p = f p
+if_none (Some x) f p = p
+
+pub either : {A : Type 0} {P : A → Type 0} {Q R : Type 0} (o : Option A) → ((x : A) → P x → R) → (Q → R) → IfSome o P → IfNone o Q → R
+either None f g p q = g q
+either (Some x) f g p q = f x p
+
+mapped_twice : {A B C : Type 0} (f : A → B) (g : B → C) (o : Option A) → option_map (λ x. g (f x)) o ≡ option_map g (option_map f o)
+mapped_twice f g None = refl
+mapped_twice f g (Some x) = refl
 
 -- ---- what is found
 
@@ -111,6 +147,12 @@ module _ {V : Type 0} (plain : V → Plain) where
   pub numbered_none : (n : ℕ) (rows : List (ℕ × model.Object V)) → find nat_cmp n rows ≡ None → object_numbered n (objects_of plain rows) ≡ None
   numbered_none n rows none =
       none_mapped (λ o. o.behaviour) _ (numbered_as (λ o. o.behaviour) (λ o. o.behaviour) (λ row. refl) n rows ∙ ap (option_map (λ o. o.behaviour)) none)
+
+  -- the fields of an object are those of its row
+  pub numbered_fields : (n : ℕ) (rows : List (ℕ × model.Object V)) (found : Option (List V)) → option_map (λ o. o.fields) (find nat_cmp n rows) ≡ found
+      → option_map (λ o. o.fields) (object_numbered n (objects_of plain rows)) ≡ option_map (map plain) found
+  numbered_fields n rows found is =
+      numbered_as (λ o. o.fields) (λ o. map plain o.fields) (λ row. refl) n rows ∙ mapped_twice (λ o. o.fields) (map plain) (find nat_cmp n rows) ∙ ap (option_map (map plain)) is
 
   -- ---- an object with other fields
 

@@ -21,7 +21,7 @@ use Rattle.table_model.specs.declared.stub.Stub.{Stub}
 use Rattle.table_model.proofs.FrameLaws.{any_more}
 use Rattle.table_model.proofs.HoldLaws.{same_hold}
 use Rattle.table_model.proofs.PairLaws.{same_pair}
-use Rattle.table_model.proofs.RowLaws.{any_put}
+use Rattle.table_model.proofs.RowLaws.{any_put, found_without}
 use Rattle.bridge_model.specs.Objects.{is_held_object, has_stub}
 use Rattle.bridge_objects.specs.Marks.{is_free, free_at, IsMarked, AreMarked}
 use Rattle.bridge_objects.proofs.Numbers.{one_number}
@@ -148,4 +148,31 @@ module _ {V : Type 0} (prefix : List ℕ) (first : ℕ) (rows : List (ℕ × mod
 
         other_row : (n : ℕ) → eq_by_cmp nat_cmp n k ≡ false → (found : Option (model.Object V)) → find nat_cmp n rows ≡ found → IfSome (find nat_cmp n rows) (λ o. o.may_go ≡ free_at prefix first hs ss n)
         other_row n other None none = subst (λ found. IfSome found (λ o. o.may_go ≡ free_at prefix first hs ss n)) (sym none) tt
-        other_row n other (Some o) there = others n (λ too. differs n other (one_number prefix oid n k (below n o there) (below k was found) too is))
+        other_row n other (Some o) there = others n (λ too. differs n k other (one_number prefix oid n k (below n o there) (below k was found) too is))
+
+module _ {V : Type 0} (free : ℕ → Bool) (k : ℕ) (rows : List (ℕ × model.Object V)) where
+  -- the marks of all but one object are right still, after that one is put
+  pub marked_put : (now : model.Object V) → AreMarked free rows → (n : ℕ) → (n ≡ k → ⊥) → IsMarked free (put nat_cmp k now rows) n
+  marked_put now marked n other =
+      subst (λ found. IfSome found (λ o. o.may_go ≡ free n)) (sym (find-put nat_cmp nat_cmp_total n k now rows))
+      (elim (eq_by_cmp nat_cmp n k) as (λ b. eq_by_cmp nat_cmp n k ≡ b → IfSome (cond b (Some now) (find nat_cmp n rows)) (λ o. o.may_go ≡ free n)) [
+        | true ↦ λ same. absurd (other (nat_cmp-IsAntisymmetric n k ((Equal-is _).0 same)))
+        | false ↦ λ _. marked n
+      ] refl)
+
+  -- and that one's, where its mark stays
+  pub marked_changed : (was now : model.Object V) → find nat_cmp k rows ≡ Some was → now.may_go ≡ was.may_go → AreMarked free rows → AreMarked free (put nat_cmp k now rows)
+  marked_changed was now found same marked n =
+      subst (λ found. IfSome found (λ o. o.may_go ≡ free n)) (sym (find-put nat_cmp nat_cmp_total n k now rows))
+      (elim (eq_by_cmp nat_cmp n k) as (λ b. eq_by_cmp nat_cmp n k ≡ b → IfSome (cond b (Some now) (find nat_cmp n rows)) (λ o. o.may_go ≡ free n)) [
+        | true ↦ λ is.
+            let one : n ≡ k = nat_cmp-IsAntisymmetric n k ((Equal-is _).0 is) in
+            same ∙ subst (λ found. IfSome found (λ o. o.may_go ≡ free k)) found (marked k) ∙ ap free (sym one)
+        | false ↦ λ _. marked n
+      ] refl)
+
+  -- the others' marks are right still, after an object is gone
+  pub marked_without : AreMarked free rows → AreMarked free (without nat_cmp k rows)
+  marked_without marked n =
+      subst (λ found. IfSome found (λ o. o.may_go ≡ free n)) (sym (found_without nat_cmp_total n k rows))
+      (elim (eq_by_cmp nat_cmp n k) as (λ b. IfSome (cond b None (find nat_cmp n rows)) (λ o. o.may_go ≡ free n)) [ true ↦ tt | false ↦ marked n ])

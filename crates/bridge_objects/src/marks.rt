@@ -1,5 +1,7 @@
 //! The marks of objects, which say which of them may go.
-ghost use Rattle.std.specs.Prelude.{◌≡◌, ◌++◌, ℕ, map, None, IsSome, IfSome, IfNone};
+ghost use Rattle.std.specs.Prelude.{◌≡◌, ◌++◌, ◌≤◌, ◌^◌, ℕ, T, None, IsSome, IfSome, IfNone};
+ghost use Rattle.std.specs.FinMap.{is_sorted};
+ghost use Rattle.std.specs.Ordering.{nat_cmp};
 ghost use Rattle.std.specs.Fmt.{decimal};
 ghost use Rattle.table_model.specs.Objects.{object};
 ghost use Rattle.bridge_objects.specs.Marks.{is_free, free_at, IsMarked, AreMarked};
@@ -16,6 +18,8 @@ use uno_entities::Text;
 pub fn living(store: &ObjectStore, prefix: &Text, oid: &str) -> Option<u32>
     ensures is { IfSome result (λ n. oid.now ≡ prefix.now ++ decimal n) }
     ensures lives { IfSome result (λ n. IsSome (object n store.now)) }
+    ensures few { (n : ℕ) → 2 ^ 32 ≤ n → object n store.now ≡ None }
+    ensures rises { T (is_sorted nat_cmp store.now.rows) }
     ensures none { IfNone result ((n : ℕ) → oid.now ≡ prefix.now ++ decimal n → object n store.now ≡ None) }
 {
     let made = store.made();

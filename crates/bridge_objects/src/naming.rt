@@ -20,6 +20,7 @@ pub fn oid_of(alloc: Global, prefix: &Text, number: u32) -> Result<Text, NoMemor
 /// The number of the object that has an identity.
 pub fn number_in(prefix: &str, oid: &str) -> Option<u32>
     ensures some { IfSome result (λ n. oid.now ≡ prefix.now ++ decimal n) }
+    ensures few { IfSome result (λ n. n < 2 ^ 32) }
     ensures none { IfNone result ((n : ℕ) → n < 2 ^ 32 → oid.now ≡ prefix.now ++ decimal n → ⊥) }
 {
     let digits = oid.strip_prefix(prefix)?;
@@ -29,6 +30,7 @@ pub fn number_in(prefix: &str, oid: &str) -> Option<u32>
 /// The number that is printed so.
 fn number_of(digits: &str) -> Option<u32>
     ensures some { IfSome result (λ n. digits.now ≡ decimal n) }
+    ensures few { IfSome result (λ n. n < 2 ^ 32) }
     ensures none { IfNone result ((n : ℕ) → n < 2 ^ 32 → digits.now ≡ decimal n → ⊥) }
 {
     let Ok(number) = digits.parse::<u32>() else {

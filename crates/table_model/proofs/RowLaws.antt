@@ -57,7 +57,8 @@ told_twice a true c is = ap (λ a. a || true) (sym is)
 told_twice a false c is = ap (λ a. a || c) (sym is)
 
 module _ {K X : Type 0} {cmp : K → K → Ordering} (same : IsAntisymmetric cmp) (test : K → Bool) where
-  any_put : (k : K) (v : X) (rows : List (K × X)) → list_any (λ row. test row.0) (put cmp k v rows) ≡ (test k || list_any (λ row. test row.0) rows)
+  -- whether a key passes a test, after a value is put
+  pub any_put : (k : K) (v : X) (rows : List (K × X)) → list_any (λ row. test row.0) (put cmp k v rows) ≡ (test k || list_any (λ row. test row.0) rows)
   any_put k v [] = refl
   any_put k v (row ∷ rows) =
       elim (cmp k row.0) as (λ o. cmp k row.0 ≡ o → list_any (λ row. test row.0) (by_order o ((k, v) ∷ row ∷ rows) ((row.0, v) ∷ rows) (row ∷ put cmp k v rows)) ≡ (test k || (test row.0 || list_any (λ row. test row.0) rows))) [
