@@ -1,16 +1,20 @@
 -- The objects that rows stand for, beside the rows.
-use Rattle.std.proofs.Common.{◌≡◌, ℕ, suc, ◌+◌, ◌<◌, ◌≤◌, Bool, true, false, cond, not, ◌&&◌, ◌==◌, if◌then◌else◌, List, [], ◌∷◌, ◌++◌, map, Option, None, Some, IsSome, IfSome, IfNone, option_map, refl, sym, ap, ◌∙◌, subst, arith}
+use Rattle.std.proofs.Common.{◌≡◌, ℕ, suc, ◌+◌, ◌<◌, ◌≤◌, ◌^◌, Bool, true, false, cond, not, ◌&&◌, ◌==◌, if◌then◌else◌, List, [], ◌∷◌, ◌++◌, map, Option, None, Some, IsSome, IfSome, IfNone, option_map, refl, sym, ap, ◌∙◌, subst, arith}
 use Rattle.std.proofs.lemmas.Bool.{true≢false}
 use Rattle.std.specs.Prelude.{T, nat_lt, nat_eq}
 use borrow.Author.Tests.{ltb-true}
 use Rattle.std.specs.declared.cmp.Ordering.{Ordering}
 use Rattle.std.specs.declared.cmp.Ordering.TheVariants.{Less, Equal, Greater}
-use Rattle.std.specs.Cmp.{nat_cmp_total, tied_itself, unsigned_ties}
+use Rattle.std.proofs.lemmas.Bool.Decides.{nat_tests}
+use Rattle.std.specs.Cmp.{nat_cmp_total, Equal-is, tied_itself, unsigned_ties}
+use Rattle.std.specs.Cmp.Lexicographic.{same_text, nat_list_eq_equiv}
 use Rattle.std.specs.FinMap.{find, put, is_sorted, nat_cmp-IsAntisymmetric}
 use Rattle.std.specs.FinMap.Entries.{by_order, below_all}
+use Rattle.std.specs.Fmt.{decimal}
 use Rattle.std.specs.List as list
 use Rattle.std.specs.Option.{is_some}
 use Rattle.std.specs.Ordering.{nat_cmp, eq_by_cmp, is_eq, is_lt}
+use Rattle.std.specs.Str.{bytes_eq}
 use Rattle.uno_model.specs.Values.{Plain}
 use Rattle.table_model.specs.Objects as model
 use Rattle.table_model.specs.Rows.{without}
@@ -19,6 +23,7 @@ use Rattle.bridge_model.specs.Objects.{object_numbered, with_fields, without_obj
 use Rattle.bridge_model.specs.Sides.{Object}
 use Rattle.bridge_objects.specs.Marks.{AreMarked}
 use Rattle.bridge_objects.specs.Objects.{object_of, objects_of}
+use Rattle.bridge_objects.proofs.Numbers.{one_number}
 
 first : (a b : Bool) → T (a && b) → T a
 first true b p = tt
@@ -261,3 +266,51 @@ module _ {V : Type 0} (plain : V → Plain) where
         | true ↦ refl
         | false ↦ rest
       ]
+
+-- ---- the object of an identity
+
+module _ {V : Type 0} (plain : V → Plain) (prefix oid : List ℕ) where
+  found_first : (row : ℕ × model.Object V) (rows : List (ℕ × model.Object V)) → find nat_cmp row.0 (row ∷ rows) ≡ Some row.1
+  found_first row rows = ap (λ o. cond (is_eq o) (Some row.1) (find nat_cmp row.0 rows)) (tied_itself nat_cmp_total row.0)
+
+  below : (n : ℕ) (rows : List (ℕ × model.Object V)) (x : model.Object V) → ((q : ℕ) → 2 ^ 32 ≤ q → find nat_cmp q rows ≡ None) → find nat_cmp n rows ≡ Some x → n < 2 ^ 32
+  below n rows x few found =
+      elim (nat_lt n (2 ^ 32)) as (λ b. nat_lt n (2 ^ 32) ≡ b → n < 2 ^ 32) [
+        | true ↦ λ less. ltb-true n (2 ^ 32) less
+        | false ↦ λ more. absurd (nothing x (sym (few n (at_least n (2 ^ 32) more)) ∙ found))
+      ] refl
+    where
+      at_least : (n m : ℕ) → nat_lt n m ≡ false → m ≤ n
+      at_least n m e = grind (arith, nat_tests)
+
+  -- is the one of its number
+  pub named_row : (n : ℕ) (was : model.Object V) → oid ≡ prefix ++ decimal n → (rows : List (ℕ × model.Object V)) → ((q : ℕ) → 2 ^ 32 ≤ q → find nat_cmp q rows ≡ None) → find nat_cmp n rows ≡ Some was
+      → option_map (λ o. o.number) (list.find (λ o. bytes_eq oid (prefix ++ decimal o.number)) (objects_of plain rows)) ≡ Some n
+  named_row n was is [] few found = absurd (nothing was found)
+  named_row n was is (row ∷ rows) few found =
+      elim (bytes_eq oid (prefix ++ decimal row.0)) as (λ b. bytes_eq oid (prefix ++ decimal row.0) ≡ b
+      → option_map (λ o. o.number) (cond b (Some (object_of plain row)) (list.find (λ o. bytes_eq oid (prefix ++ decimal o.number)) (objects_of plain rows))) ≡ Some n) [
+        | true ↦ λ same.
+            ap Some (one_number prefix oid row.0 n (below row.0 (row ∷ rows) row.1 few (found_first row rows)) (below n (row ∷ rows) was few found) (same_text oid (prefix ++ decimal row.0) (sym same)) is)
+        | false ↦ λ other. named_row n was is rows (λ q more. none_behind q row rows (few q more)) (some_behind n row rows was (elsewhere other) found)
+      ] refl
+    where
+      elsewhere : bytes_eq oid (prefix ++ decimal row.0) ≡ false → eq_by_cmp nat_cmp n row.0 ≡ false
+      elsewhere other =
+          elim (eq_by_cmp nat_cmp n row.0) as (λ b. eq_by_cmp nat_cmp n row.0 ≡ b → b ≡ false) [
+            | true ↦ λ same.
+                let here : n ≡ row.0 = is_same n row.0 ((Equal-is _).0 same) in
+                absurd (true≢false (sym (nat_list_eq_equiv.refl oid) ∙ ap (bytes_eq oid) (is ∙ ap (λ m. prefix ++ decimal m) here) ∙ other))
+            | false ↦ λ _. refl
+          ] refl
+
+  -- and none has it, where none of its numbers lives
+  pub named_none : (rows : List (ℕ × model.Object V)) → ((n : ℕ) → oid ≡ prefix ++ decimal n → find nat_cmp n rows ≡ None)
+      → option_map (λ o. o.number) (list.find (λ o. bytes_eq oid (prefix ++ decimal o.number)) (objects_of plain rows)) ≡ None
+  named_none [] none = refl
+  named_none (row ∷ rows) none =
+      elim (bytes_eq oid (prefix ++ decimal row.0)) as (λ b. bytes_eq oid (prefix ++ decimal row.0) ≡ b
+      → option_map (λ o. o.number) (cond b (Some (object_of plain row)) (list.find (λ o. bytes_eq oid (prefix ++ decimal o.number)) (objects_of plain rows))) ≡ None) [
+        | true ↦ λ same. absurd (nothing row.1 (sym (none row.0 (same_text oid (prefix ++ decimal row.0) (sym same))) ∙ found_first row rows))
+        | false ↦ λ _. named_none rows (λ n is. none_behind n row rows (none n is))
+      ] refl

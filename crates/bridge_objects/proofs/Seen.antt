@@ -1,6 +1,7 @@
 -- What is kept, as a store and its tables are seen.
-use Rattle.std.proofs.Common.{◌≡◌, ℕ, suc, ◌+◌, ◌-◌, ◌<◌, Bool, true, false, List, [], ◌∷◌, ◌++◌, map, Option, None, Some, option_map, refl, sym, ap, ◌∙◌, subst, arith}
+use Rattle.std.proofs.Common.{◌≡◌, ℕ, suc, ◌+◌, ◌-◌, ◌≤◌, ◌<◌, ◌^◌, Bool, true, false, List, [], ◌∷◌, ◌++◌, map, Option, None, Some, IsSome, IfSome, IfNone, option_map, refl, sym, ap, ◌∙◌, subst, arith}
 use Rattle.std.specs.Prelude.{T}
+use Rattle.std.specs.Fmt.{decimal}
 use Rattle.std.specs.FinMap.{find, put, is_sorted}
 use Rattle.std.specs.Option.{unwrap_or}
 use Rattle.std.specs.Ordering.{nat_cmp}
@@ -13,7 +14,7 @@ use Rattle.bridge_model.specs.Objects.{object_numbered, without_object}
 use Rattle.bridge_objects.specs.Kept.{Kept, numbered, named, lowest, number_of, behaviour_of, fields_of, with_made, unmade, with_object_fields, removed}
 use Rattle.bridge_objects.specs.Marks.{free_at, AreMarked}
 use Rattle.bridge_objects.specs.Objects.{objects_of}
-use Rattle.bridge_objects.proofs.Lists.{numbered_as, numbered_none, numbered_fields, fields_put, no_fields, put_last, without_row, without_last, without_none, lowest_marked}
+use Rattle.bridge_objects.proofs.Lists.{numbered_as, numbered_none, numbered_fields, fields_put, no_fields, put_last, without_row, without_last, without_none, lowest_marked, the_one, named_row, named_none}
 
 module _ {V : Type 0} (plain : V → Plain) (prefix : List ℕ) (first : ℕ) (holdings : Holdings) (stubs : Stubs) where
   -- what is kept of a store beside the rest
@@ -88,3 +89,12 @@ module _ {V : Type 0} (plain : V → Plain) (prefix : List ℕ) (first : ℕ) (h
     pub lowest_seen : T (is_sorted nat_cmp s.rows) → AreMarked (free_at prefix first holdings stubs) s.rows → model.lowest s.rows ≡ number_of (lowest k)
     unfolding lowest
     lowest_seen rises marked = lowest_marked plain (free_at prefix first holdings stubs) s.rows rises marked ∙ ap (λ k. number_of (lowest k)) is
+
+    -- the object of an identity
+    pub named_seen : (oid : List ℕ) (r : Option ℕ) → IfSome r (λ n. oid ≡ prefix ++ decimal n) → IfSome r (λ n. IsSome (model.object n s)) → ((n : ℕ) → 2 ^ 32 ≤ n → model.object n s ≡ None)
+        → IfNone r ((n : ℕ) → oid ≡ prefix ++ decimal n → model.object n s ≡ None) → r ≡ number_of (named oid k)
+    unfolding named
+    named_seen oid None here lives few none = sym (named_none plain prefix oid s.rows none) ∙ ap (λ k. number_of (named oid k)) is
+    named_seen oid (Some n) here lives few none =
+        let one = the_one (model.object n s) lives in
+        sym (named_row plain prefix oid n one.0 here s.rows few one.1) ∙ ap (λ k. number_of (named oid k)) is

@@ -182,6 +182,17 @@ frames_part oid (f ∷ fs) os frames others =
       | false ↦ ap (λ hs. f ∷ hs) (frames_part oid fs os (second _ _ frames) others)
     ]
 
+-- what frames hold of an OID is none of what stays at the end
+pub rest_outlasts : (oid : List ℕ) (hs : Holdings) → filter outlasts (frames_without oid hs) ≡ filter outlasts hs
+rest_outlasts oid [] = refl
+rest_outlasts oid (h ∷ hs) = left (is_of_frame h) (bytes_eq oid h.pair.oid) refl (rest_outlasts oid hs)
+  where
+    left : (b d : Bool) → is_of_frame h ≡ b → filter outlasts (frames_without oid hs) ≡ filter outlasts hs
+        → filter outlasts (cond (not (b && d)) (h ∷ frames_without oid hs) (frames_without oid hs)) ≡ cond (not b) (h ∷ filter outlasts hs) (filter outlasts hs)
+    left true true is rest = rest
+    left true false is rest = ap (λ b. cond (not b) (h ∷ filter outlasts (frames_without oid hs)) (filter outlasts (frames_without oid hs))) is ∙ rest
+    left false d is rest = ap (λ b. cond (not b) (h ∷ filter outlasts (frames_without oid hs)) (filter outlasts (frames_without oid hs))) is ∙ ap (λ hs. h ∷ hs) rest
+
 -- ---- an OID that is held
 
 -- one occurrence more holds its OID, and every other OID is held as before

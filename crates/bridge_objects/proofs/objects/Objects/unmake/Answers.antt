@@ -9,10 +9,9 @@ use Rattle.bridge_objects.proofs.objects.Objects.unmake.Goals as goal
 
 pub invariant_of-self : goal.invariant_of-self
 invariant_of-self c =
-    let marked = λ s. AreMarked (free_at c.self.inside.prefix c.self.inside.first c.self.inside.environment c.self.inside.stubs) s.rows in
-    either {R = marked c.unmake.new.self} c.unmake.result
-    (λ fields back. subst marked (sym back) (marked_without _ c.self.inside.store.made c.self.inside.store.rows c.self.invariant))
-    (λ same. subst marked (sym same) c.self.invariant) c.unmake.ensures.unmade c.unmake.ensures.kept
+    either {R = AreMarked (free_at c.self.inside.prefix c.self.inside.first c.self.inside.environment c.self.inside.stubs) c.unmake.new.self.rows} c.unmake.result
+    (λ fields back. subst (λ s. AreMarked (free_at c.self.inside.prefix c.self.inside.first c.self.inside.environment c.self.inside.stubs) s.rows) (sym back) (marked_without _ c.self.inside.store.made c.self.inside.store.rows c.self.invariant))
+    (λ same. subst (λ s. AreMarked (free_at c.self.inside.prefix c.self.inside.first c.self.inside.environment c.self.inside.stubs) s.rows) (sym same) c.self.invariant) c.unmake.ensures.unmade c.unmake.ensures.kept
 
 pub returns-clause-was : goal.returns-clause-was
 returns-clause-was c =
