@@ -5,12 +5,12 @@ use Rattle.std.specs.Str.{bytes_eq}
 use Rattle.message_model.specs.MessageNamings.{message_namings}
 use Rattle.message_model.specs.Messages.{Message, release}
 use Rattle.uno_model.specs.Values.{Ref, null, own, peer, Plain}
-use Rattle.table_model.specs.Holdings.{hold, Holdings}
+use Rattle.table_model.specs.Holdings.{hold, Holdings, outlasts}
 use Rattle.table_model.specs.Pair.{pair}
 use Rattle.table_model.specs.Stubs.{Stubs}
 use Rattle.table_model.specs.declared.holder.Holder.{Holder}
 use Rattle.table_model.specs.declared.holder.Holder.TheVariants as holder
-use Rattle.bridge_model.specs.Ends.{outlasts, tables_at_end}
+use Rattle.bridge_model.specs.Ends.{tables_at_end}
 use Rattle.bridge_model.specs.Objects.{object_named, makes_object, with_fields}
 use Rattle.bridge_model.specs.References.{counts_sent, says, releases, gains, gains_all, is_held, takes, takes_all, loses, loses_all, gives_back, holds_ref, lets_go, lets_go_all, refs_of_values}
 use Rattle.bridge_model.specs.Settings.{Setting, own_oid, release_tid}

@@ -4,14 +4,14 @@ use Rattle.std.specs.Ordering.{eq_by_cmp}
 use Rattle.std.specs.Cmp.{Equal-is}
 use Rattle.uno_model.specs.Values.{Ref, null, own, peer, Plain, refs}
 use Rattle.table_model.specs.Bags.{how_often}
-use Rattle.table_model.specs.Holdings.{Hold, hold, hold_cmp, holder_cmp, Holdings}
+use Rattle.table_model.specs.Holdings.{Hold, hold, hold_cmp, holder_cmp, Holdings, outlasts}
 use Rattle.table_model.specs.Pair.{pair, is_pair}
 use Rattle.table_model.specs.declared.holder.Holder.{Holder}
 use Rattle.table_model.specs.declared.holder.Holder.TheVariants as holder
 use Rattle.table_model.proofs.HoldLaws.{same_hold, is_hold_by_parts}
 use Rattle.plan_model.specs.Evaluation.{value_under}
 use Rattle.plan_model.specs.Holdings.{put, refs_under}
-use Rattle.bridge_model.specs.Ends.{outlasts, tables_at_end}
+use Rattle.bridge_model.specs.Ends.{tables_at_end}
 use Rattle.bridge_model.specs.Going.{reaps_object}
 use Rattle.bridge_model.specs.Objects.{object_numbered, fields_of, variables_of, makes_object, makes_default, defaults_of, makes_all, field_values, with_fields, may_go, lowest, without_object}
 use Rattle.bridge_model.specs.References.{refs_of_values}

@@ -1,9 +1,7 @@
 -- The end of a bridge: what its cause does to the stacks, to the roots that wait, and to what is held.
-use Rattle.std.specs.Prelude.{Bool, true, false, not, [], map, Option, None, Some}
+use Rattle.std.specs.Prelude.{[], map, Option, None, Some}
 use Rattle.std.specs.List.{filter}
-use Rattle.table_model.specs.Holdings.{Hold}
-use Rattle.table_model.specs.declared.holder.Holder.{Holder}
-use Rattle.table_model.specs.declared.holder.Holder.TheVariants as holder
+use Rattle.table_model.specs.Holdings.{outlasts}
 use Rattle.bridge_model.specs.Sides.{Outcome, disposed, no_memory, RootState, waits_call, waits_query, answered, Tables, nothing_came, nothing_goes, Side}
 use Rattle.bridge_model.specs.declared.cause.Cause.{Cause}
 use Rattle.bridge_model.specs.declared.cause.Cause.TheVariants as cause
@@ -20,16 +18,6 @@ state_at_end why (waits_query wanted) = answered (outcome_at_end why)
 state_at_end why s = s
 
 -- what frames hold goes, and nothing is released
-abbrev pub is_of_frame : Hold → Bool
-is_of_frame h = of_holder h.holder
-  where
-    of_holder : Holder → Bool
-    of_holder (holder.Frame n) = true
-    of_holder _ = false
-
-abbrev pub outlasts : Hold → Bool
-outlasts h = not (is_of_frame h)
-
 abbrev pub tables_at_end : Cause → Tables → Tables
 tables_at_end why t = record t { holdings = filter outlasts t.holdings; stubs = []; roots = map (state_at_end why) t.roots }
 

@@ -1,5 +1,5 @@
 //! The holders of one pair, which contracts see in rising order, each as often as it holds the pair.
-ghost use Rattle.std.specs.Prelude.{◌≡◌, ◌-◌, ◌<◌, ◌^◌, [], length, OnOk, OnErr};
+ghost use Rattle.std.specs.Prelude.{◌≡◌, ◌<◌, ◌^◌, [], length, OnOk, OnErr};
 ghost use Rattle.table_model.specs.Bags.{how_often, one_more, one_less};
 ghost use Rattle.table_model.specs.Holdings.{holder_cmp};
 
@@ -9,6 +9,9 @@ use std::marker::Model;
 use table_model::Holder;
 use uno_base::NoMemory;
 
+/// The most occurrences that a pair has among them.
+const MOST: u64 = 0x7FFF_FFFF_FFFF_FFFF;
+
 /// How often each holder holds the pair, and how often they all do.
 #[derive(Drop)]
 pub struct Holders {
@@ -17,7 +20,7 @@ pub struct Holders {
 }
 
 impl Model for Holders {
-    ghost use Rattle.std.specs.Prelude.{◌≡◌, List, length};
+    ghost use Rattle.std.specs.Prelude.{◌≡◌, ◌<◌, ◌^◌, List, length};
     ghost use Rattle.std.specs.List.{IsDistinct};
     ghost use Rattle.std.specs.Map.{keys_of};
     ghost use Rattle.table_model.specs.Bags.{bag_of};
@@ -29,7 +32,7 @@ impl Model for Holders {
 
     ghost view = { λ h. bag_of holder_cmp (spread h.times) };
 
-    ghost invariant = { λ h. IsDistinct ⟦<Holder as PartialEq>⟧.eq (keys_of h.times) × (h.number ≡ length (bag_of holder_cmp (spread h.times))) };
+    ghost invariant = { λ h. (IsDistinct ⟦<Holder as PartialEq>⟧.eq (keys_of h.times)) × (h.number ≡ length (bag_of holder_cmp (spread h.times))) × (h.number < 2 ^ 63) };
 }
 
 impl Holders {
@@ -46,7 +49,8 @@ impl Holders {
 
     /// How many occurrences they have.
     pub fn number(&self) -> u64
-        ensures { result ≡ length self.now }
+        ensures number { result ≡ length self.now }
+        ensures few { result < 2 ^ 63 }
     {
         self.number
     }
@@ -60,10 +64,12 @@ impl Holders {
 
     /// Counts an occurrence.
     pub fn hold(&mut self, alloc: Global, holder: Holder) -> Result<(), NoMemory>
-        requires { length self.old < 2 ^ 64 - 1 }
         ensures held { OnOk result (self.new ≡ one_more holder_cmp holder self.old) }
         ensures kept { OnErr result (self.new ≡ self.old) }
     {
+        if self.number >= MOST {
+            return Err(NoMemory);
+        }
         let times = self.times(holder);
         self.times.set(alloc, holder, times + 1)?;
         self.number += 1;

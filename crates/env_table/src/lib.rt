@@ -4,6 +4,7 @@
 mod environment;
 mod error;
 mod holders;
+mod part;
 mod rows;
 mod threads;
 mod times;

@@ -1,5 +1,5 @@
 //! The rows of an environment: each pair that is held, with its holders.
-ghost use Rattle.std.specs.Prelude.{◌≡◌, ℕ, ◌-◌, ◌<◌, ◌^◌, T, length, nat_eq, OnOk, OnErr};
+ghost use Rattle.std.specs.Prelude.{◌≡◌, ℕ, ◌<◌, ◌^◌, T, length, nat_eq, OnOk, OnErr};
 ghost use Rattle.std.specs.FinMap.{find, put, is_sorted};
 ghost use Rattle.table_model.specs.Bags.{how_often, one_more, one_less};
 ghost use Rattle.table_model.specs.Holdings.{holder_cmp};
@@ -16,6 +16,7 @@ use uno_entities::{Name, Text};
 /// How many occurrences a pair has.
 pub fn number(pairs: &PairMap<Holders>, oid: &Text, face: &Name) -> u64
     ensures number { result ≡ length (holders_at (pair oid.now face.now) pairs.now) }
+    ensures few { result < 2 ^ 63 }
     ensures rises { T (is_sorted pair_cmp pairs.now) }
 {
     let Some(holders) = pairs.get(oid, face) else {
@@ -43,7 +44,6 @@ pub fn hold(
     oid: &Text,
     face: &Name,
 ) -> Result<(), NoMemory>
-    requires { length (holders_at (pair oid.now face.now) pairs.old) < 2 ^ 64 - 1 }
     ensures held { OnOk result (pairs.new ≡ put pair_cmp (pair oid.now face.now) (one_more holder_cmp holder (holders_at (pair oid.now face.now) pairs.old)) pairs.old) }
     ensures kept { OnErr result (pairs.new ≡ pairs.old) }
 {

@@ -1,19 +1,21 @@
 -- A store is kept as it is to be, after each change.
-use Rattle.std.proofs.Common.{◌≡◌, ℕ, ◌+◌, ◌≤◌, ◌<◌, Bool, true, false, cond, List, length, vec_capacity, Option, None, Some, IsSome, IfNone, ◌-◌, refl, sym, ap, ◌∙◌, subst, arith}
+use Rattle.std.proofs.Common.{◌≡◌, ℕ, ◌+◌, ◌≤◌, ◌<◌, Bool, true, false, cond, List, length, vec_capacity, Option, None, Some, IsSome, IfNone, ◌-◌, nat_lt, refl, sym, ap, ◌∙◌, subst, arith}
 use Rattle.std.specs.Prelude.{T}
 use Rattle.std.specs.Option.{IsSomeAnd}
 use Rattle.std.proofs.lemmas.List.{length-map}
 use Rattle.std.specs.Global.{Vec}
 use Rattle.std.specs.BTreeMap.{BTreeMap, IsOrdered}
 use Rattle.std.specs.Cmp.{nat_cmp_total}
-use Rattle.std.specs.Ordering.{nat_cmp, eq_by_cmp}
+use Rattle.std.specs.Ordering.{nat_cmp, eq_by_cmp, is_eq}
 use Rattle.std.specs.FinMap.{find, put, is_sorted, nat_cmp-IsAntisymmetric}
 use Rattle.std.specs.FinMap.Entries.{find-put, is_sorted-where_key, same_entries}
-use Rattle.std.specs.Cmp.{Equal-is}
+use Rattle.std.specs.Cmp.{Equal-is, tied_itself}
+use Rattle.std.proofs.lemmas.Bool.Decides.{nat_tests}
+use borrow.Author.Tests.{ltb-true}
 use Rattle.table_model.specs.Objects as model
 use Rattle.table_model.specs.Marks.{set_mark, with_mark, without_mark, climbs}
 use Rattle.table_model.specs.Rows.{without}
-use Rattle.table_model.proofs.RowLaws.{found_without, put_same}
+use Rattle.table_model.proofs.RowLaws.{found_without, put_same, without_put}
 use Rattle.table_model.proofs.MarkLaws.{marked_put, marked_without, marked_climbs, marked_at_most}
 use Rattle.object_store.specs.Rows.{object_rows, IsKept}
 use Rattle.object_store.specs.declared.object.Object.{Object}
@@ -105,6 +107,28 @@ module _ {V : Type 0} (m n : BTreeMap ℕ (Object V)) (marks : Vec ℕ) (made : 
   pub same_mark : (k : ℕ) (o : model.Object V) → find nat_cmp k (object_rows m.entries) ≡ Some o → marks.items ≡ set_mark k o.may_go marks.items
   same_mark k o found = kept.marks_are ∙ marks_same (object_rows m.entries) (rows_rise m kept.ordered) k o found ∙ sym (ap (set_mark k o.may_go) kept.marks_are)
 
+module _ {V : Type 0} (m n : BTreeMap ℕ (Object V)) (marks after : Vec ℕ) (made : ℕ) (kept : IsKept m marks made) (left : IsKept n after made)
+    (is : object_rows n.entries ≡ without nat_cmp made (object_rows m.entries)) where
+  -- after the last object that was made is taken back
+  pub kept_unmade : IsKept n after (made - 1)
+  kept_unmade = record {
+    ordered = left.ordered;
+    given = λ q above. given_below q above (nat_lt made q) refl;
+    marks_are = left.marks_are;
+    room = left.room;
+  }
+    where
+      given_below : (q : ℕ) → made - 1 < q → (b : Bool) → nat_lt made q ≡ b → find nat_cmp q (object_rows n.entries) ≡ None
+      given_below q above true less = left.given q (ltb-true made q less)
+      given_below q above false more =
+          let same : q ≡ made = at_least q above more in
+          ap (find nat_cmp q) is ∙ found_without nat_cmp_total q made (object_rows m.entries)
+          ∙ ap (λ q. cond (eq_by_cmp nat_cmp q made) None (find nat_cmp q (object_rows m.entries))) same
+          ∙ ap (λ b. cond b None (find nat_cmp made (object_rows m.entries))) (ap is_eq (tied_itself nat_cmp_total made))
+        where
+          at_least : (q : ℕ) → made - 1 < q → nat_lt made q ≡ false → q ≡ made
+          at_least q above more = grind (arith, nat_tests)
+
 -- a map has as many rows as entries
 pub length_rows : {V : Type 0} (es : List (ℕ × Object V)) → length (object_rows es) ≡ length es
 length_rows es = length-map es _
@@ -133,6 +157,22 @@ module _ {V : Type 0} (made : ℕ) (rows after : List (ℕ × model.Object V)) (
   pub made_outside : (behaviour : ℕ) (fields : List V) → after ≡ put nat_cmp (made + 1) (record { behaviour = behaviour; fields = fields; may_go = false }) rows → ◌≡◌ {A = model.Objects V} (record { made = made + 1; rows = after }) (model.made_one behaviour fields objects)
   made_outside behaviour fields put_in = (λ i. record { made = made + 1; rows = put_in i }) ∙ ap (model.made_one behaviour fields) is
 
+  pub unmade_outside : after ≡ without nat_cmp made rows → ◌≡◌ {A = model.Objects V} (record { made = made - 1; rows = after }) (model.unmade objects)
+  unmade_outside gone = (λ i. record { made = made - 1; rows = gone i }) ∙ ap model.unmade is
+
+  -- one that was made and is taken back leaves all as it was
+  pub back_outside : (o : model.Object V) → T (is_sorted nat_cmp rows) → find nat_cmp (made + 1) rows ≡ None → after ≡ put nat_cmp (made + 1) o rows
+      → ◌≡◌ {A = model.Objects V} (model.unmade (record { made = made + 1; rows = after })) objects
+  back_outside o rises none put_in =
+      let less : (made + 1) - 1 ≡ made = omega arith in
+      (λ i. record { made = less i; rows = without nat_cmp (made + 1) (put_in i) })
+      ∙ (λ i. record { made = made; rows = without_put nat_cmp_total (made + 1) o rows i })
+      ∙ (λ i. record { made = made; rows = gone_already rows rises (made + 1) none i })
+      ∙ is
+
+  pub rises_outside : T (is_sorted nat_cmp rows) → T (is_sorted nat_cmp objects.rows)
+  rises_outside rises = subst (λ s. T (is_sorted nat_cmp s.rows)) is rises
+
   pub removed_outside : (k : ℕ) → after ≡ without nat_cmp k rows → ◌≡◌ {A = model.Objects V} (record { made = made; rows = after }) (model.removed k objects)
   removed_outside k gone = (λ i. record { made = made; rows = gone i }) ∙ ap (model.removed k) is
 
@@ -146,3 +186,8 @@ module _ {V : Type 0} (made : ℕ) (rows after : List (ℕ × model.Object V)) (
 pub at_none : {A P : Type 0} (o : Option A) → P → IfNone o P
 at_none None p = p
 at_none (Some x) p = tt
+
+-- whatever was asked, what holds holds where nothing is answered
+pub none_made : {A P : Type 0} (Q : Type 0) (o : Option A) → P → IfNone o (Q → P)
+none_made Q None p = λ _. p
+none_made Q (Some x) p = tt

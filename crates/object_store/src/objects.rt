@@ -39,3 +39,22 @@ pub fn set_may_go<V>(objects: &mut BTreeMap<u32, Object<V>>, number: u32, may_go
     };
     object.may_go = may_go;
 }
+
+/// Gives an object other fields, and gives back the old ones.
+pub fn replace_fields<V>(
+    objects: &mut BTreeMap<u32, Object<V>>,
+    number: u32,
+    fields: Vec<V>,
+) -> Vec<V>
+    requires there { IsSome (find nat_cmp number (object_rows objects.old.entries)) }
+    requires ordered { IsOrdered nat_cmp objects.old }
+    ensures was { (o : model.Object V) → find nat_cmp number (object_rows objects.old.entries) ≡ Some o → result.items ≡ o.fields }
+    ensures set { (o : model.Object V) → find nat_cmp number (object_rows objects.old.entries) ≡ Some o → object_rows objects.new.entries ≡ put nat_cmp number (record o { fields = fields.items }) (object_rows objects.old.entries) }
+    ensures ordered { IsOrdered nat_cmp objects.new }
+    ensures count { length objects.new.entries ≡ length objects.old.entries }
+{
+    let Some(object) = objects.get_mut(&number) else {
+        unreachable!()
+    };
+    mem::replace(&mut object.fields, fields)
+}

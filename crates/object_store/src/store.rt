@@ -1,8 +1,10 @@
 //! The store of objects, which contracts see as rows in rising order of their numbers.
-ghost use Rattle.std.specs.Prelude.{◌≡◌, ℕ, ◌+◌, ◌-◌, ◌<◌, ◌^◌, length, set, get_or, None, Some, IsSome, IfSome, IfNone, IfOk, OnOk, OnErr, option_map};
+ghost use Rattle.std.specs.Prelude.{◌≡◌, ℕ, ◌+◌, ◌-◌, ◌<◌, ◌^◌, T, length, set, get_or, None, Some, IsSome, IfSome, IfNone, IfOk, OnOk, OnErr, option_map};
+ghost use Rattle.std.specs.FinMap.{is_sorted};
 ghost use Rattle.std.specs.Option.{IsSomeAnd};
+ghost use Rattle.std.specs.Ordering.{nat_cmp};
 ghost use Rattle.table_model.specs.Objects as model;
-ghost use Rattle.table_model.specs.Objects.{no_objects, object, made_one, changed, removed, lowest};
+ghost use Rattle.table_model.specs.Objects.{no_objects, object, made_one, unmade, changed, removed, lowest};
 
 use crate::object::Object;
 use crate::{marks, objects};
@@ -51,6 +53,7 @@ impl<V: Drop> Store<V> {
         requires { self.old.made < 2 ^ 32 - 1 }
         ensures number { IfOk result (λ number. number ≡ self.old.made + 1) }
         ensures made { OnOk result (self.new ≡ made_one behaviour fields.items self.old) }
+        ensures back { OnOk result (unmade self.new ≡ self.old) }
         ensures kept { OnErr result (self.new ≡ self.old) }
     {
         let number = self.made + 1;
@@ -68,11 +71,28 @@ impl<V: Drop> Store<V> {
         Ok(number)
     }
 
+    /// Takes back the last object that was made, where one was made and it lives, and gives its fields.
+    pub fn unmake(&mut self) -> Option<Vec<V>>
+        ensures was { IfSome result (λ fields. option_map (λ o. o.fields) (object self.old.made self.old) ≡ Some fields.items) }
+        ensures unmade { IfSome result (λ fields. self.new ≡ unmade self.old) }
+        ensures none { IfNone result (0 < self.old.made → object self.old.made self.old ≡ None) }
+        ensures kept { IfNone result (self.new ≡ self.old) }
+    {
+        if self.made == 0 {
+            return None;
+        }
+        let object = self.objects.remove(&self.made)?;
+        marks::unmark(&mut self.marks, self.made);
+        self.made -= 1;
+        Some(object.fields)
+    }
+
     /// The behaviour and the fields of an object.
     pub fn object(&self, number: u32) -> Option<(u32, &[V])>
         ensures found { IfSome result (λ r. option_map (λ o. o.behaviour) (object number self.now) ≡ Some r.0) }
         ensures fields { IfSome result (λ r. option_map (λ o. o.fields) (object number self.now) ≡ Some r.1.now) }
         ensures none { IfNone result (object number self.now ≡ None) }
+        ensures rises { T (is_sorted nat_cmp self.now.rows) }
     {
         let object = self.objects.get(&number)?;
         Some((object.behaviour, object.fields.as_slice()))
@@ -85,6 +105,15 @@ impl<V: Drop> Store<V> {
         ensures set { (o : model.Object V) → object number self.old ≡ Some o → self.new ≡ changed number (record o { fields = set o.fields place value }) self.old }
     {
         objects::set_field(&mut self.objects, number, place, value)
+    }
+
+    /// Gives an object other fields, and gives back the old ones.
+    pub fn replace_fields(&mut self, number: u32, fields: Vec<V>) -> Vec<V>
+        requires { IsSome (object number self.old) }
+        ensures was { (o : model.Object V) → object number self.old ≡ Some o → result.items ≡ o.fields }
+        ensures set { (o : model.Object V) → object number self.old ≡ Some o → self.new ≡ changed number (record o { fields = fields.items }) self.old }
+    {
+        objects::replace_fields(&mut self.objects, number, fields)
     }
 
     /// Says of an object whether it may go.
@@ -115,14 +144,17 @@ impl<V: Drop> Store<V> {
 
     /// The lowest marked object.
     pub fn lowest(&self) -> Option<u32>
-        ensures { result ≡ lowest self.now.rows }
+        ensures lowest { result ≡ lowest self.now.rows }
+        ensures rises { T (is_sorted nat_cmp self.now.rows) }
     {
         marks::lowest(&self.marks)
     }
 
     /// How many objects were made.
     pub fn made(&self) -> u32
-        ensures { result ≡ self.now.made }
+        ensures made { result ≡ self.now.made }
+        ensures rises { T (is_sorted nat_cmp self.now.rows) }
+        ensures given { (n : ℕ) → self.now.made < n → object n self.now ≡ None }
     {
         self.made
     }

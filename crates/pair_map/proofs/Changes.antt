@@ -89,6 +89,14 @@ module _ {X Y Z S : Type 0} (m n : HashMap (String Y) (Rows X Z) S) (oid : List 
   emptied up bare =
       kept_at (others_stay None up) (λ g. ap (λ faces. at_face faces g) up.1 ∙ bare_at (get_by_text m oid) g bare)
 
+  -- an OID that is taken out has nothing at its pairs, and all else stays
+  pub taken : SetsRows m n oid None → (q : Pair) → at_pair n q ≡ cond (bytes_eq oid q.oid) None (at_pair m q)
+  taken up q =
+      elim (bytes_eq oid q.oid) as (λ a. bytes_eq oid q.oid ≡ a → at_pair n q ≡ cond a None (at_pair m q)) [
+        | true ↦ λ is. ap (λ faces. at_face faces q.face) (subst (λ o. get_by_text n o ≡ None) (same_text oid q.oid (sym is)) up.1)
+        | false ↦ λ is. ap (λ faces. at_face faces q.face) (others_stay None up q.oid is)
+      ] refl
+
   -- the first face of an OID is a change at the pair
   pub begun : (face : List ℕ) (key : String Z) (v : X) → string_bytes key ≡ face
       → (b : Rows X Z) → b ≡ (key, v) ∷ [] → get_by_text m oid ≡ None → SetsRows m n oid (Some b)

@@ -1,4 +1,5 @@
 mod Changes
 mod Reading
+mod Taking
 mod Updates
 mod Views

@@ -1,15 +1,16 @@
 -- The map of pairs as rows in order, before and after a change.
-use Rattle.std.proofs.Common.{◌≡◌, ℕ, cond, List, Option, None, Some, sym, ap, ◌∙◌}
+use Rattle.std.proofs.Common.{◌≡◌, ℕ, Bool, true, false, cond, not, List, [], Option, None, Some, refl, sym, ap, ◌∙◌, subst}
 use Rattle.std.specs.HashMap.{HashMap, IsUnique}
 use Rattle.std.specs.List.{list_any}
 use Rattle.std.specs.Str.{bytes_eq}
 use Rattle.std.specs.String.{string_eq}
 use Rattle.std.specs.declared.string.String.{String}
 use Rattle.std.specs.FinMap.{find, put}
-use Rattle.table_model.specs.Pair.{Pair, pair, pair_cmp, is_pair}
+use Rattle.std.specs.FinMap.Entries.{is_sorted-where_key, find-where_key, same_entries}
+use Rattle.table_model.specs.Pair.{Pair, pair, pair_cmp, is_pair, without_oid}
 use Rattle.table_model.specs.Rows.{in_order, without}
 use Rattle.table_model.proofs.PairLaws.{pair_order, same_pair}
-use Rattle.table_model.proofs.RowLaws.{found_in_order, in_order_put, in_order_without, in_order_same, any_in_order}
+use Rattle.table_model.proofs.RowLaws.{found_in_order, in_order_rises, in_order_put, in_order_without, in_order_same, any_in_order}
 use Rattle.pair_map.specs.ByOid.{at_pair, pair_rows}
 use Rattle.pair_map.specs.Faces.{Rows}
 use Rattle.pair_map.proofs.Reading.{found_rows}
@@ -58,3 +59,25 @@ pub any_at : {X Y Z S : Type 0} (m : HashMap (String Y) (Rows X Z) S) (rows : Li
 any_at m rows is o oid same =
     any_in_order same_pair (λ p. bytes_eq o p.oid) (pair_rows m.entries)
     ∙ (λ i. list_any (λ row. bytes_eq (same i) row.0.oid) (is i))
+
+turned : {X : Type 0} (b : Bool) (x y : Option X) → cond (not b) x y ≡ cond b y x
+turned true x y = refl
+turned false x y = refl
+
+-- maps of which the second lacks one OID have rows of which the second lacks it
+pub taken_at : {X Y Z S : Type 0} (m n : HashMap (String Y) (Rows X Z) S) (rows : List (Pair × X)) (o oid : List ℕ)
+    → IsUnique string_eq m → IsUnique string_eq n → in_order pair_cmp (pair_rows m.entries) ≡ rows → o ≡ oid
+    → ((r : Pair) → at_pair n r ≡ cond (bytes_eq o r.oid) None (at_pair m r))
+    → in_order pair_cmp (pair_rows n.entries) ≡ without_oid oid rows
+taken_at m n rows o oid unique unique_after is same change =
+    same_entries pair_cmp pair_order same_pair _ _ (in_order_rises pair_order (pair_rows n.entries))
+    (is_sorted-where_key pair_cmp (λ p. not (bytes_eq o p.oid)) _ (in_order_rises pair_order (pair_rows m.entries)))
+    (λ q. found_in_order pair_order q (pair_rows n.entries) ∙ found_rows q n.entries unique_after ∙ change q
+    ∙ ap (cond (bytes_eq o q.oid) None) (sym (found_rows q m.entries unique) ∙ sym (found_in_order pair_order q (pair_rows m.entries)))
+    ∙ sym (turned (bytes_eq o q.oid) _ _)
+    ∙ sym (find-where_key pair_cmp (λ p. not (bytes_eq o p.oid)) q (λ x tied. ap (λ p. not (bytes_eq o p.oid)) (sym (same_pair q x tied))) (in_order pair_cmp (pair_rows m.entries))))
+    ∙ (λ i. without_oid (same i) (is i))
+
+-- a list in order without items has none
+pub none_in_order : {X : Type 0} (xs rows : List (Pair × X)) → in_order pair_cmp xs ≡ rows → xs ≡ [] → rows ≡ []
+none_in_order xs rows is none = sym is ∙ ap (in_order pair_cmp) none

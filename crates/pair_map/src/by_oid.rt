@@ -1,5 +1,5 @@
 //! A map from OIDs to the faces of each, read and changed at one pair.
-ghost use Rattle.std.specs.Prelude.{◌≡◌, None, Some, cond, OnOk, OnErr, IsSome, IfSome, IsTrue, length, option_copied};
+ghost use Rattle.std.specs.Prelude.{◌≡◌, ◌<◌, [], true, false, None, Some, cond, OnOk, OnErr, IsSome, IfSome, IfNone, IsTrue, length, option_copied, string_bytes};
 ghost use Rattle.indexmap.specs.IndexMap.{IsUnique};
 ghost use Rattle.std.specs.HashMap.{get_by_text};
 ghost use Rattle.std.specs.List.{list_any};
@@ -106,4 +106,36 @@ fn drop_bare<V: Drop>(by_oid: &mut ByOid<V>, oid: &str)
     ensures unique { IsUnique string_eq by_oid.new }
 {
     by_oid.swap_remove(oid);
+}
+
+/// Takes out some OID with all its faces, and gives it.
+pub fn take_oid<V: Drop>(by_oid: &mut ByOid<V>) -> Option<String>
+    requires { IsUnique string_eq by_oid.old }
+    ensures gone { IfSome result (λ oid. (q : Pair) → at_pair by_oid.new q ≡ cond (bytes_eq (string_bytes oid) q.oid) None (at_pair by_oid.old q)) }
+    ensures some { IfSome result (λ oid. list_any (λ row. bytes_eq (string_bytes oid) row.0.oid) (pair_rows by_oid.old.entries) ≡ true) }
+    ensures none { IfNone result (pair_rows by_oid.old.entries ≡ []) }
+    ensures kept { IfNone result (pair_rows by_oid.new.entries ≡ []) }
+    ensures unique { IsUnique string_eq by_oid.new }
+{
+    while let Some((oid, bare)) = take_last(by_oid) {
+        if !bare {
+            return Some(oid);
+        }
+    }
+    None
+}
+
+/// Takes out an OID with its faces, and tells whether it has none.
+fn take_last<V: Drop>(by_oid: &mut ByOid<V>) -> Option<(String, bool)>
+    ensures gone { IfSome result (λ r. (q : Pair) → at_pair by_oid.new q ≡ cond (bytes_eq (string_bytes r.0) q.oid) None (at_pair by_oid.old q)) }
+    ensures bare { IfSome result (λ r. r.1 ≡ true → pair_rows by_oid.new.entries ≡ pair_rows by_oid.old.entries) }
+    ensures some { IfSome result (λ r. r.1 ≡ false → list_any (λ row. bytes_eq (string_bytes r.0) row.0.oid) (pair_rows by_oid.old.entries) ≡ true) }
+    ensures fewer { IfSome result (λ r. length by_oid.new.entries < length by_oid.old.entries) }
+    ensures none { IfNone result (by_oid.old.entries ≡ []) }
+    ensures kept { IfNone result (by_oid.new.entries ≡ []) }
+    ensures unique { IsUnique string_eq by_oid.new }
+{
+    let (oid, faces) = by_oid.pop()?;
+    let bare = faces.is_empty();
+    Some((oid, bare))
 }

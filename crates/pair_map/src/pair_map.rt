@@ -1,9 +1,9 @@
 //! The map itself, as rows in rising order of their pairs.
-ghost use Rattle.std.specs.Prelude.{◌≡◌, [], None, Some, OnOk, OnErr, IsSome, T, option_copied};
+ghost use Rattle.std.specs.Prelude.{◌≡◌, [], true, None, Some, OnOk, OnErr, IsSome, IfSome, IfNone, T, option_copied};
 ghost use Rattle.std.specs.FinMap.{find, put, is_sorted};
 ghost use Rattle.std.specs.List.{list_any};
 ghost use Rattle.std.specs.Str.{bytes_eq};
-ghost use Rattle.table_model.specs.Pair.{pair, pair_cmp};
+ghost use Rattle.table_model.specs.Pair.{pair, pair_cmp, without_oid};
 ghost use Rattle.table_model.specs.Rows.{without};
 
 use crate::by_oid::{self, ByOid};
@@ -56,7 +56,8 @@ impl<V> PairMap<V> {
 
     /// Whether a pair with this OID is there.
     pub fn has_oid(&self, oid: &Text) -> bool
-        ensures { result ≡ list_any (λ row. bytes_eq oid.now row.0.oid) self.now }
+        ensures any { result ≡ list_any (λ row. bytes_eq oid.now row.0.oid) self.now }
+        ensures rises { T (is_sorted pair_cmp self.now) }
     {
         by_oid::has_oid(&self.by_oid, oid.as_str())
     }
@@ -93,5 +94,17 @@ impl<V: Drop> PairMap<V> {
         ensures without { self.new ≡ without pair_cmp (pair oid.now face.now) self.old }
     {
         by_oid::remove(&mut self.by_oid, oid.as_str(), face.as_str())
+    }
+
+    /// Takes out some OID with all its faces, and gives it; nothing where no pair is there.
+    pub fn take_oid(&mut self) -> Option<Text>
+        ensures gone { IfSome result (λ oid. self.new ≡ without_oid oid self.old) }
+        ensures some { IfSome result (λ oid. list_any (λ row. bytes_eq oid row.0.oid) self.old ≡ true) }
+        ensures none { IfNone result (self.old ≡ []) }
+        ensures kept { IfNone result (self.new ≡ []) }
+        ensures rises { T (is_sorted pair_cmp self.old) }
+    {
+        let oid = by_oid::take_oid(&mut self.by_oid)?;
+        Some(Text::from(oid))
     }
 }

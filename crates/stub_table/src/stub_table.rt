@@ -1,9 +1,9 @@
 //! The table of stubs, which contracts see as rows in rising order of their pairs.
-ghost use Rattle.std.specs.Prelude.{◌≡◌, ℕ, ◌<◌, ◌-◌, ◌^◌, [], IsSome, IfSome, IsOk, OnOk, OnErr, option_map};
+ghost use Rattle.std.specs.Prelude.{◌≡◌, ℕ, ◌<◌, ◌-◌, ◌^◌, [], length, IsSome, IfSome, IfNone, IsOk, OnOk, OnErr, option_map};
 ghost use Rattle.std.specs.List.{list_any};
 ghost use Rattle.std.specs.Result.{result_ok};
 ghost use Rattle.std.specs.Str.{bytes_eq};
-ghost use Rattle.table_model.specs.Pair.{pair};
+ghost use Rattle.table_model.specs.Pair.{pair, without_oid};
 ghost use Rattle.table_model.specs.Stubs.{stub, sent_one, released_one, sent_count, is_last, IsOwed};
 
 use crate::Unowed;
@@ -94,5 +94,15 @@ impl StubTable {
         ensures { result ≡ list_any (λ row. bytes_eq oid.now row.0.oid) self.now }
     {
         self.stubs.has_oid(oid)
+    }
+
+    /// Drops the stubs of some OID, and gives it; nothing where no stub is there.
+    pub fn take_oid(&mut self) -> Option<Text>
+        ensures gone { IfSome result (λ oid. self.new ≡ without_oid oid self.old) }
+        ensures fewer { IfSome result (λ oid. length self.new < length self.old) }
+        ensures none { IfNone result (self.old ≡ []) }
+        ensures kept { IfNone result (self.new ≡ []) }
+    {
+        self.stubs.take_oid()
     }
 }

@@ -1,9 +1,10 @@
 -- A bag is told by how often each item is there.
-use Rattle.std.proofs.Common.{◌≡◌, ℕ, ◌+◌, ◌≤◌, ◌<◌, suc, Bool, true, false, cond, not, ◌&&◌, List, [], ◌∷◌, ◌++◌, length, refl, sym, ap, ◌∙◌, subst, arith}
+use Rattle.std.proofs.Common.{◌≡◌, ℕ, ◌+◌, ◌≤◌, ◌<◌, suc, Bool, true, false, cond, not, ◌&&◌, ◌||◌, List, [], ◌∷◌, ◌++◌, length, refl, sym, ap, ◌∙◌, subst, arith}
 use Rattle.std.specs.declared.cmp.Ordering.{Ordering}
 use Rattle.std.specs.declared.cmp.Ordering.TheVariants.{Less, Equal, Greater}
 use Rattle.std.specs.Ordering.{eq_by_cmp, is_eq, is_gt, ordering_reverse}
 use Rattle.std.specs.Cmp.{IsTotalOrder, Equal-is, alike_right, tied_itself, upto}
+use Rattle.std.specs.List.{filter, list_any}
 use Rattle.std.specs.Prelude.{T}
 use Rattle.std.proofs.lemmas.Bool.{true≢false}
 use Rattle.std.specs.FinMap.{IsAntisymmetric}
@@ -122,6 +123,54 @@ module _ {X : Type 0} {cmp : X → X → Ordering} (order : IsTotalOrder cmp) wh
     same_bag xs ys often =
         same_rising (bag_of cmp xs) (bag_of cmp ys) (bag_rises xs) (bag_rises ys) (λ z. how_many_bag_of cmp (eq_by_cmp cmp z) xs ∙ often z ∙ sym (how_many_bag_of cmp (eq_by_cmp cmp z) ys))
 
+  module _ (same : IsAntisymmetric cmp) (test : X → Bool) where
+    often_joined : (z x : X) (kept xs : List X) (a b : Bool) → eq_by_cmp cmp z x ≡ a → test x ≡ b → how_often cmp z kept ≡ cond (test z) (how_often cmp z xs) 0
+        → how_often cmp z (cond b (x ∷ kept) kept) ≡ cond (test z) (cond a 1 0 + how_often cmp z xs) 0
+    often_joined z x kept xs true true is passes rest =
+        let alike : test z ≡ true = ap test (same z x ((Equal-is _).0 is)) ∙ passes in
+        let now : how_often cmp z kept ≡ how_often cmp z xs = rest ∙ ap (λ b. cond b (how_often cmp z xs) 0) alike in
+        (λ i. cond (is i) 1 0 + now i) ∙ ap (λ b. cond b (1 + how_often cmp z xs) 0) (sym alike)
+    often_joined z x kept xs true false is passes rest =
+        let alike : test z ≡ false = ap test (same z x ((Equal-is _).0 is)) ∙ passes in
+        rest ∙ ap (λ b. cond b (how_often cmp z xs) 0) alike ∙ ap (λ b. cond b (1 + how_often cmp z xs) 0) (sym alike)
+    often_joined z x kept xs false true is passes rest =
+        ap (λ a. cond a 1 0 + how_often cmp z kept) is ∙ none_more (how_often cmp z kept) ∙ rest ∙ ap (λ n. cond (test z) n 0) (sym (none_more (how_often cmp z xs)))
+      where
+        none_more : (n : ℕ) → 0 + n ≡ n
+        none_more n = omega arith
+    often_joined z x kept xs false false is passes rest = rest ∙ ap (λ n. cond (test z) n 0) (sym (none_more (how_often cmp z xs)))
+      where
+        none_more : (n : ℕ) → 0 + n ≡ n
+        none_more n = omega arith
+
+    none_there : (b : Bool) → ◌≡◌ {A = ℕ} 0 (cond b 0 0)
+    none_there true = refl
+    none_there false = refl
+
+    -- an item that passes a test stands among those that pass as often as before, and another not at all
+    often_filter : (z : X) (xs : List X) → how_often cmp z (filter test xs) ≡ cond (test z) (how_often cmp z xs) 0
+    often_filter z [] = none_there (test z)
+    often_filter z (x ∷ xs) = often_joined z x (filter test xs) xs (eq_by_cmp cmp z x) (test x) refl refl (often_filter z xs)
+
+    below_filter : (y : X) (xs : List X) → T (is_below cmp y xs) → T (is_below cmp y (filter test xs))
+    below_filter y [] h = tt
+    below_filter y (x ∷ xs) h =
+        let rest = below_filter y xs (second _ _ h) in
+        elim (test x) as (λ b. T (is_below cmp y (cond b (x ∷ filter test xs) (filter test xs)))) [ true ↦ both _ _ (first _ _ h) rest | false ↦ rest ]
+
+    rises_filter : (xs : List X) → T (rises cmp xs) → T (rises cmp (filter test xs))
+    rises_filter [] h = tt
+    rises_filter (x ∷ xs) h =
+        let rest = rises_filter xs (second _ _ h) in
+        elim (test x) as (λ b. T (rises cmp (cond b (x ∷ filter test xs) (filter test xs)))) [ true ↦ both _ _ (below_filter x xs (first _ _ h)) rest | false ↦ rest ]
+
+    -- the bag of the items that pass a test has those that pass of the bag
+    pub bag_filter : (xs : List X) → bag_of cmp (filter test xs) ≡ filter test (bag_of cmp xs)
+    bag_filter xs =
+        same_rising same (bag_of cmp (filter test xs)) (filter test (bag_of cmp xs)) (bag_rises (filter test xs)) (rises_filter (bag_of cmp xs) (bag_rises xs))
+        (λ z. how_many_bag_of cmp (eq_by_cmp cmp z) (filter test xs) ∙ often_filter z xs
+        ∙ ap (λ n. cond (test z) n 0) (sym (how_many_bag_of cmp (eq_by_cmp cmp z) xs)) ∙ sym (often_filter z (bag_of cmp xs)))
+
   -- one less of one more is what was there
   pub one_less_one_more : (x : X) (ys : List X) → one_less cmp x (one_more cmp x ys) ≡ ys
   one_less_one_more x [] = ap (λ o. cond (is_eq o) [] (x ∷ [])) (tied_itself order x)
@@ -160,3 +209,36 @@ pub length_one_less : {X : Type 0} (cmp : X → X → Ordering) (k : X) (ys : Li
 length_one_less cmp k [] there = absurd (omega arith)
 length_one_less cmp k (y ∷ ys) there =
     elim (eq_by_cmp cmp k y) as (λ b. 0 < cond b 1 0 + how_often cmp k ys → suc (length ys) ≡ length (cond b ys (y ∷ one_less cmp k ys)) + 1) [ true ↦ λ _. omega arith | false ↦ λ there. let rest = length_one_less cmp k ys (omega arith) in omega arith ] there
+
+-- whether an item of a bag passes a test is whether one of the list does
+pub any_one_more : {X : Type 0} (cmp : X → X → Ordering) (test : X → Bool) (x : X) (ys : List X) → list_any test (one_more cmp x ys) ≡ (test x || list_any test ys)
+any_one_more cmp test x [] = refl
+any_one_more cmp test x (y ∷ ys) =
+    elim (is_gt (cmp x y)) as (λ b. list_any test (cond b (y ∷ one_more cmp x ys) (x ∷ y ∷ ys)) ≡ (test x || (test y || list_any test ys))) [
+      | true ↦ ap (λ b. test y || b) (any_one_more cmp test x ys) ∙ turned (test y) (test x) (list_any test ys)
+      | false ↦ refl
+    ]
+  where
+    turned : (a b c : Bool) → (a || (b || c)) ≡ (b || (a || c))
+    turned true true c = refl
+    turned true false c = refl
+    turned false b c = refl
+
+pub any_bag_of : {X : Type 0} (cmp : X → X → Ordering) (test : X → Bool) (xs : List X) → list_any test (bag_of cmp xs) ≡ list_any test xs
+any_bag_of cmp test [] = refl
+any_bag_of cmp test (x ∷ xs) = any_one_more cmp test x (bag_of cmp xs) ∙ ap (λ b. test x || b) (any_bag_of cmp test xs)
+
+-- where one passes a test, fewer are left without those that do
+pub fewer_left : {X : Type 0} (test : X → Bool) (xs : List X) → list_any test xs ≡ true → length (filter (λ x. not (test x)) xs) < length xs
+fewer_left test [] there = absurd (true≢false (sym there))
+fewer_left test (x ∷ xs) there =
+    elim (test x) as (λ b. (b || list_any test xs) ≡ true → length (cond (not b) (x ∷ filter (λ x. not (test x)) xs) (filter (λ x. not (test x)) xs)) < suc (length xs)) [
+      | true ↦ λ _. let few = no_more_left test xs in omega arith
+      | false ↦ λ there. let few = fewer_left test xs there in omega arith
+    ] there
+  where
+    no_more_left : {X : Type 0} (test : X → Bool) (xs : List X) → length (filter (λ x. not (test x)) xs) ≤ length xs
+    no_more_left test [] = omega arith
+    no_more_left test (x ∷ xs) =
+        let few = no_more_left test xs in
+        elim (test x) as (λ b. length (cond (not b) (x ∷ filter (λ x. not (test x)) xs) (filter (λ x. not (test x)) xs)) ≤ suc (length xs)) [ true ↦ omega arith | false ↦ omega arith ]

@@ -1,5 +1,5 @@
 -- The order of pairs is total, and tells unequal pairs apart.
-use Rattle.std.proofs.Common.{◌≡◌, ◌&&◌, refl, sym}
+use Rattle.std.proofs.Common.{◌≡◌, ℕ, List, ◌&&◌, not, refl, sym, ap}
 use Rattle.std.specs.declared.cmp.Ordering.{Ordering}
 use Rattle.std.specs.declared.cmp.Ordering.TheVariants.{Less, Equal, Greater}
 use Rattle.std.specs.Ordering.{ordering_then, nat_cmp}
@@ -33,3 +33,7 @@ same_pair p q e =
 -- a pair is another where both texts are
 pub is_pair_by_texts : (p q : Pair) → is_pair p q ≡ (bytes_eq p.oid q.oid && bytes_eq p.face q.face)
 is_pair_by_texts p q = sym (both_tied _ _ (slice_cmp nat_cmp p.oid q.oid) (slice_cmp nat_cmp p.face q.face) (texts_ties p.oid q.oid) (texts_ties p.face q.face))
+
+-- pairs that the order does not tell apart have one OID
+pub other_oids : (oid : List ℕ) (p q : Pair) → pair_cmp p q ≡ Equal → not (bytes_eq oid q.oid) ≡ not (bytes_eq oid p.oid)
+other_oids oid p q tied = ap (λ r. not (bytes_eq oid r.oid)) (sym (same_pair p q tied))

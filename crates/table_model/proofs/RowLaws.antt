@@ -7,7 +7,7 @@ use Rattle.std.specs.Ordering.{eq_by_cmp, is_eq, is_lt}
 use Rattle.std.specs.List.{list_any}
 use Rattle.std.specs.Cmp.{IsTotalOrder, Equal-is, eq_by_cmp_equiv, alike_right, tied_itself}
 use Rattle.std.specs.FinMap.{find, put, is_sorted, IsAntisymmetric}
-use Rattle.std.specs.FinMap.Entries.{by_order, below_all, is_sorted-put, is_sorted-where_key, find-put, find-where_key, same_entries}
+use Rattle.std.specs.FinMap.Entries.{by_order, below_all, is_sorted-put, is_sorted-where_key, find-put, find-where_key, same_entries, where_key}
 use Rattle.table_model.specs.Rows.{without, in_order}
 
 module _ {K X : Type 0} {cmp : K → K → Ordering} (order : IsTotalOrder cmp) where
@@ -57,7 +57,8 @@ told_twice a true c is = ap (λ a. a || true) (sym is)
 told_twice a false c is = ap (λ a. a || c) (sym is)
 
 module _ {K X : Type 0} {cmp : K → K → Ordering} (same : IsAntisymmetric cmp) (test : K → Bool) where
-  any_put : (k : K) (v : X) (rows : List (K × X)) → list_any (λ row. test row.0) (put cmp k v rows) ≡ (test k || list_any (λ row. test row.0) rows)
+  -- whether a key passes a test, after a value is put
+  pub any_put : (k : K) (v : X) (rows : List (K × X)) → list_any (λ row. test row.0) (put cmp k v rows) ≡ (test k || list_any (λ row. test row.0) rows)
   any_put k v [] = refl
   any_put k v (row ∷ rows) =
       elim (cmp k row.0) as (λ o. cmp k row.0 ≡ o → list_any (λ row. test row.0) (by_order o ((k, v) ∷ row ∷ rows) ((row.0, v) ∷ rows) (row ∷ put cmp k v rows)) ≡ (test k || (test row.0 || list_any (λ row. test row.0) rows))) [
@@ -80,6 +81,12 @@ module _ {K X : Type 0} {cmp : K → K → Ordering} (order : IsTotalOrder cmp) 
   -- what holds of each value holds of each after one that it holds of is put
   pub all_put : (v : X) → P v → (q : K) → IfSome (find cmp q (put cmp k v rows)) P
   all_put v p q = subst (λ found. IfSome found P) (sym (find-put cmp order q k v rows)) (either_way (λ found. IfSome found P) (eq_by_cmp cmp q k) (Some v) (find cmp q rows) p (all q))
+
+  -- and after those of some keys are gone
+  pub all_where : (test : K → Bool) → ((q x : K) → cmp q x ≡ Equal → test x ≡ test q) → (q : K) → IfSome (find cmp q (where_key cmp test rows)) P
+  all_where test alike q =
+      subst (λ found. IfSome found P) (sym (find-where_key cmp test q (alike q) rows))
+      (either_way (λ found. IfSome found P) (test q) (find cmp q rows) None (all q) tt)
 
   -- and after a row is gone
   pub all_without : (q : K) → IfSome (find cmp q (without cmp k rows)) P
@@ -118,3 +125,24 @@ module _ {K X : Type 0} {cmp : K → K → Ordering} (order : IsTotalOrder cmp) 
   find_below [] h = refl
   find_below (row ∷ rows) h =
       elim (cmp k row.0) as (λ o. T (is_lt o && below_all cmp k rows) → cond (is_eq o) (Some row.1) (find cmp k rows) ≡ None) [ Less ↦ λ h. find_below rows h | Equal ↦ λ h. absurd h | Greater ↦ λ h. absurd h ] h
+
+module _ {K X : Type 0} {cmp : K → K → Ordering} (order : IsTotalOrder cmp) (P : K → X → Type 0) (row : K × X) (rows : List (K × X))
+    (all : (q : K) → IfSome (find cmp q (row ∷ rows)) (P q)) where
+  -- what holds of each value that is found holds of the first
+  pub first_found : P row.0 row.1
+  first_found = subst (λ b. IfSome (cond b (Some row.1) (find cmp row.0 rows)) (P row.0)) (ap is_eq (tied_itself order row.0)) (all row.0)
+
+  -- and of each that is found behind it
+  pub rest_found : IsAntisymmetric cmp → T (is_sorted cmp (row ∷ rows)) → (q : K) → IfSome (find cmp q rows) (P q)
+  rest_found same rises q =
+      elim (eq_by_cmp cmp q row.0) as (λ b. eq_by_cmp cmp q row.0 ≡ b → IfSome (cond b (Some row.1) (find cmp q rows)) (P q) → IfSome (find cmp q rows) (P q)) [
+        | true ↦ λ is _.
+            let none : find cmp q rows ≡ None =
+            ap (λ q. find cmp q rows) (same q row.0 ((Equal-is _).0 is)) ∙ find_below order row.0 rows (first_rises (below_all cmp row.0 rows) (is_sorted cmp rows) rises) in
+            subst (λ found. IfSome found (P q)) (sym none) tt
+        | false ↦ λ _ p. p
+      ] refl (all q)
+    where
+      first_rises : (a b : Bool) → T (a && b) → T a
+      first_rises true b p = tt
+      first_rises false b p = p

@@ -1,7 +1,9 @@
 -- Holdings: who holds which pair, in rising order, one item for each occurrence.
-use Rattle.std.specs.Prelude.{ℕ, Bool, List, nat_lt}
+use Rattle.std.specs.Prelude.{ℕ, Bool, true, false, not, ◌&&◌, List, nat_lt}
 use Rattle.std.specs.declared.cmp.Ordering.{Ordering}
+use Rattle.std.specs.List.{filter, list_all}
 use Rattle.std.specs.Ordering.{nat_cmp, then_cmp, on}
+use Rattle.std.specs.Str.{bytes_eq}
 use Rattle.table_model.specs.Bags.{how_many, how_often, one_more, one_less}
 use Rattle.table_model.specs.Pair.{Pair, pair_cmp, is_pair}
 use Rattle.table_model.specs.declared.holder.Holder.{Holder}
@@ -55,3 +57,33 @@ held h holdings = one_more hold_cmp h holdings
 -- the holdings with one occurrence less
 abbrev pub let_go : Hold → Holdings → Holdings
 let_go h holdings = one_less hold_cmp h holdings
+
+-- ---- what frames hold, and what others do
+
+abbrev pub is_frame : Holder → Bool
+is_frame (Frame n) = true
+is_frame (Object n) = false
+is_frame (Root n) = false
+
+abbrev pub is_of_frame : Hold → Bool
+is_of_frame h = is_frame h.holder
+
+-- what frames hold goes at the end of a bridge, and all else stays
+abbrev pub outlasts : Hold → Bool
+outlasts h = not (is_of_frame h)
+
+-- all of these are of frames
+abbrev pub are_frames : Holdings → Bool
+are_frames holdings = list_all is_of_frame holdings
+
+-- none of these is
+abbrev pub are_others : Holdings → Bool
+are_others holdings = list_all outlasts holdings
+
+-- the holdings without those of an OID
+abbrev pub without_holds : List ℕ → Holdings → Holdings
+without_holds oid holdings = filter (λ h. not (bytes_eq oid h.pair.oid)) holdings
+
+-- the holdings without what frames hold of an OID
+abbrev pub frames_without : List ℕ → Holdings → Holdings
+frames_without oid holdings = filter (λ h. not (is_of_frame h && bytes_eq oid h.pair.oid)) holdings

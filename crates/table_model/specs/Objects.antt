@@ -1,5 +1,5 @@
 -- Objects: each living one at its number, in rising order, and how many were made.
-use Rattle.std.specs.Prelude.{ℕ, ◌+◌, Bool, false, cond, List, [], ◌∷◌, Option, None, Some}
+use Rattle.std.specs.Prelude.{ℕ, ◌+◌, ◌-◌, Bool, false, cond, List, [], ◌∷◌, Option, None, Some}
 use Rattle.std.specs.FinMap.{find, put}
 use Rattle.std.specs.Ordering.{nat_cmp}
 use Rattle.table_model.specs.Rows.{without}
@@ -29,6 +29,10 @@ changed n o objects = record { made = objects.made; rows = put nat_cmp n o objec
 -- the objects after one was made
 abbrev pub made_one : {V : Type 0} → ℕ → List V → Objects V → Objects V
 made_one behaviour fields objects = record { made = objects.made + 1; rows = put nat_cmp (objects.made + 1) (record { behaviour = behaviour; fields = fields; may_go = false }) objects.rows }
+
+-- the objects after the last one that was made is taken back
+abbrev pub unmade : {V : Type 0} → Objects V → Objects V
+unmade objects = record { made = objects.made - 1; rows = without nat_cmp objects.made objects.rows }
 
 -- the objects after one is gone
 abbrev pub removed : {V : Type 0} → ℕ → Objects V → Objects V

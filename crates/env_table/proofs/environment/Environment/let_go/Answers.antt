@@ -1,31 +1,23 @@
-use Rattle.std.proofs.Common.{◌∙◌, ap, sym, nat_eq, arith, refl}
-use Rattle.table_model.specs.Holdings.{let_go}
-use Rattle.table_model.proofs.BagLaws.{one_less_none}
-use Rattle.table_model.proofs.HoldLaws.{hold_order}
-use Rattle.env_table.proofs.Occurrences.{holders_are, times_are}
-use Rattle.env_table.proofs.RowChanges.{view_less, refused, answered}
+use Rattle.std.proofs.Common.{◌∙◌, sym}
+use Rattle.env_table.proofs.Joined.{gone_frame, gone_other, frames_gone, others_gone, last_frame, last_other}
 use Rattle.env_table.proofs.environment.Environment.let_go.Goals as goal
 
-pub let_go-requires : goal.let_go-requires
-let_go-requires c = let times = c.times.ensures.times in omega arith
+pub invariant_of-self : goal.invariant_of-self
+invariant_of-self c = (frames_gone c.self.inside.frames c.self.inside.others c.args.self.now c.self.view_is c.self.invariant.0 c.self.invariant.1 _ (sym c.is_frame.ensures ∙ c.if-is_frame.true) c.let_go-gone.new.self c.let_go-gone.ensures.gone, c.self.invariant.1)
 
-pub returns-then-times-eq0-clause-answer : goal.returns-then-times-eq0-clause-answer
-returns-then-times-eq0-clause-answer c =
-    let times = times_are c.self.inside.pairs c.times.ensures.rises c.args.self.now c.self.view_is _ _ c.args.holder c.times.ensures.times in
-    refused _ _ (sym times ∙ c.if-times-eq0.true)
+pub returns-then-is_frame-clause-answer : goal.returns-then-is_frame-clause-answer
+returns-then-is_frame-clause-answer c =
+    last_frame c.self.inside.frames c.self.inside.others c.args.self.now c.self.view_is c.self.invariant.0 c.self.invariant.1 _ (sym c.is_frame.ensures ∙ c.if-is_frame.true) _ _ _ c.let_go-gone.ensures.answer c.holders.ensures.number c.last_of.ensures
 
-pub returns-then-times-eq0-clause-gone : goal.returns-then-times-eq0-clause-gone
-returns-then-times-eq0-clause-gone c =
-    let times = times_are c.self.inside.pairs c.times.ensures.rises c.args.self.now c.self.view_is _ _ c.args.holder c.times.ensures.times in
-    sym (one_less_none hold_order _ c.args.self.now (sym times ∙ c.if-times-eq0.true))
+pub returns-then-is_frame-clause-gone : goal.returns-then-is_frame-clause-gone
+returns-then-is_frame-clause-gone c = gone_frame c.self.inside.frames c.self.inside.others c.args.self.now c.self.view_is c.self.invariant.0 c.self.invariant.1 _ (sym c.is_frame.ensures ∙ c.if-is_frame.true) c.let_go-gone.new.self c.let_go-gone.ensures.gone
+
+pub invariant_of-self-2 : goal.invariant_of-self-2
+invariant_of-self-2 c = (c.self.invariant.0, others_gone c.self.inside.frames c.self.inside.others c.args.self.now c.self.view_is c.self.invariant.0 c.self.invariant.1 _ (sym c.is_frame.ensures ∙ c.if-is_frame.false) c.let_go-gone-2.new.self c.let_go-gone-2.ensures.gone)
 
 pub returns-clause-answer : goal.returns-clause-answer
 returns-clause-answer c =
-    let times = times_are c.self.inside.pairs c.times.ensures.rises c.args.self.now c.self.view_is _ _ c.args.holder c.times.ensures.times in
-    answered _ _ _ (omega (arith, times))
-    (c.let_go.ensures.last ∙ ap (λ n. nat_eq n 1) (holders_are c.self.inside.pairs c.times.ensures.rises c.args.self.now c.self.view_is _ _ refl))
+    last_other c.self.inside.frames c.self.inside.others c.args.self.now c.self.view_is c.self.invariant.0 c.self.invariant.1 _ (sym c.is_frame.ensures ∙ c.if-is_frame.false) _ _ _ c.let_go-gone-2.ensures.answer c.holders-2.ensures.number c.last_of-2.ensures
 
 pub returns-clause-gone : goal.returns-clause-gone
-returns-clause-gone c =
-    let times = c.times.ensures.times in
-    view_less c.args.holder _ c.self.inside.pairs c.let_go.new.pairs c.times.ensures.rises (omega arith) c.let_go.ensures.gone ∙ ap (let_go _) c.self.view_is
+returns-clause-gone c = gone_other c.self.inside.frames c.self.inside.others c.args.self.now c.self.view_is c.self.invariant.0 c.self.invariant.1 _ (sym c.is_frame.ensures ∙ c.if-is_frame.false) c.let_go-gone-2.new.self c.let_go-gone-2.ensures.gone

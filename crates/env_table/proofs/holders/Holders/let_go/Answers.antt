@@ -10,7 +10,8 @@ invariant_of-self c =
     let shorter = length_less c.self.inside.times c.self.invariant.0 c.args.self.now c.self.view_is c.args.holder
     c.reset.new.self c.reset.ensures.distinct c.times-times.result c.times-times.ensures c.requires c.reset.ensures.set in
     let was = c.self.invariant.1 ∙ ap length c.self.view_is in
-    (c.reset.ensures.distinct, omega (arith, shorter, was))
+    let few = c.self.invariant.2 in
+    (c.reset.ensures.distinct, omega (arith, shorter, was), omega (arith, shorter, was, few, c.self.invariant.1))
 
 pub returns : goal.returns
 returns c =

@@ -1,7 +1,7 @@
 use Rattle.std.proofs.Common.{◌∙◌, ap, sym, Some, None, option_map}
 use Rattle.object_store.specs.Rows.{object_rows, plain}
-use Rattle.object_store.proofs.Living.{found_rows, is_found}
-use Rattle.object_store.proofs.Keeping.{found_outside, at_none}
+use Rattle.object_store.proofs.Living.{found_rows, is_found, rows_rise}
+use Rattle.object_store.proofs.Keeping.{found_outside, at_none, rises_outside}
 use Rattle.object_store.proofs.store.Store.object.Goals as goal
 
 pub returns-in_err-object-clause-none : goal.returns-in_err-object-clause-none
@@ -18,3 +18,9 @@ pub returns-clause-fields : goal.returns-clause-fields
 returns-clause-fields g c =
     let rows = object_rows c.self.inside.objects.entries in
     ap (option_map (λ o. o.fields)) (found_outside c.self.inside.made rows rows c.args.self.now c.self.view_is c.args.number _ (is_found c.self.inside.objects c.args.number c.in_ok-object.object.now c.in_ok-object.ensures.value)) ∙ ap Some (sym c.as_slice.ensures.value)
+
+pub returns-in_err-object-clause-rises : goal.returns-in_err-object-clause-rises
+returns-in_err-object-clause-rises g c = rises_outside c.self.inside.made (object_rows c.self.inside.objects.entries) (object_rows c.self.inside.objects.entries) c.args.self.now c.self.view_is (rows_rise c.self.inside.objects c.self.invariant.ordered)
+
+pub returns-clause-rises : goal.returns-clause-rises
+returns-clause-rises g c = rises_outside c.self.inside.made (object_rows c.self.inside.objects.entries) (object_rows c.self.inside.objects.entries) c.args.self.now c.self.view_is (rows_rise c.self.inside.objects c.self.invariant.ordered)

@@ -1,0 +1,5 @@
+mod Lists
+mod Marking
+mod Numbers
+mod Seen
+pub mod TableLaws
