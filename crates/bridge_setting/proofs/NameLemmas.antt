@@ -1,7 +1,8 @@
 -- The names of roots, by their numbers.
-use Rattle.std.proofs.Common.{◌≡◌, ◌≢◌, ℕ, zero, suc, ◌+◌, ◌-◌, List, [], ◌∷◌, ◌++◌, length, refl, sym, ap, ◌∙◌, arith, slice_get, Option, None, Some}
+use Rattle.std.proofs.Common.{◌≡◌, ℕ, zero, suc, ◌+◌, ◌-◌, List, [], ◌∷◌, ◌++◌, length, refl, sym, ap, ◌∙◌, arith, slice_get, Option, None, Some, Bool, true, false, not, ◌&&◌, ◌<◌, ◌≤◌, nat_lt, eqb-true}
 use Rattle.std.proofs.lemmas.List.{length-append}
-use Rattle.std.specs.Option.{IfSome, option_map}
+use Rattle.std.proofs.lemmas.Bool.{lt-ltb, le-ltb}
+use Rattle.std.specs.Option.{IfSome, is_some, option_map}
 use Rattle.std.specs.Borrow.{Bor}
 use Rattle.bridge_setting.specs.Naming.{name_of, AreNames}
 use Rattle.uno_entities.specs.declared.tid.Tid.{Tid}
@@ -29,6 +30,34 @@ root_named tag xs root None names some same = tt
 root_named tag xs root (Some t) names some same =
     let is : (root - 1) + 1 ≡ root = omega (arith, some) in
     name_at tag 1 xs (root - 1) t.now names (sym same) ∙ ap (λ m. name_of tag m) is
+
+-- exactly the roots that are counted have one
+next_within : (i n : ℕ) (b : Bool) → nat_lt i n ≡ b → nat_lt i n ≡ nat_lt (suc i) (suc n)
+next_within i n true is = grind (arith, eqb-true)
+next_within i n false is = grind (arith, eqb-true)
+
+found_within : (xs : List (List ℕ)) (i : ℕ) → is_some (slice_get xs i) ≡ nat_lt i (length xs)
+found_within [] i =
+    let past : 0 ≤ i = omega arith in
+    sym (le-ltb i 0 past)
+found_within (x ∷ xs) zero =
+    let below : 0 < suc (length xs) = omega arith in
+    sym (lt-ltb 0 (suc (length xs)) below)
+found_within (x ∷ xs) (suc i) = found_within xs i ∙ next_within i (length xs) (nat_lt i (length xs)) refl
+
+counted_by : (root n : ℕ) (b : Bool) → 0 < root → nat_lt (root - 1) n ≡ b → nat_lt (root - 1) n ≡ (nat_lt 0 root && not (nat_lt n root))
+counted_by root n true some is = grind (arith, eqb-true)
+counted_by root n false some is = grind (arith, eqb-true)
+
+some_seen : (o : Option (Bor Tid)) → is_some o ≡ is_some (option_map (λ (t : Bor Tid). t.now) o)
+some_seen None = refl
+some_seen (Some t) = refl
+
+pub root_there : (xs : List (List ℕ)) (root count : ℕ) (o : Option (Bor Tid)) → (root ≡ 0 → ⊥) → count ≡ length xs
+    → option_map (λ t. t.now) o ≡ slice_get xs (root - 1) → is_some o ≡ (nat_lt 0 root && not (nat_lt count root))
+root_there xs root count o some all same =
+    let positive : 0 < root = omega (arith, some) in
+    some_seen o ∙ (ap is_some same ∙ (found_within xs (root - 1) ∙ (ap (λ n. nat_lt (root - 1) n) (sym all) ∙ counted_by root count (nat_lt (root - 1) count) positive refl)))
 
 -- names with the next one behind them
 pub one_more_named : (tag : List ℕ) (n : ℕ) (xs : List (List ℕ)) (x : List ℕ) → AreNames tag n xs → x ≡ name_of tag (length xs + n) → AreNames tag n (xs ++ x ∷ [])

@@ -1,5 +1,5 @@
 -- Which objects support an interface.
-use Rattle.std.proofs.Common.{◌≡◌, ◌≢◌, ℕ, Bool, true, false, ◌||◌, ◌==◌, List, [], ◌∷◌, IsTrue, length, ◌↔◌, refl, sym, slice_get, arith}
+use Rattle.std.proofs.Common.{◌≡◌, ◌≢◌, ℕ, Bool, true, false, ◌||◌, ◌==◌, List, IsTrue, length, ◌↔◌, refl, sym, slice_get, arith}
 use Rattle.plan_model.specs.Plans.{Plan, manager, faces_in, faces_of, supports}
 use Rattle.uno_model.specs.BuiltIn.{factory_name}
 use Rattle.uno_model.specs.Entities.{Entity}

@@ -1,10 +1,10 @@
-//! A setting may be sent to another thread, and threads may share it.
+//! Names may be sent to another thread, and threads may share them.
 
-use crate::Setting;
+use crate::Names;
 
-/// No call needs it: the check refuses it where a setting may not be sent or not be shared.
-fn settings_may_go_between_threads(setting: &Setting) {
-    crosses(setting);
+/// No call needs it: the check refuses it where names may not be sent or not be shared.
+fn names_may_go_between_threads(names: &Names) {
+    crosses(names);
 }
 
 fn crosses<T: Send + Sync>(_: &T) {}

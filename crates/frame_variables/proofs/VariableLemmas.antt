@@ -1,5 +1,5 @@
 -- Variables by their names: what stands at the place of the first one of a name.
-use Rattle.std.proofs.Common.{◌≡◌, ℕ, zero, suc, ◌<◌, Bool, true, false, not, List, [], ◌∷◌, length, map, refl, sym, ap, ap2, ◌∙◌, arith, absurd, get_or, set, cond}
+use Rattle.std.proofs.Common.{◌≡◌, ℕ, zero, suc, ◌<◌, Bool, true, false, not, List, [], ◌∷◌, length, map, refl, sym, ap, ◌∙◌, arith, absurd, get_or, set, cond}
 use Rattle.std.specs.List.{filter}
 use Rattle.std.specs.Str.{bytes_eq}
 use Rattle.plan_model.specs.Evaluation.{value_under}
@@ -65,7 +65,7 @@ pub put_here : (name : List ℕ) (xs : List Variable) (i : ℕ) (d y : Variable)
     → variables_of (set xs i y) ≡ put name new (variables_of xs)
 unfolding put
 put_here name [] i d y new is same value = below_none i is.within
-put_here name (x ∷ xs) zero d y new is same value = rw (is.here) (ap2 (λ (n : List ℕ) (w : Plain). record { name = n; value = w } ∷ variables_of xs) same value)
+put_here name (x ∷ xs) zero d y new is same value = rw (is.here) (ap (λ n. record { name = n; value = plain_of y.value } ∷ variables_of xs) same ∙ ap (λ w. record { name = x.name; value = w } ∷ variables_of xs) value)
 put_here name (x ∷ xs) (suc i) d y new is same value =
     rw (is.before 0 (first_above i)) (ap (λ ys. variable_of x ∷ ys) (put_here name xs i d y new (first_behind name x d xs i is) same value))
 

@@ -1,4 +1,4 @@
-use Rattle.std.proofs.Common.{sym, ap, ◌∙◌}
+use Rattle.std.proofs.Common.{ap, ◌∙◌}
 use Rattle.plan_model.specs.Plans.{supports}
 use Rattle.plan_types.specs.Plans.{plan_of}
 use Rattle.bridge_setting.proofs.SupportLemmas.{manager_supports, behaviour_supports}
