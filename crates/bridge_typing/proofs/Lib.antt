@@ -32,3 +32,4 @@ pub mod RootFits
 pub mod ReapingFits
 pub mod OpeningFits
 pub mod StepFits
+pub mod PlanOffers
