@@ -33,6 +33,7 @@ use Rattle.plan_model.specs.Statements.{Statement, RootStatement}
 use Rattle.plan_model.specs.TypedStatements.{supports_named, statement_of, root_statement_of}
 use Rattle.plan_model.specs.declared.line_reason.LineReason.{LineReason}
 use Rattle.plan_typing.proofs.EffectRuntime.{interface_found}
+use Rattle.plan_typing.proofs.PlanLaws.{right_parts}
 use Rattle.plan_typing.proofs.PlanGrows.{Stays, statement_stays, root_statement_stays}
 use Rattle.bridge_typing.proofs.FineLaws.{supports_base}
 use Rattle.bridge_typing.proofs.Given.{OfferFits, ServiceFits, FieldsDiffer}
@@ -181,3 +182,277 @@ module _ (reg : List Entity) (sound : IsSound reg) (built : HasBuiltIn reg) wher
   singleton_base name (Some e) at there =
       let here : is_new_singleton e.body ≡ true = sym (rw at refl) ∙ there in
       base_by e e.body refl (or_right (is_new_service e.body) (is_new_singleton e.body) here) (found_entity (λ e. services_known reg e.body) name reg e sound.services at).0
+
+  -- ---- lines of the top
+
+  offer_by : (q : Plan) (vs : List Scoped) (base behaviour : List ℕ) (n : ℕ) (o : Option Behaviour)
+      → behaviour_named (record { plan = q; block = at_top; variables = vs }) behaviour ≡ o → behaviour_number (record { plan = q; block = at_top; variables = vs }) behaviour ≡ Some n
+      → is_there reg is_interface base ≡ true → supports_named reg o base ≡ true
+      → (b : Behaviour) × (o ≡ Some b) × (slice_get q.behaviours n ≡ Some b) × (supports reg b.faces x_interface_name ≡ true)
+  offer_by q vs base behaviour n None found at there is = absurd (cc)
+  offer_by q vs base behaviour n (Some b) found at there is =
+      let place = at_number (λ b. bytes_eq behaviour b.name) (q.behaviours ++ []) n (Some b) found at in
+      (b, refl, ap (λ bs. slice_get bs n) (sym (append-nil q.behaviours)) ∙ place, base_root b.faces base there is)
+
+  service_offered : (q : Plan) (vs : List Scoped) (name behaviour : List ℕ) (o : Option ℕ) → behaviour_number (record { plan = q; block = at_top; variables = vs }) behaviour ≡ o
+      → is_there reg is_new_service name ≡ true → service_fits reg (behaviour_named (record { plan = q; block = at_top; variables = vs }) behaviour) (find_entity name reg) ≡ true
+      → Offered reg q at_top → Offered reg (with_service o name q) at_top
+  service_offered q vs name behaviour None at there fits is = is
+  service_offered q vs name behaviour (Some n) at there fits is =
+      let c : Context = record { plan = q; block = at_top; variables = vs } in
+      let parts = and_parts (supports_named reg (behaviour_named c behaviour) (base_of (find_entity name reg))) (serves_all (behaviour_named c behaviour) (constructors_of (find_entity name reg))) fits in
+      let offer = offer_by q vs (base_of (find_entity name reg)) behaviour n (behaviour_named c behaviour) refl at (service_base name (find_entity name reg) refl there) parts.0 in
+      let more = with_service (Some n) name q in
+      record {
+        services =
+            all_push (ServiceFits reg more) q.services (record { name = name; behaviour = n }) (services_on q more (λ n b is. is) q.services is.services)
+            (record {
+              behaviour = offer.0;
+              found = offer.2;
+              root = offer.3;
+              serves = ap (λ o. serves_all o (constructors_of (find_entity name reg))) (sym offer.1) ∙ parts.1;
+            });
+        singletons = offers_on q more (λ n b is. is) q.singletons is.singletons;
+        fields = is.fields;
+        open_fields = is.open_fields;
+        behaviours = is.behaviours;
+        exports = is.exports;
+        singles = is.singles;
+        threads = is.threads;
+      }
+
+  singleton_offered : (q : Plan) (vs : List Scoped) (name behaviour : List ℕ) (o : Option ℕ) → behaviour_number (record { plan = q; block = at_top; variables = vs }) behaviour ≡ o
+      → is_there reg is_new_singleton name ≡ true → supports_named reg (behaviour_named (record { plan = q; block = at_top; variables = vs }) behaviour) (base_of (find_entity name reg)) ≡ true
+      → length q.singletons < 256 → Offered reg q at_top → Offered reg (with_singleton o name q) at_top
+  singleton_offered q vs name behaviour None at there fits room is = is
+  singleton_offered q vs name behaviour (Some n) at there fits room is =
+      let c : Context = record { plan = q; block = at_top; variables = vs } in
+      let offer = offer_by q vs (base_of (find_entity name reg)) behaviour n (behaviour_named c behaviour) refl at (singleton_base name (find_entity name reg) refl there) fits in
+      let more = with_singleton (Some n) name q in
+      let long = length-append q.singletons (record { name = name; behaviour = n } ∷ []) in
+      record {
+        services = services_on q more (λ n b is. is) q.services is.services;
+        singletons =
+            all_push (OfferFits reg more) q.singletons (record { name = name; behaviour = n }) (offers_on q more (λ n b is. is) q.singletons is.singletons)
+            (record { behaviour = offer.0; found = offer.2; root = offer.3 });
+        fields = is.fields;
+        open_fields = is.open_fields;
+        behaviours = is.behaviours;
+        exports = is.exports;
+        singles = omega arith;
+        threads = is.threads;
+      }
+
+  export_offered : (q : Plan) (name : List ℕ) (o : Option ℕ) → length q.exports < 256 → Offered reg q at_top → Offered reg (with_export o name q) at_top
+  export_offered q name None room is = is
+  export_offered q name (Some n) room is =
+      let more = with_export (Some n) name q in
+      let long = length-append q.exports (record { name = name; behaviour = n } ∷ []) in
+      record {
+        services = services_on q more (λ n b is. is) q.services is.services;
+        singletons = offers_on q more (λ n b is. is) q.singletons is.singletons;
+        fields = is.fields;
+        open_fields = is.open_fields;
+        behaviours = is.behaviours;
+        exports = omega arith;
+        singles = is.singles;
+        threads = is.threads;
+      }
+
+  -- ---- blocks
+
+  -- another block with the same fields
+  other_block : (q : Plan) (bl cl : Block) → AllByRecursion FieldsDiffer (open_behaviours cl) → length q.behaviours + length (open_behaviours cl) ≤ 256
+      → length q.threads + open_threads cl ≤ 32 → Offered reg q bl → Offered reg q cl
+  other_block q bl cl open_fields few threads is =
+      record {
+        services = is.services;
+        singletons = is.singletons;
+        fields = is.fields;
+        open_fields = open_fields;
+        behaviours = few;
+        exports = is.exports;
+        singles = is.singles;
+        threads = threads;
+      }
+
+  field_offered : (q : Plan) (vs : List Scoped) (b : Behaviour) (name : List ℕ) (o : Option Kind) → not (list_any (λ f. bytes_eq name f.name) b.fields) ≡ true → Offered reg q (in_behaviour b)
+      → Offered reg (with_field (in_behaviour b) name o (record { plan = q; block = in_behaviour b; variables = vs })).plan (with_field (in_behaviour b) name o (record { plan = q; block = in_behaviour b; variables = vs })).block
+  field_offered q vs b name None new is = is
+  field_offered q vs b name (Some k) new is =
+      other_block q (in_behaviour b) (in_behaviour (record b { fields = b.fields ++ record { name = name; kind = k } ∷ [] }))
+      (field_more b.fields (record { name = name; kind = k }) is.open_fields.0 new, tt) is.behaviours is.threads is
+
+  opens_offered : (q : Plan) (vs : List Scoped) (b : Behaviour) (face function : List ℕ) (o : Option Function) → Offered reg q (in_behaviour b)
+      → Offered reg (opens_method (in_behaviour b) face function o (record { plan = q; block = in_behaviour b; variables = vs })).plan (opens_method (in_behaviour b) face function o (record { plan = q; block = in_behaviour b; variables = vs })).block
+  opens_offered q vs b face function None is = is
+  opens_offered q vs b face function (Some f) is =
+      other_block q (in_behaviour b) (in_method b (record { face = face; function = function; body = [] }) f) is.open_fields is.behaviours is.threads is
+
+  behaviour_closed : (q : Plan) (b : Behaviour) → Offered reg q (in_behaviour b) → Offered reg (record q { behaviours = q.behaviours ++ b ∷ [] }) at_top
+  behaviour_closed q b is =
+      let more : Plan = record q { behaviours = q.behaviours ++ b ∷ [] } in
+      let stands : Stands q more = λ n d at. slice_before q.behaviours (b ∷ []) n d at in
+      let long = length-append q.behaviours (b ∷ []) in let few = is.behaviours in
+      record {
+        services = services_on q more stands q.services is.services;
+        singletons = offers_on q more stands q.singletons is.singletons;
+        fields = all_push FieldsDiffer q.behaviours b is.fields is.open_fields.0;
+        open_fields = tt;
+        behaviours = omega arith;
+        exports = is.exports;
+        singles = is.singles;
+        threads = is.threads;
+      }
+
+  thread_closed : (q : Plan) (ss : List RootStatement) → Offered reg q (in_thread ss) → Offered reg (record q { threads = q.threads ++ ss ∷ [] }) at_top
+  thread_closed q ss is =
+      let more : Plan = record q { threads = q.threads ++ ss ∷ [] } in
+      let long = length-append q.threads (ss ∷ []) in let few = is.threads in
+      record {
+        services = services_on q more (λ n b is. is) q.services is.services;
+        singletons = offers_on q more (λ n b is. is) q.singletons is.singletons;
+        fields = is.fields;
+        open_fields = tt;
+        behaviours = is.behaviours;
+        exports = is.exports;
+        singles = is.singles;
+        threads = omega arith;
+      }
+
+  stays_offered : (q : Plan) (bl : Block) (c : Context) → Stays q bl [] c → Offered reg q bl → Offered reg c.plan c.block
+  stays_offered q bl c stays is = subst (λ p. Offered reg p c.block) (sym stays.0) (subst (Offered reg q) (sym stays.1) is)
+
+  method_offered : (q : Plan) (vs : List Scoped) (b : Behaviour) (m : Method) (f : Function) (o : Option Statement) → Offered reg q (in_method b m f)
+      → Offered reg (with_statement b m f o (record { plan = q; block = in_method b m f; variables = vs })).plan (with_statement b m f o (record { plan = q; block = in_method b m f; variables = vs })).block
+  method_offered q vs b m f None is = is
+  method_offered q vs b m f (Some x) is =
+      let n : Method = record m { body = m.body ++ x ∷ [] } in
+      stays_offered q (in_method b n f) (behind_statement x (record { plan = q; block = in_method b n f; variables = vs })) (statement_stays q (in_method b n f) vs x)
+      (other_block q (in_method b m f) (in_method b n f) is.open_fields is.behaviours is.threads is)
+
+  root_offered : (q : Plan) (vs : List Scoped) (ss : List RootStatement) (o : Option RootStatement) → Offered reg q (in_thread ss)
+      → Offered reg (with_root_statement ss o (record { plan = q; block = in_thread ss; variables = vs })).plan (with_root_statement ss o (record { plan = q; block = in_thread ss; variables = vs })).block
+  root_offered q vs ss None is = is
+  root_offered q vs ss (Some x) is =
+      stays_offered q (in_thread (ss ++ x ∷ [])) (behind_root_statement x (record { plan = q; block = in_thread (ss ++ x ∷ []); variables = vs })) (root_statement_stays q (in_thread (ss ++ x ∷ [])) vs x)
+      (other_block q (in_thread ss) (in_thread (ss ++ x ∷ [])) is.open_fields is.behaviours is.threads is)
+
+  -- ---- each line
+
+  -- what of the rules is asked of a line
+  record Ruled (c : Context) (l : Line) : Type 0 where
+    stands : may_stand c.block l ≡ true
+    known : names_are_known reg c l ≡ true
+    new : names_are_new c l ≡ true
+    fits : all_fits reg c l ≡ true
+    room : plan_has_room c l ≡ true
+
+  abbrev After : Context → Line → Type 0
+  After c l = Offered reg (behind reg l c).plan (behind reg l c).block
+
+  top_step : (q : Plan) (vs : List Scoped) (l : Line) → Ruled (record { plan = q; block = at_top; variables = vs }) l → Offered reg q at_top → After (record { plan = q; block = at_top; variables = vs }) l
+  unfolding may_stand behind names_are_known all_fits plan_has_room has_room all_differ
+  top_step q vs (line.behaviour name faces) ruled is =
+      let few = ltb-true (length (q.behaviours ++ [])) 256 ruled.room in let long = ap length (append-nil q.behaviours) in
+      other_block q at_top (in_behaviour (record { name = name; faces = faces; fields = []; methods = [] })) (refl, tt) (omega arith) is.threads is
+  top_step q vs (line.service name b) ruled is =
+      let known = and_parts (is_there reg is_new_service name) _ ruled.known in
+      service_offered q vs name b (behaviour_number (record { plan = q; block = at_top; variables = vs }) b) refl known.0 ruled.fits is
+  top_step q vs (line.singleton name b) ruled is =
+      let known = and_parts (is_there reg is_new_singleton name) _ ruled.known in
+      singleton_offered q vs name b (behaviour_number (record { plan = q; block = at_top; variables = vs }) b) refl known.0 ruled.fits (ltb-true (length q.singletons) 256 ruled.room) is
+  top_step q vs (line.export name b) ruled is =
+      export_offered q name (behaviour_number (record { plan = q; block = at_top; variables = vs }) b) (ltb-true (length q.exports) 256 ruled.room) is
+  top_step q vs line.thread ruled is =
+      let few = ltb-true (length q.threads) 32 ruled.room in
+      other_block q at_top (in_thread []) tt is.behaviours (omega arith) is
+  top_step q vs _ ruled is = let bad : false ≡ true = ruled.stands in absurd (cc)
+
+  behaviour_step : (q : Plan) (vs : List Scoped) (b : Behaviour) (l : Line) → Ruled (record { plan = q; block = in_behaviour b; variables = vs }) l → Offered reg q (in_behaviour b)
+      → After (record { plan = q; block = in_behaviour b; variables = vs }) l
+  unfolding may_stand behind names_are_new
+  behaviour_step q vs b (line.field d) ruled is = field_offered q vs b d.name (type_of_text reg d.kind) ruled.new is
+  behaviour_step q vs b (line.method face function) ruled is = opens_offered q vs b face function (declared_function reg face function) is
+  behaviour_step q vs b line.end_line ruled is = behaviour_closed q b is
+  behaviour_step q vs b _ ruled is = let bad : false ≡ true = ruled.stands in absurd (cc)
+
+  method_step : (q : Plan) (vs : List Scoped) (b : Behaviour) (m : Method) (f : Function) (l : Line) → Ruled (record { plan = q; block = in_method b m f; variables = vs }) l
+      → Offered reg q (in_method b m f) → After (record { plan = q; block = in_method b m f; variables = vs }) l
+  unfolding may_stand behind
+  method_step q vs b m f (line.behaviour name faces) ruled is = let bad : false ≡ true = ruled.stands in absurd (cc)
+  method_step q vs b m f (line.field d) ruled is = let bad : false ≡ true = ruled.stands in absurd (cc)
+  method_step q vs b m f (line.method face function) ruled is = let bad : false ≡ true = ruled.stands in absurd (cc)
+  method_step q vs b m f (line.service name x) ruled is = let bad : false ≡ true = ruled.stands in absurd (cc)
+  method_step q vs b m f (line.singleton name x) ruled is = let bad : false ≡ true = ruled.stands in absurd (cc)
+  method_step q vs b m f (line.export name x) ruled is = let bad : false ≡ true = ruled.stands in absurd (cc)
+  method_step q vs b m f line.thread ruled is = let bad : false ≡ true = ruled.stands in absurd (cc)
+  method_step q vs b m f line.end_line ruled is =
+      other_block q (in_method b m f) (in_behaviour (record b { methods = b.methods ++ m ∷ [] })) is.open_fields is.behaviours is.threads is
+  method_step q vs b m f l ruled is = method_offered q vs b m f (statement_of reg (record { plan = q; block = in_method b m f; variables = vs }) l) is
+
+  thread_step : (q : Plan) (vs : List Scoped) (ss : List RootStatement) (l : Line) → Ruled (record { plan = q; block = in_thread ss; variables = vs }) l
+      → Offered reg q (in_thread ss) → After (record { plan = q; block = in_thread ss; variables = vs }) l
+  unfolding may_stand behind
+  thread_step q vs ss (line.behaviour name faces) ruled is = let bad : false ≡ true = ruled.stands in absurd (cc)
+  thread_step q vs ss (line.field d) ruled is = let bad : false ≡ true = ruled.stands in absurd (cc)
+  thread_step q vs ss (line.method face function) ruled is = let bad : false ≡ true = ruled.stands in absurd (cc)
+  thread_step q vs ss (line.service name x) ruled is = let bad : false ≡ true = ruled.stands in absurd (cc)
+  thread_step q vs ss (line.singleton name x) ruled is = let bad : false ≡ true = ruled.stands in absurd (cc)
+  thread_step q vs ss (line.export name x) ruled is = let bad : false ≡ true = ruled.stands in absurd (cc)
+  thread_step q vs ss line.thread ruled is = let bad : false ≡ true = ruled.stands in absurd (cc)
+  thread_step q vs ss line.end_line ruled is = thread_closed q ss is
+  thread_step q vs ss l ruled is = root_offered q vs ss (root_statement_of reg (record { plan = q; block = in_thread ss; variables = vs }) l) is
+
+  line_step : (q : Plan) (vs : List Scoped) (bl : Block) (l : Line) → Ruled (record { plan = q; block = bl; variables = vs }) l → Offered reg q bl → After (record { plan = q; block = bl; variables = vs }) l
+  line_step q vs at_top l ruled is = top_step q vs l ruled is
+  line_step q vs (in_behaviour b) l ruled is = behaviour_step q vs b l ruled is
+  line_step q vs (in_method b m f) l ruled is = method_step q vs b m f l ruled is
+  line_step q vs (in_thread ss) l ruled is = thread_step q vs ss l ruled is
+
+  -- ---- all lines
+
+  asked_of : (b : Bool) (why : LineReason) (rest : Option LineReason) → (if not b then Some why else rest) ≡ None → (b ≡ true) × (rest ≡ None)
+  asked_of true why rest is = (refl, is)
+  asked_of false why rest is = absurd (cc)
+
+  ruled_line : (c : Context) (l : Line) → reason_of reg c l ≡ None → Ruled c l
+  unfolding reason_of has_form keeps_limits
+  ruled_line c l none =
+      let form = asked_of (has_form reg c l) _ _ none in
+      let known = asked_of (names_are_known reg c l) _ _ form.1 in
+      let new = asked_of (names_are_new c l) _ _ known.1 in
+      let fits = asked_of (all_fits reg c l) _ _ new.1 in
+      let limits = asked_of (keeps_limits c l) _ _ fits.1 in
+      record {
+        stands = (and_parts _ (may_stand c.block l) form.0).1;
+        known = known.0;
+        new = new.0;
+        fits = fits.0;
+        room = (and_parts (terms_are_flat l) (plan_has_room c l) limits.0).1;
+      }
+
+  lines_offered : (ls : List Line) (c : Context) → first_wrong reg c ls ≡ None → Offered reg c.plan c.block → Offered reg (behind_all reg ls c).plan (behind_all reg ls c).block
+  unfolding behind_all
+  lines_offered [] c right is = is
+  lines_offered (l ∷ ls) c right is =
+      let parts = right_parts reg c l ls right in
+      lines_offered ls (behind reg l c) parts.1 (line_step c.plan c.variables c.block l (ruled_line c l parts.0) is)
+
+  nothing_offered : Offered reg opening.plan opening.block
+  nothing_offered =
+      record {
+        services = tt;
+        singletons = tt;
+        fields = tt;
+        open_fields = tt;
+        behaviours = omega arith;
+        exports = omega arith;
+        singles = omega arith;
+        threads = omega arith;
+      }
+
+  -- so it is of a plan that keeps the rules
+  pub plan_offers : (p : Plan) → KeepsTheRules reg p → Offered reg p at_top
+  plan_offers p keeps =
+      subst (λ q. Offered reg q at_top) keeps.made (subst (Offered reg (behind_all reg keeps.lines opening).plan) keeps.closed (lines_offered keeps.lines opening keeps.right nothing_offered))
