@@ -33,3 +33,4 @@ pub mod ReapingFits
 pub mod OpeningFits
 pub mod StepFits
 pub mod PlanOffers
+pub mod GivenLaws
