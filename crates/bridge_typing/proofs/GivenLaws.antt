@@ -1,14 +1,12 @@
 -- A setting with a plan that keeps the rules gives all that is asked of it, and so the laws hold of it.
-use Rattle.std.proofs.Common.{◌≡◌, ℕ, suc, ◌+◌, ◌≤◌, ◌<◌, ◌^◌, Bool, true, false, not, ◌&&◌, ◌||◌, if◌then◌else◌, List, [], ◌∷◌, ◌++◌, length, map, refl, sym, ap, subst, ◌∙◌, arith}
+use Rattle.std.proofs.Common.{◌≡◌, ◌≤◌, Bool, true, false, not, ◌||◌, if◌then◌else◌, List, [], ◌∷◌, length, map, refl, sym, subst, arith}
 use Rattle.std.specs.List.{AllByRecursion}
 use Rattle.std.proofs.lemmas.List.{length-append, length-map}
 use Rattle.uno_model.specs.BuiltIn.{HasBuiltIn}
 use Rattle.uno_model.specs.Sound.{IsSound}
-use Rattle.table_model.specs.Bags.{how_many}
 use Rattle.table_model.specs.Holdings.{Hold, Holdings}
 use Rattle.table_model.specs.Pair.{Pair}
 use Rattle.table_model.specs.Stubs.{Stubs}
-use Rattle.plan_model.specs.Contexts.{at_top}
 use Rattle.plan_model.specs.Keeps.{KeepsTheRules}
 use Rattle.plan_model.specs.Plans.{Plan, manager, has_offers, first_objects}
 use Rattle.plan_typing.specs.Effects.{NamesDiffer}
@@ -27,11 +25,10 @@ use Rattle.bridge_typing.specs.Giving.{MayGive, RootsGive}
 use Rattle.bridge_typing.proofs.Fine.{is_fine_own, is_fine_peer}
 use Rattle.bridge_typing.proofs.FineLaws.{own_tested, peer_tested}
 use Rattle.bridge_typing.proofs.Given.{IsGiven}
-use Rattle.bridge_typing.proofs.ObjectsFit.{ObjectFits, ObjectsFit}
+use Rattle.bridge_typing.proofs.ObjectsFit.{ObjectFits}
 use Rattle.bridge_typing.proofs.PlanOffers.{plan_offers}
-use Rattle.bridge_typing.proofs.SideFits.{SideFits}
 use Rattle.bridge_typing.proofs.StepFits.{Stays, all_stays, next_fits}
-use Rattle.bridge_typing.proofs.TablesFit.{is_wrong_pair, held_wrong, is_unsupported, sent_wrong}
+use Rattle.bridge_typing.proofs.TablesFit.{held_wrong, sent_wrong}
 
 -- ---- what is asked of a setting
 

@@ -1,21 +1,19 @@
 -- An answer that is handed down leaves frames and tables that fit: a method goes on with what it takes, or ends with an exception that may go.
-use Rattle.std.proofs.Common.{◌≡◌, ℕ, suc, ◌+◌, ◌≤◌, ◌==◌, Bool, true, false, if◌then◌else◌, List, [], ◌∷◌, ◌++◌, Option, None, Some, slice_get, refl, sym, ap, subst, ◌∙◌, arith}
+use Rattle.std.proofs.Common.{◌≡◌, ℕ, ◌==◌, Bool, true, false, if◌then◌else◌, List, [], ◌∷◌, ◌++◌, Option, None, Some, slice_get, refl, sym, ap, subst, ◌∙◌, arith}
 use Rattle.std.specs.Option.{option_map}
-use Rattle.message_model.specs.Calls.{numbered, comes, kinds_on, out_kinds}
+use Rattle.message_model.specs.Calls.{numbered, out_kinds}
 use Rattle.message_model.specs.Messages.{Answer, returned, raised, reply}
 use Rattle.message_model.specs.Sayable.{AnswerFits, IsThread, IsCalled}
-use Rattle.uno_model.specs.Entities.{Entity, Field}
+use Rattle.uno_model.specs.Entities.{Field}
 use Rattle.uno_model.specs.Fits.{Fits, FitEach}
 use Rattle.uno_model.specs.Functions.{Function}
-use Rattle.uno_model.specs.Kinds.{Kind}
-use Rattle.uno_model.specs.Kinds as kd
 use Rattle.uno_model.specs.Values.{Ref, own, Plain, plains, refs}
 use Rattle.uno_model.specs.Values as v
 use Rattle.table_model.specs.declared.holder.Holder.{Holder}
 use Rattle.table_model.specs.declared.holder.Holder.TheVariants as holder
 use Rattle.plan_model.specs.Effects.{method_for, methods_of}
 use Rattle.plan_model.specs.Frames.{Variable, Body, Frame, base, body, outgoing}
-use Rattle.plan_model.specs.Holdings.{Taken, goes_on, let_go_at_end, refs_under, reference_of, is_taken}
+use Rattle.plan_model.specs.Holdings.{goes_on, let_go_at_end, refs_under, reference_of, is_taken}
 use Rattle.plan_model.specs.Leaving.{leaving_frame}
 use Rattle.plan_model.specs.Plans.{Method, manager}
 use Rattle.plan_model.specs.Statements.{Statement, call, query}
@@ -35,11 +33,11 @@ use Rattle.bridge_model.specs.Calls.{Unwound, unwound}
 use Rattle.bridge_model.specs.Handing.{behaviour_of, statement_in, statement_of_function, taken_by, goes_on_taking, goes_on_with, root_gets, lets_go_frame, answers_peer, holder_of, gains_with, gains_below, takes_with, takes_below, hands_over, hands, after_letting_go, hands_down, ends_frame, hands_from_peer}
 use Rattle.bridge_model.specs.Handing as handing
 use Rattle.bridge_model.specs.Objects.{object_numbered}
-use Rattle.bridge_model.specs.References.{says, refs_of_values, refs_of_answer}
+use Rattle.bridge_model.specs.References.{says, refs_of_answer}
 use Rattle.bridge_model.specs.Settings.{Setting, own_oid}
 use Rattle.bridge_model.specs.Sides.{Object, RootState, waits_query, answered, answer, Tables, state_of, with_root}
 use Rattle.bridge_typing.proofs.Fine.{wrong}
-use Rattle.bridge_typing.proofs.FramesFit.{behaviour_at, BodyFits, Runs, TakesFrom, Awaits, Pauses, FramesFit, AnswerComes, AnswerGoes, UnwoundFits}
+use Rattle.bridge_typing.proofs.FramesFit.{behaviour_at, BodyFits, TakesFrom, Awaits, Pauses, FramesFit, AnswerComes, AnswerGoes, UnwoundFits}
 use Rattle.bridge_typing.proofs.Given.{IsGiven}
 use Rattle.bridge_typing.proofs.TablesFit.{TablesFit}
 use Rattle.bridge_typing.proofs.LeavingFits.{frame_goes}
@@ -174,17 +172,20 @@ module _ (g : Setting) (given : IsGiven g) (os : List Object) (made : ℕ) (tid 
       let parts = returned_owes (wrong g os) x outs in let none = goes.fine in let before = r.fits.fine in
       let most = taken_by_owes (wrong g os) g o x outs b.variables in
       record {
-        frames =
-            (record {
-              behaviour = r.behaviour;
-              function = r.function;
-              types = types_behind r.statement r.types;
-              fits =
-                  subst (λ s. BodyFits g os (goes_on (taken_by g s x outs b.variables).variables b) r.behaviour r.function (types_behind r.statement r.types)) (sym is)
-                  (goes_on_fits called b x outs r goes);
-              rest = r.rest;
-              begun = λ manages. absurd (no_statement g r.behaviour b.place r.function r.statement (r.behaviour == manager) manages r.found);
-            }, rests, below);
+        frames = (
+          record {
+            behaviour = r.behaviour;
+            function = r.function;
+            types = types_behind r.statement r.types;
+            fits =
+                subst (λ s. BodyFits g os (goes_on (taken_by g s x outs b.variables).variables b) r.behaviour r.function (types_behind r.statement r.types)) (sym is)
+                (goes_on_fits called b x outs r goes);
+            rest = r.rest;
+            begun = λ manages. absurd (no_statement g r.behaviour b.place r.function r.statement (r.behaviour == manager) manages r.found);
+          },
+          rests,
+          below,
+        );
         tables = lets_go_all_fits g given os made (holder.Frame b.number) (taken_by g o x outs b.variables).let_go t (omega arith) fit;
       }
 

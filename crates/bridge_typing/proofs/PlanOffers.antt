@@ -1,8 +1,8 @@
 -- In a plan that keeps the rules, what services and singletons give out is of behaviours that fit, fields of a behaviour have different names, and there are not too many of each.
-use Rattle.std.proofs.Common.{◌≡◌, refl, sym, ap, ◌∙◌, subst, ℕ, zero, suc, ◌+◌, ◌≤◌, ◌<◌, Bool, true, false, not, ◌&&◌, ◌||◌, nat_lt, List, [], ◌∷◌, ◌++◌, length, map, Option, None, Some, is_some, slice_get, append-nil, if◌then◌else◌, arith}
+use Rattle.std.proofs.Common.{◌≡◌, refl, sym, ap, ◌∙◌, subst, ℕ, zero, suc, ◌+◌, ◌≤◌, ◌<◌, Bool, true, false, not, ◌&&◌, ◌||◌, nat_lt, List, [], ◌∷◌, ◌++◌, length, map, Option, None, Some, slice_get, append-nil, if◌then◌else◌, arith}
 use Rattle.std.specs.List.{AllByRecursion, list_all, list_any, find, position, position_or_len}
 use Rattle.std.specs.Str.{bytes_eq}
-use Rattle.std.proofs.lemmas.Bool.{and_parts, and_from, ltb-true}
+use Rattle.std.proofs.lemmas.Bool.{and_parts, ltb-true}
 use Rattle.std.proofs.lemmas.List.{length-append}
 use Rattle.std.proofs.lemmas.List.Folds.{find_at}
 use Rattle.std.proofs.lemmas.Slice.Eq.{bytes_eq-Decides}
@@ -12,13 +12,12 @@ use Rattle.uno_model.specs.Functions.{Function}
 use Rattle.uno_model.specs.Kinds.{Kind}
 use Rattle.uno_model.specs.NamedTypes.{type_of_text}
 use Rattle.uno_model.specs.Registry.{find_entity}
-use Rattle.uno_model.specs.Sound.{IsSound, is_there, is_interface, is_service, services_known, all_differ}
-use Rattle.uno_model.specs.Uses.{interfaces_used, services_used}
+use Rattle.uno_model.specs.Sound.{IsSound, is_there, is_interface, services_known, all_differ}
 use Rattle.uno_model.proofs.FunctionLaws.{rooted}
 use Rattle.uno_model.proofs.Options.{same_some, none_some}
 use Rattle.uno_model.proofs.UsedKindLaws.{found_entity}
-use Rattle.plan_model.specs.Building.{with_statement, with_root_statement, with_line, opens_method, with_field, with_service, with_singleton, with_export, closes, behind, behind_all, behind_statement, behind_root_statement}
-use Rattle.plan_model.specs.Contexts.{Scoped, Block, at_top, in_behaviour, in_method, in_thread, Context, open_behaviours, behaviours_before, behaviour_number, behaviour_named, declared_function, opening}
+use Rattle.plan_model.specs.Building.{with_statement, with_root_statement, opens_method, with_field, with_service, with_singleton, with_export, behind, behind_all, behind_statement, behind_root_statement}
+use Rattle.plan_model.specs.Contexts.{Scoped, Block, at_top, in_behaviour, in_method, in_thread, Context, open_behaviours, behaviour_number, behaviour_named, declared_function, opening}
 use Rattle.plan_model.specs.Fitting.{base_of, base_in, service_fits, serves_all, all_fits}
 use Rattle.plan_model.specs.Keeps.{has_form, reason_of, first_wrong, KeepsTheRules}
 use Rattle.plan_model.specs.KnownNames.{is_new_service, is_new_singleton, names_are_known}

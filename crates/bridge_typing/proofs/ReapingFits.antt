@@ -1,37 +1,36 @@
 -- An object that is reaped is named nowhere: what frames and objects have is held, and it is not; so all that fits still does.
-use Rattle.std.proofs.Common.{◌≡◌, ◌≢◌, ℕ, suc, ◌+◌, ◌≤◌, ◌<◌, ◌==◌, eqb-true, Bool, true, false, cond, not, ◌&&◌, ◌||◌, if◌then◌else◌, List, [], ◌∷◌, ◌++◌, filter, find, length, Option, None, Some, slice_get, refl, sym, ap, subst, ◌∙◌, arith}
+use Rattle.std.proofs.Common.{◌≡◌, ◌≢◌, ℕ, suc, ◌+◌, ◌≤◌, ◌==◌, eqb-true, Bool, true, false, cond, not, ◌&&◌, ◌||◌, if◌then◌else◌, List, [], ◌∷◌, filter, find, Option, None, Some, slice_get, refl, sym, ap, ◌∙◌, arith}
 use Rattle.std.specs.List.{AllByRecursion, list_any}
 use Rattle.std.specs.Option.{option_map}
 use Rattle.std.specs.Str.{bytes_eq}
 use Rattle.std.proofs.lemmas.Slice.Eq.{bytes_eq-Decides}
 use Rattle.uno_model.specs.Functions.{Function}
-use Rattle.uno_model.specs.Values.{Ref, null, own, peer, refs}
-use Rattle.table_model.specs.Bags.{how_many}
+use Rattle.uno_model.specs.Values.{Ref, null, own, peer}
 use Rattle.table_model.specs.Holdings.{Hold, Holdings}
 use Rattle.table_model.specs.Stubs.{Stubs}
 use Rattle.table_model.specs.declared.holder.Holder.{Holder}
 use Rattle.table_model.specs.declared.holder.Holder.TheVariants as holder
 use Rattle.plan_model.specs.Frames.{Body, Frame, base, body, outgoing, Stack}
-use Rattle.plan_model.specs.Holdings.{refs_under, let_go_at_end}
+use Rattle.plan_model.specs.Holdings.{refs_under}
 use Rattle.plan_model.specs.Plans.{supports, first_objects}
 use Rattle.plan_typing.specs.Types.{Types}
 use Rattle.bridge_laws.specs.Counting.{total, one_if}
-use Rattle.bridge_laws.proofs.HandingLaws.{frames_have, body_has, body_parts, method_more, base_more, outgoing_more}
+use Rattle.bridge_laws.proofs.HandingLaws.{frames_have, body_has, body_parts, method_more, outgoing_more}
 use Rattle.bridge_laws.proofs.LivingLaws.{AreHeld, AllCovered, told_lives}
-use Rattle.bridge_laws.proofs.ObjectLaws.{object_has, objects_more}
-use Rattle.bridge_laws.proofs.OccurrenceLaws.{times, refs_owe, refs_owe_is, objects_have}
+use Rattle.bridge_laws.proofs.ObjectLaws.{objects_more}
+use Rattle.bridge_laws.proofs.OccurrenceLaws.{times, objects_have}
 use Rattle.bridge_laws.proofs.ReapingLaws.{MayGo, lowest_may_go}
-use Rattle.bridge_laws.proofs.SideLaws.{stacks_have, SideCovers, stacks_more}
+use Rattle.bridge_laws.proofs.SideLaws.{stacks_have, stacks_more}
 use Rattle.bridge_laws.proofs.StrayLaws.{is_stray, untold, strays, held_strays}
-use Rattle.bridge_laws.proofs.Sums.{total_append, total_at_most, total_plus, total_filter, found_at_most}
+use Rattle.bridge_laws.proofs.Sums.{total_at_most, total_plus, total_filter, found_at_most}
 use Rattle.bridge_model.specs.Going.{reaps_object, reaps}
 use Rattle.bridge_model.specs.Objects.{object_numbered, object_named, faces_at, object_supports, is_held_object, has_stub, may_go, lowest, without_object}
-use Rattle.bridge_model.specs.References.{lets_go_all, loses_all, refs_of_values}
+use Rattle.bridge_model.specs.References.{refs_of_values}
 use Rattle.bridge_model.specs.Settings.{Setting, is_own, own_oid}
-use Rattle.bridge_model.specs.Sides.{Object, Tables, Side, stands, with_tables}
+use Rattle.bridge_model.specs.Sides.{Object, Side, stands}
 use Rattle.bridge_model.specs.Steps.{reaps_some}
 use Rattle.bridge_typing.proofs.Fine.{is_well, is_fine_own, is_fine_peer, wrong}
-use Rattle.bridge_typing.proofs.FramesFit.{behaviour_at, BodyFits, Runs, Awaits, FramesFit}
+use Rattle.bridge_typing.proofs.FramesFit.{behaviour_at, BodyFits, FramesFit}
 use Rattle.bridge_typing.proofs.Given.{IsGiven}
 use Rattle.bridge_typing.proofs.ObjectsFit.{ObjectFits, object_wrong, ObjectsFit}
 use Rattle.bridge_typing.proofs.SideFits.{StackFits, SideFits}
@@ -170,7 +169,7 @@ module _ (g : Setting) (os : List Object) (n : ℕ) where
       let both = not_both (bytes_eq gone h.pair.oid) (list_any (λ h. bytes_eq gone h.pair.oid) hs) none in
       let same = supports_kept h.pair.oid h.pair.face both.0 in
       let here : one_if (is_wrong_pair g now h.pair) ≡ one_if (is_wrong_pair g os h.pair) =
-          ap (λ b. one_if (not ((is_own g h.pair.oid && (is_well g.registry h.pair.oid h.pair.face && b)) || is_fine_peer g h.pair.oid h.pair.face))) same in
+      ap (λ b. one_if (not ((is_own g h.pair.oid && (is_well g.registry h.pair.oid h.pair.face && b)) || is_fine_peer g h.pair.oid h.pair.face))) same in
       let rest = held_stays hs both.1 in omega arith
 
   sent_stays : (stubs : Stubs) → has_stub gone stubs ≡ false → sent_wrong g now stubs ≡ sent_wrong g os stubs
@@ -191,11 +190,11 @@ module _ (g : Setting) (os : List Object) (n : ℕ) where
         let nothing = unheld hs none in
         let variables = refs_stay (holder.Frame b.number) (refs_under b.variables) hs nothing (λ h. let parts = body_parts g h b in let all = held h in omega arith) fits.fine in
         let one = refs_stay (holder.Frame b.number) (own (own_oid g b.object) b.face ∷ []) hs nothing (λ h. let parts = body_parts g h b in let all = held h in omega arith)
-            (let fine = fits.held in omega arith) in
+        (let fine = fits.held in omega arith) in
         let other = another (holder.Frame b.number) (own_oid g b.object) b.face hs nothing (λ h. let parts = body_parts g h b in let all = held h in omega arith) fits.held in
         record {
           called = fits.called;
-            found = ap (option_map (λ o. o.behaviour)) (numbered_kept n b.object os (λ same. not_it b.object same other)) ∙ fits.found;
+          found = ap (option_map (λ o. o.behaviour)) (numbered_kept n b.object os (λ same. not_it b.object same other)) ∙ fits.found;
           fields = fits.fields;
           itself = fits.itself;
           stand = fits.stand;
@@ -214,36 +213,44 @@ module _ (g : Setting) (os : List Object) (n : ℕ) where
     frames_stay asked (outgoing o ∷ fs) held fit =
         (fit.0, fit.1, frames_stay (Some fit.0) fs (λ h. let parts = outgoing_more g h o fs in let all = held h in omega arith) fit.2)
     frames_stay None (body b ∷ fs) held fit =
-        let r = fit.0 in
-        (record {
-          behaviour = r.behaviour;
-          function = r.function;
-          types = r.types;
-          fits = body_stays b r.behaviour r.function r.types (λ h. let parts = method_more g h b fs in let all = held h in omega arith) r.fits;
-          rest = r.rest;
-          begun = r.begun;
-        }, fit.1, frames_stay (Some r.function) fs (λ h. let parts = method_more g h b fs in let all = held h in omega arith) fit.2)
+        let r = fit.0 in (
+          record {
+            behaviour = r.behaviour;
+            function = r.function;
+            types = r.types;
+            fits = body_stays b r.behaviour r.function r.types (λ h. let parts = method_more g h b fs in let all = held h in omega arith) r.fits;
+            rest = r.rest;
+            begun = r.begun;
+          },
+          fit.1,
+          frames_stay (Some r.function) fs (λ h. let parts = method_more g h b fs in let all = held h in omega arith) fit.2,
+        )
     frames_stay (Some f) (body b ∷ fs) held fit =
-        let r = fit.0 in
-        (record {
-          behaviour = r.behaviour;
-          function = r.function;
-          types = r.types;
-          statement = r.statement;
-          fits = body_stays b r.behaviour r.function r.types (λ h. let parts = method_more g h b fs in let all = held h in omega arith) r.fits;
-          found = r.found;
-          typed = r.typed;
-          rest = r.rest;
-          takes = r.takes;
-        }, fit.1, frames_stay (Some r.function) fs (λ h. let parts = method_more g h b fs in let all = held h in omega arith) fit.2)
+        let r = fit.0 in (
+          record {
+            behaviour = r.behaviour;
+            function = r.function;
+            types = r.types;
+            statement = r.statement;
+            fits = body_stays b r.behaviour r.function r.types (λ h. let parts = method_more g h b fs in let all = held h in omega arith) r.fits;
+            found = r.found;
+            typed = r.typed;
+            rest = r.rest;
+            takes = r.takes;
+          },
+          fit.1,
+          frames_stay (Some r.function) fs (λ h. let parts = method_more g h b fs in let all = held h in omega arith) fit.2,
+        )
 
     stacks_stay : (ss : List Stack) → ((h : Hold) → stacks_have g h ss ≤ times h hs) → AllByRecursion (StackFits g os) ss → AllByRecursion (StackFits g now) ss
     stacks_stay [] held all = tt
-    stacks_stay (s ∷ ss) held all =
-        (record {
-          thread = all.0.thread;
-          frames = frames_stay None s.frames (λ h. let parts = stacks_more g h s ss in let most = held h in omega arith) all.0.frames;
-        }, stacks_stay ss (λ h. let parts = stacks_more g h s ss in let most = held h in omega arith) all.1)
+    stacks_stay (s ∷ ss) held all = (
+      record {
+        thread = all.0.thread;
+        frames = frames_stay None s.frames (λ h. let parts = stacks_more g h s ss in let most = held h in omega arith) all.0.frames;
+      },
+      stacks_stay ss (λ h. let parts = stacks_more g h s ss in let most = held h in omega arith) all.1,
+    )
 
     -- ---- objects
 

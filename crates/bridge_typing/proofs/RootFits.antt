@@ -1,26 +1,22 @@
 -- What roots do leaves a side of which all may be said, where what they give may be.
-use Rattle.std.proofs.Common.{◌≡◌, ℕ, suc, ◌+◌, ◌≤◌, ◌<◌, ◌==◌, Bool, true, false, cond, not, ◌&&◌, ◌||◌, nat_lt, if◌then◌else◌, List, [], ◌∷◌, length, Option, None, Some, slice_get, refl, sym, ap, subst, ◌∙◌, arith}
+use Rattle.std.proofs.Common.{◌≡◌, ℕ, suc, ◌≤◌, ◌<◌, Bool, true, false, cond, not, ◌&&◌, ◌||◌, nat_lt, if◌then◌else◌, List, [], ◌∷◌, length, Option, None, Some, slice_get, refl, sym, subst, arith}
 use Rattle.std.specs.List.{list_all}
 use Rattle.std.proofs.lemmas.Bool.{and_parts, ltb-true, ltb-false}
 use Rattle.message_model.specs.Calls.{kinds_on, argument_kinds}
 use Rattle.message_model.specs.Messages.{Answer, returned, request}
 use Rattle.message_model.specs.Sayable.{MayBeSaid, IsThread, IsCalled, message_weight}
 use Rattle.uno_model.specs.BuiltIn.{x_interface_name}
-use Rattle.uno_model.specs.Fits.{Fits, FitEach, IsIdentity, IsInterface}
+use Rattle.uno_model.specs.Fits.{Fits, FitEach, IsInterface}
 use Rattle.uno_model.specs.Functions.{Function}
-use Rattle.uno_model.specs.Functions as fn
 use Rattle.uno_model.specs.Kinds as kd
-use Rattle.uno_model.specs.Types.{is_type}
 use Rattle.uno_model.specs.Values.{Ref, null, own, peer, Plain, plains, refs, depth_in}
-use Rattle.uno_model.specs.Values as v
-use Rattle.table_model.specs.Bags.{how_often, how_many}
+use Rattle.table_model.specs.Bags.{how_often}
 use Rattle.table_model.specs.Holdings.{Hold, hold, hold_cmp, holds, Holdings}
-use Rattle.table_model.specs.Pair.{Pair, pair}
+use Rattle.table_model.specs.Pair.{pair}
 use Rattle.table_model.specs.declared.holder.Holder.TheVariants as holder
 use Rattle.plan_model.specs.Evaluation.{is_heavy, is_deep}
-use Rattle.plan_model.specs.Frames.{Frame, base}
 use Rattle.plan_model.specs.Leaving.{caused}
-use Rattle.plan_model.specs.Plans.{supports, faces_of, first_objects}
+use Rattle.plan_model.specs.Plans.{supports, first_objects}
 use Rattle.plan_model.specs.declared.runtime_cause.RuntimeCause.{RuntimeCause}
 use Rattle.plan_model.specs.declared.runtime_cause.RuntimeCause.TheVariants.{TooLarge, TooDeep}
 use Rattle.plan_typing.specs.Effects.{MakingFits}
@@ -29,22 +25,19 @@ use Rattle.bridge_laws.proofs.HandingLaws.{returned_owes}
 use Rattle.bridge_laws.proofs.LivingEffectLaws.{defaults_of_fields}
 use Rattle.bridge_laws.proofs.LivingRootLaws.{often_passes}
 use Rattle.bridge_laws.proofs.VariableLaws.{values_none}
-use Rattle.bridge_model.specs.Calls.{Unwound, query_args, calls_own, calls_peer}
-use Rattle.bridge_model.specs.Handing.{root_gets}
+use Rattle.bridge_model.specs.Calls.{query_args, calls_own, calls_peer}
 use Rattle.bridge_model.specs.Objects.{object_answer, fields_of, makes_default, defaults_of}
 use Rattle.bridge_model.specs.References.{gains, gains_all, holds_ref, lets_go, loses, refs_of_values}
 use Rattle.bridge_model.specs.Roots.{holds_each, holds_pair, answered_before, is_answered, bottom, begins_call, calls_unless, root_calls, gets_at_once, asks_peer, begins_query, queries_unless, root_queries, asks_unless, root_asks, root_makes, root_drops, root_takes}
 use Rattle.bridge_model.specs.Settings.{Setting, own_oid, root_tid, ref_of, is_own, is_told}
-use Rattle.bridge_model.specs.Sides.{Object, Tables, Side, stands, waits_call, waits_query, with_root, with_tables}
-use Rattle.bridge_model.specs.Stacks.{with_unwound}
-use Rattle.bridge_typing.specs.Giving.{MayGive}
+use Rattle.bridge_model.specs.Sides.{Object, Tables, Side, stands, waits_call, waits_query, with_root}
 use Rattle.bridge_typing.proofs.Fine.{is_well, is_fine_own, is_fine_peer, wrong}
-use Rattle.bridge_typing.proofs.FramesFit.{FramesFit, UnwoundFits}
+use Rattle.bridge_typing.proofs.FramesFit.{FramesFit}
 use Rattle.bridge_typing.proofs.Given.{IsGiven}
 use Rattle.bridge_typing.proofs.ObjectsFit.{ObjectsFit}
 use Rattle.bridge_typing.proofs.SideFits.{SideFits}
 use Rattle.bridge_typing.proofs.TablesFit.{is_wrong_pair, held_wrong, TablesFit}
-use Rattle.bridge_typing.proofs.BeginFits.{Gives, calls_own_fits, calls_peer_fits}
+use Rattle.bridge_typing.proofs.BeginFits.{calls_own_fits, calls_peer_fits}
 use Rattle.bridge_typing.proofs.FineLaws.{own_fine, peer_fine}
 use Rattle.bridge_typing.proofs.CreatedFits.{place_within, faces_are}
 use Rattle.bridge_typing.proofs.HandingFits.{root_gets_fits}
@@ -277,7 +270,7 @@ module _ (g : Setting) (given : IsGiven g) (most root : ℕ) where
       let supported = subst (λ faces. supports g.registry faces wanted ≡ true) (sym (faces_are g given behaviour making.made making.found)) making.supported in
       let few : fit.made < 2000000 = omega arith in
       let next : (k : ℕ) → slice_get (first_objects g.plan) fit.made ≡ Some k → behaviour ≡ k =
-          λ k is. none_next fit.made behaviour k opened is in
+      λ k is. none_next fit.made behaviour k opened is in
       let now = made_now fit.made behaviour values fit.os in
       record {
         os = now;

@@ -1,6 +1,6 @@
 -- Over every history all that was said may be said: each entry leaves a side of which that holds.
-use Rattle.std.proofs.Common.{◌≡◌, ℕ, zero, suc, ◌+◌, ◌≤◌, ◌<◌, Bool, true, false, not, ◌&&◌, nat_lt, if◌then◌else◌, List, [], ◌∷◌, ◌++◌, length, drop, Option, None, Some, refl, sym, ap, subst, ◌∙◌, arith}
-use Rattle.std.specs.List.{AllByRecursion, list_all}
+use Rattle.std.proofs.Common.{◌≡◌, ℕ, zero, suc, ◌+◌, ◌<◌, Bool, true, false, not, nat_lt, if◌then◌else◌, List, [], ◌∷◌, ◌++◌, length, drop, Option, None, Some, refl, sym, subst, arith}
+use Rattle.std.specs.List.{list_all}
 use Rattle.std.proofs.lemmas.Bool.{and_parts, ltb-true}
 use Rattle.message_model.specs.Messages.{Message}
 use Rattle.message_model.specs.Sayable.{IsThread}
@@ -23,7 +23,7 @@ use Rattle.bridge_model.specs.Roots.{holds_each, holds_pair, root_asks, root_cal
 use Rattle.bridge_model.specs.Saying.{AreSayable}
 use Rattle.bridge_model.specs.Settings.{Setting, is_told}
 use Rattle.bridge_model.specs.Sides.{Object, Side, stands}
-use Rattle.bridge_model.specs.Steps.{Turn, turn, step, may, may_begin, may_give, has_entries, most_entries, is_root, is_picked, Picked, picked_in, picked, applies_effect, applies_picked, reaps_some, opening, does, counted, said_by}
+use Rattle.bridge_model.specs.Steps.{Turn, turn, step, may, may_begin, may_give, has_entries, most_entries, is_picked, Picked, picked_in, picked, applies_effect, applies_picked, reaps_some, opening, does, said_by}
 use Rattle.bridge_model.specs.declared.cause.Cause.TheVariants as cause
 use Rattle.bridge_typing.specs.Giving.{MayGive, RootsGive}
 use Rattle.bridge_typing.proofs.FramesFit.{Runs, Pauses, FramesFit}

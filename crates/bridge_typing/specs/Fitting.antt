@@ -1,5 +1,5 @@
 -- What objects have and what is held, where it fits.
-use Rattle.std.specs.Prelude.{◌≡◌, ℕ, true, List}
+use Rattle.std.specs.Prelude.{◌≡◌, true, List}
 use Rattle.uno_model.specs.Fits.{IsIdentity, IsInterface}
 use Rattle.table_model.specs.Pair.{Pair}
 use Rattle.plan_typing.specs.Scenes.{FieldsFit}
