@@ -1,5 +1,5 @@
 -- What a name creates fits, and supports XInterface.
-use Rattle.std.proofs.Common.{◌≡◌, ℕ, zero, suc, ◌<◌, ◌==◌, eqb-true, Bool, true, false, if◌then◌else◌, List, [], ◌∷◌, length, Option, None, Some, Result, Ok, Err, slice_get, refl, sym, ap, subst, arith}
+use Rattle.std.proofs.Common.{◌≡◌, ℕ, zero, suc, ◌<◌, ◌==◌, eqb-true, Bool, true, false, if◌then◌else◌, List, [], ◌∷◌, length, Option, None, Some, Result, Ok, Err, slice_get, refl, sym, ap, subst, arith, ◌+◌, ◌||◌, ◌++◌, map, ◌∙◌}
 use Rattle.std.specs.List.{AllByRecursion, list_any, find, position_or_len}
 use Rattle.uno_model.specs.BuiltIn.{x_interface_name, x_interface, factory_name}
 use Rattle.uno_model.specs.Fits.{FitAll, IsInterface}
@@ -20,6 +20,24 @@ use Rattle.bridge_model.specs.Settings.{Setting}
 use Rattle.bridge_typing.proofs.Given.{ServiceFits, FieldsDiffer, IsGiven}
 use Rattle.bridge_typing.proofs.CreatingFits.{TakesPlace, OnEach, first_fits, fields_fit}
 use Rattle.bridge_typing.proofs.JobFits.{found_all}
+use Rattle.uno_model.proofs.Options.{same_some}
+use Rattle.uno_model.specs.Sound.{is_some_list}
+
+-- ---- places in lists
+
+pub slice_behind : {X : Type 0} (xs ys : List X) (n : ℕ) → slice_get (xs ++ ys) (length xs + n) ≡ slice_get ys n
+slice_behind [] ys n = let same : 0 + n ≡ n = omega arith in ap (slice_get ys) same
+slice_behind (x ∷ xs) ys n = let same : suc (length xs) + n ≡ suc (length xs + n) = omega arith in ap (slice_get (x ∷ (xs ++ ys))) same ∙ slice_behind xs ys n
+
+pub slice_mapped : {X Y : Type 0} (f : X → Y) (xs : List X) (n : ℕ) (x : X) → slice_get xs n ≡ Some x → slice_get (map f xs) n ≡ Some (f x)
+slice_mapped f [] n x is = absurd (cc)
+slice_mapped f (y ∷ xs) zero x is = ap (λ z. Some (f z)) (same_some is)
+slice_mapped f (y ∷ xs) (suc n) x is = slice_mapped f xs n x is
+
+pub has_some : (a : Bool) (xs : List Offer) (n : ℕ) (x : Offer) → slice_get xs n ≡ Some x → (a || is_some_list xs) ≡ true
+has_some true xs n x is = refl
+has_some false [] n x is = absurd (cc)
+has_some false (y ∷ xs) n x is = refl
 
 -- ---- behaviours at their places
 

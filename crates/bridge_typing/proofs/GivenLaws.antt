@@ -26,7 +26,7 @@ use Rattle.bridge_typing.proofs.Fine.{is_fine_own, is_fine_peer}
 use Rattle.bridge_typing.proofs.FineLaws.{own_tested, peer_tested}
 use Rattle.bridge_typing.proofs.Given.{IsGiven}
 use Rattle.bridge_typing.proofs.ObjectsFit.{ObjectFits}
-use Rattle.bridge_typing.proofs.PlanOffers.{plan_offers}
+use Rattle.bridge_typing.proofs.PlanRules.{plan_offers}
 use Rattle.bridge_typing.proofs.StepFits.{Stays, all_stays, next_fits}
 use Rattle.bridge_typing.proofs.TablesFit.{held_wrong, sent_wrong}
 

@@ -39,7 +39,7 @@ use Rattle.bridge_typing.proofs.Given.{IsGiven}
 use Rattle.bridge_typing.proofs.ObjectsFit.{ObjectFits, object_wrong, ObjectsFit}
 use Rattle.bridge_typing.proofs.AskingFits.{Asks, body_asks}
 use Rattle.bridge_typing.proofs.FineLaws.{OwnFine, own_fine, fine_own, object_supports_base}
-use Rattle.bridge_typing.proofs.HandingFits.{found_object}
+use Rattle.bridge_typing.proofs.WaitingFits.{found_object}
 
 -- ---- objects
 

@@ -50,9 +50,10 @@ use Rattle.uno_model.specs.Sound.{is_some_list}
 use Rattle.uno_model.proofs.Options.{same_some}
 use Rattle.plan_typing.proofs.EffectPlaces.{all_at_place}
 use Rattle.bridge_typing.proofs.OwnEffects.{lasts_itself}
-use Rattle.bridge_typing.proofs.CreatedFits.{FreshFits, CreatedFits, created_fits, place_within, faces_are, root_interface}
+use Rattle.bridge_typing.proofs.CreatedFits.{slice_behind, slice_mapped, has_some, FreshFits, CreatedFits, created_fits, place_within, faces_are, root_interface}
 use Rattle.bridge_typing.proofs.FineLaws.{own_fine, fine_own}
-use Rattle.bridge_typing.proofs.HandingFits.{found_object, next_fits, no_statement, ends_frame_fits}
+use Rattle.bridge_typing.proofs.HandingFits.{next_fits, ends_frame_fits}
+use Rattle.bridge_typing.proofs.WaitingFits.{found_object, no_statement}
 use Rattle.bridge_typing.proofs.LastingFits.{refs_last, body_lasts, frames_last}
 use Rattle.bridge_typing.proofs.LeavingFits.{frame_goes}
 use Rattle.bridge_typing.proofs.MakingFits.{named_by_number, push_lasts, defaults_fit, made_now, made_fit, made_fine, makes_fits}
@@ -200,20 +201,6 @@ module _ (g : Setting) (given : IsGiven g) (os : List Object) (made : ℕ) (obje
         })
 
     -- ---- singletons
-
-    slice_behind : {X : Type 0} (xs ys : List X) (n : ℕ) → slice_get (xs ++ ys) (length xs + n) ≡ slice_get ys n
-    slice_behind [] ys n = let same : 0 + n ≡ n = omega arith in ap (slice_get ys) same
-    slice_behind (x ∷ xs) ys n = let same : suc (length xs) + n ≡ suc (length xs + n) = omega arith in ap (slice_get (x ∷ (xs ++ ys))) same ∙ slice_behind xs ys n
-
-    slice_mapped : {X Y : Type 0} (f : X → Y) (xs : List X) (n : ℕ) (x : X) → slice_get xs n ≡ Some x → slice_get (map f xs) n ≡ Some (f x)
-    slice_mapped f [] n x is = absurd (cc)
-    slice_mapped f (y ∷ xs) zero x is = ap (λ z. Some (f z)) (same_some is)
-    slice_mapped f (y ∷ xs) (suc n) x is = slice_mapped f xs n x is
-
-    has_some : (a : Bool) (xs : List Offer) (n : ℕ) (x : Offer) → slice_get xs n ≡ Some x → (a || is_some_list xs) ≡ true
-    has_some true xs n x is = refl
-    has_some false [] n x is = absurd (cc)
-    has_some false (y ∷ xs) n x is = refl
 
     singleton_first : (place : ℕ) (o : Offer) → slice_get g.plan.singletons place ≡ Some o → slice_get (first_objects g.plan) (length g.plan.exports + suc place) ≡ Some o.behaviour
     unfolding first_objects

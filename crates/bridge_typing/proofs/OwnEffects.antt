@@ -28,7 +28,8 @@ use Rattle.bridge_typing.proofs.Moves.{Moves}
 use Rattle.bridge_typing.proofs.ObjectsFit.{ObjectsFit, Lasts}
 use Rattle.bridge_typing.proofs.TablesFit.{TablesFit}
 use Rattle.bridge_typing.proofs.AskingFits.{GoesOn}
-use Rattle.bridge_typing.proofs.HandingFits.{next_fits, no_statement, found_object}
+use Rattle.bridge_typing.proofs.HandingFits.{next_fits}
+use Rattle.bridge_typing.proofs.WaitingFits.{no_statement, found_object}
 use Rattle.bridge_typing.proofs.JobFits.{fields_fine}
 use Rattle.bridge_typing.proofs.LastingFits.{refs_last, frames_last, tables_last}
 use Rattle.bridge_typing.proofs.OwnFits.{fields_last, as_they_fit, with_fields_fit}

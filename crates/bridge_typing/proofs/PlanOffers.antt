@@ -1,4 +1,4 @@
--- In a plan that keeps the rules, what services and singletons give out is of behaviours that fit, fields of a behaviour have different names, and there are not too many of each.
+-- What services and singletons of a plan give out is of behaviours that fit, fields of a behaviour have different names, and there are not too many of each: each kind of line keeps it.
 use Rattle.std.proofs.Common.{◌≡◌, refl, sym, ap, ◌∙◌, subst, ℕ, zero, suc, ◌+◌, ◌≤◌, ◌<◌, Bool, true, false, not, ◌&&◌, ◌||◌, nat_lt, List, [], ◌∷◌, ◌++◌, length, map, Option, None, Some, slice_get, append-nil, if◌then◌else◌, arith}
 use Rattle.std.specs.List.{AllByRecursion, list_all, list_any, find, position, position_or_len}
 use Rattle.std.specs.Str.{bytes_eq}
@@ -36,82 +36,11 @@ use Rattle.plan_typing.proofs.PlanLaws.{right_parts}
 use Rattle.plan_typing.proofs.PlanGrows.{Stays, statement_stays, root_statement_stays}
 use Rattle.bridge_typing.proofs.FineLaws.{supports_base}
 use Rattle.bridge_typing.proofs.Given.{OfferFits, ServiceFits, FieldsDiffer}
-
--- ---- lists
-
-all_push : {X : Type 0} (P : X → Type 0) (xs : List X) (x : X) → AllByRecursion P xs → P x → AllByRecursion P (xs ++ x ∷ [])
-all_push P [] x all one = (one, tt)
-all_push P (y ∷ ys) x all one = (all.0, all_push P ys x all.1 one)
-
-all_more : {X : Type 0} (P Q : X → Type 0) → ((x : X) → P x → Q x) → (xs : List X) → AllByRecursion P xs → AllByRecursion Q xs
-all_more P Q more [] all = tt
-all_more P Q more (x ∷ xs) all = (more x all.0, all_more P Q more xs all.1)
-
-slice_before : {X : Type 0} (xs ys : List X) (n : ℕ) (x : X) → slice_get xs n ≡ Some x → slice_get (xs ++ ys) n ≡ Some x
-slice_before [] ys n x is = absurd (none_some is)
-slice_before (y ∷ xs) ys zero x is = is
-slice_before (y ∷ xs) ys (suc n) x is = slice_before xs ys n x is
-
--- the behaviour that is found stands at the place that is found
-at_number : (p : Behaviour → Bool) (bs : List Behaviour) (n : ℕ) (o : Option Behaviour) → find p bs ≡ o → position p bs ≡ Some n → slice_get bs n ≡ o
-at_number p bs n o found is = by_test (nat_lt (position_or_len p bs) (length bs)) is
-  where
-    by_test : (b : Bool) → (if b then Some (position_or_len p bs) else None) ≡ Some n → slice_get bs n ≡ o
-    by_test true to = subst (λ at. slice_get bs at ≡ o) (same_some to) (sym (find_at p bs) ∙ found)
-    by_test false to = absurd (none_some to)
-
-turned : (x y : List ℕ) (b : Bool) → bytes_eq y x ≡ b → bytes_eq x y ≡ false → b ≡ false
-turned x y true is other = let same : bytes_eq x y ≡ true = (bytes_eq-Decides x y).1 (sym ((bytes_eq-Decides y x).0 is)) in absurd (cc)
-turned x y false is other = refl
-
--- a name more, which is new
-differ_step : (here rest there also last : Bool) → (not here && rest) ≡ true → there ≡ false → (rest ≡ true → also ≡ true) → last ≡ here || there → (not last && also) ≡ true
-differ_step true rest there also last is none behind same = absurd (cc)
-differ_step false rest there also last is none behind same = let more = behind is in rw (same, none, more) refl
-
-any_last : (test : List ℕ → Bool) (names : List (List ℕ)) (n : List ℕ) → list_any test (names ++ n ∷ []) ≡ (list_any test names || test n)
-any_last test [] n = or_false (test n)
-  where
-    or_false : (b : Bool) → (b || false) ≡ b
-    or_false true = refl
-    or_false false = refl
-any_last test (x ∷ names) n = ap (λ b. test x || b) (any_last test names n) ∙ regrouped (test x) (list_any test names) (test n)
-  where
-    regrouped : (a b c : Bool) → (a || (b || c)) ≡ ((a || b) || c)
-    regrouped true b c = refl
-    regrouped false b c = refl
-
-not_either : (a b : Bool) → not (a || b) ≡ true → (a ≡ false) × (not b ≡ true)
-not_either true b is = absurd (cc)
-not_either false b is = (refl, is)
-
-differ_push : (names : List (List ℕ)) (n : List ℕ) → all_differ names ≡ true → not (list_any (bytes_eq n) names) ≡ true → all_differ (names ++ n ∷ []) ≡ true
-unfolding all_differ
-differ_push [] n differ new = refl
-differ_push (x ∷ names) n differ new =
-    let both = not_either (bytes_eq n x) (list_any (bytes_eq n) names) new in
-    let parts = and_parts (not (list_any (bytes_eq x) names)) (all_differ names) differ in
-    differ_step (list_any (bytes_eq x) names) (all_differ names) (bytes_eq x n) (all_differ (names ++ n ∷ [])) (list_any (bytes_eq x) (names ++ n ∷ [])) differ
-    (turned n x (bytes_eq x n) refl both.0) (λ rest. differ_push names n rest both.1) (any_last (bytes_eq x) names n)
-
-any_map : {X Y : Type 0} (test : Y → Bool) (f : X → Y) (xs : List X) → list_any test (map f xs) ≡ list_any (λ x. test (f x)) xs
-any_map test f [] = refl
-any_map test f (x ∷ xs) = ap (λ b. test (f x) || b) (any_map test f xs)
-
-map_push : {X Y : Type 0} (f : X → Y) (xs : List X) (x : X) → map f (xs ++ x ∷ []) ≡ map f xs ++ f x ∷ []
-map_push f [] x = refl
-map_push f (y ∷ xs) x = ap (λ ys. f y ∷ ys) (map_push f xs x)
-
--- a field more, whose name is new
-field_more : (fs : List Field) (f : Field) → all_differ (map (λ x. x.name) fs) ≡ true → not (list_any (λ x. bytes_eq f.name x.name) fs) ≡ true
-    → all_differ (map (λ x. x.name) (fs ++ f ∷ [])) ≡ true
-field_more fs f differ new =
-    ap all_differ (map_push (λ (x : Field). x.name) fs f)
-    ∙ differ_push (map (λ x. x.name) fs) f.name differ (ap not (any_map (bytes_eq f.name) (λ (x : Field). x.name) fs) ∙ new)
+use Rattle.bridge_typing.proofs.PlanLists.{all_push, all_more, slice_before, at_number, field_more}
 
 -- ---- plans
 
-abbrev open_threads : Block → ℕ
+abbrev pub open_threads : Block → ℕ
 open_threads (in_thread ss) = 1
 open_threads bl = 0
 
@@ -193,7 +122,7 @@ module _ (reg : List Entity) (sound : IsSound reg) (built : HasBuiltIn reg) wher
       let place = at_number (λ b. bytes_eq behaviour b.name) (q.behaviours ++ []) n (Some b) found at in
       (b, refl, ap (λ bs. slice_get bs n) (sym (append-nil q.behaviours)) ∙ place, base_root b.faces base there is)
 
-  service_offered : (q : Plan) (vs : List Scoped) (name behaviour : List ℕ) (o : Option ℕ) → behaviour_number (record { plan = q; block = at_top; variables = vs }) behaviour ≡ o
+  pub service_offered : (q : Plan) (vs : List Scoped) (name behaviour : List ℕ) (o : Option ℕ) → behaviour_number (record { plan = q; block = at_top; variables = vs }) behaviour ≡ o
       → is_there reg is_new_service name ≡ true → service_fits reg (behaviour_named (record { plan = q; block = at_top; variables = vs }) behaviour) (find_entity name reg) ≡ true
       → Offered reg q at_top → Offered reg (with_service o name q) at_top
   service_offered q vs name behaviour None at there fits is = is
@@ -220,7 +149,7 @@ module _ (reg : List Entity) (sound : IsSound reg) (built : HasBuiltIn reg) wher
         threads = is.threads;
       }
 
-  singleton_offered : (q : Plan) (vs : List Scoped) (name behaviour : List ℕ) (o : Option ℕ) → behaviour_number (record { plan = q; block = at_top; variables = vs }) behaviour ≡ o
+  pub singleton_offered : (q : Plan) (vs : List Scoped) (name behaviour : List ℕ) (o : Option ℕ) → behaviour_number (record { plan = q; block = at_top; variables = vs }) behaviour ≡ o
       → is_there reg is_new_singleton name ≡ true → supports_named reg (behaviour_named (record { plan = q; block = at_top; variables = vs }) behaviour) (base_of (find_entity name reg)) ≡ true
       → length q.singletons < 256 → Offered reg q at_top → Offered reg (with_singleton o name q) at_top
   singleton_offered q vs name behaviour None at there fits room is = is
@@ -242,7 +171,7 @@ module _ (reg : List Entity) (sound : IsSound reg) (built : HasBuiltIn reg) wher
         threads = is.threads;
       }
 
-  export_offered : (q : Plan) (name : List ℕ) (o : Option ℕ) → length q.exports < 256 → Offered reg q at_top → Offered reg (with_export o name q) at_top
+  pub export_offered : (q : Plan) (name : List ℕ) (o : Option ℕ) → length q.exports < 256 → Offered reg q at_top → Offered reg (with_export o name q) at_top
   export_offered q name None room is = is
   export_offered q name (Some n) room is =
       let more = with_export (Some n) name q in
@@ -261,7 +190,7 @@ module _ (reg : List Entity) (sound : IsSound reg) (built : HasBuiltIn reg) wher
   -- ---- blocks
 
   -- another block with the same fields
-  other_block : (q : Plan) (bl cl : Block) → AllByRecursion FieldsDiffer (open_behaviours cl) → length q.behaviours + length (open_behaviours cl) ≤ 256
+  pub other_block : (q : Plan) (bl cl : Block) → AllByRecursion FieldsDiffer (open_behaviours cl) → length q.behaviours + length (open_behaviours cl) ≤ 256
       → length q.threads + open_threads cl ≤ 32 → Offered reg q bl → Offered reg q cl
   other_block q bl cl open_fields few threads is =
       record {
@@ -275,20 +204,20 @@ module _ (reg : List Entity) (sound : IsSound reg) (built : HasBuiltIn reg) wher
         threads = threads;
       }
 
-  field_offered : (q : Plan) (vs : List Scoped) (b : Behaviour) (name : List ℕ) (o : Option Kind) → not (list_any (λ f. bytes_eq name f.name) b.fields) ≡ true → Offered reg q (in_behaviour b)
+  pub field_offered : (q : Plan) (vs : List Scoped) (b : Behaviour) (name : List ℕ) (o : Option Kind) → not (list_any (λ f. bytes_eq name f.name) b.fields) ≡ true → Offered reg q (in_behaviour b)
       → Offered reg (with_field (in_behaviour b) name o (record { plan = q; block = in_behaviour b; variables = vs })).plan (with_field (in_behaviour b) name o (record { plan = q; block = in_behaviour b; variables = vs })).block
   field_offered q vs b name None new is = is
   field_offered q vs b name (Some k) new is =
       other_block q (in_behaviour b) (in_behaviour (record b { fields = b.fields ++ record { name = name; kind = k } ∷ [] }))
       (field_more b.fields (record { name = name; kind = k }) is.open_fields.0 new, tt) is.behaviours is.threads is
 
-  opens_offered : (q : Plan) (vs : List Scoped) (b : Behaviour) (face function : List ℕ) (o : Option Function) → Offered reg q (in_behaviour b)
+  pub opens_offered : (q : Plan) (vs : List Scoped) (b : Behaviour) (face function : List ℕ) (o : Option Function) → Offered reg q (in_behaviour b)
       → Offered reg (opens_method (in_behaviour b) face function o (record { plan = q; block = in_behaviour b; variables = vs })).plan (opens_method (in_behaviour b) face function o (record { plan = q; block = in_behaviour b; variables = vs })).block
   opens_offered q vs b face function None is = is
   opens_offered q vs b face function (Some f) is =
       other_block q (in_behaviour b) (in_method b (record { face = face; function = function; body = [] }) f) is.open_fields is.behaviours is.threads is
 
-  behaviour_closed : (q : Plan) (b : Behaviour) → Offered reg q (in_behaviour b) → Offered reg (record q { behaviours = q.behaviours ++ b ∷ [] }) at_top
+  pub behaviour_closed : (q : Plan) (b : Behaviour) → Offered reg q (in_behaviour b) → Offered reg (record q { behaviours = q.behaviours ++ b ∷ [] }) at_top
   behaviour_closed q b is =
       let more : Plan = record q { behaviours = q.behaviours ++ b ∷ [] } in
       let stands : Stands q more = λ n d at. slice_before q.behaviours (b ∷ []) n d at in
@@ -304,7 +233,7 @@ module _ (reg : List Entity) (sound : IsSound reg) (built : HasBuiltIn reg) wher
         threads = is.threads;
       }
 
-  thread_closed : (q : Plan) (ss : List RootStatement) → Offered reg q (in_thread ss) → Offered reg (record q { threads = q.threads ++ ss ∷ [] }) at_top
+  pub thread_closed : (q : Plan) (ss : List RootStatement) → Offered reg q (in_thread ss) → Offered reg (record q { threads = q.threads ++ ss ∷ [] }) at_top
   thread_closed q ss is =
       let more : Plan = record q { threads = q.threads ++ ss ∷ [] } in
       let long = length-append q.threads (ss ∷ []) in let few = is.threads in
@@ -322,7 +251,7 @@ module _ (reg : List Entity) (sound : IsSound reg) (built : HasBuiltIn reg) wher
   stays_offered : (q : Plan) (bl : Block) (c : Context) → Stays q bl [] c → Offered reg q bl → Offered reg c.plan c.block
   stays_offered q bl c stays is = subst (λ p. Offered reg p c.block) (sym stays.0) (subst (Offered reg q) (sym stays.1) is)
 
-  method_offered : (q : Plan) (vs : List Scoped) (b : Behaviour) (m : Method) (f : Function) (o : Option Statement) → Offered reg q (in_method b m f)
+  pub method_offered : (q : Plan) (vs : List Scoped) (b : Behaviour) (m : Method) (f : Function) (o : Option Statement) → Offered reg q (in_method b m f)
       → Offered reg (with_statement b m f o (record { plan = q; block = in_method b m f; variables = vs })).plan (with_statement b m f o (record { plan = q; block = in_method b m f; variables = vs })).block
   method_offered q vs b m f None is = is
   method_offered q vs b m f (Some x) is =
@@ -330,128 +259,9 @@ module _ (reg : List Entity) (sound : IsSound reg) (built : HasBuiltIn reg) wher
       stays_offered q (in_method b n f) (behind_statement x (record { plan = q; block = in_method b n f; variables = vs })) (statement_stays q (in_method b n f) vs x)
       (other_block q (in_method b m f) (in_method b n f) is.open_fields is.behaviours is.threads is)
 
-  root_offered : (q : Plan) (vs : List Scoped) (ss : List RootStatement) (o : Option RootStatement) → Offered reg q (in_thread ss)
+  pub root_offered : (q : Plan) (vs : List Scoped) (ss : List RootStatement) (o : Option RootStatement) → Offered reg q (in_thread ss)
       → Offered reg (with_root_statement ss o (record { plan = q; block = in_thread ss; variables = vs })).plan (with_root_statement ss o (record { plan = q; block = in_thread ss; variables = vs })).block
   root_offered q vs ss None is = is
   root_offered q vs ss (Some x) is =
       stays_offered q (in_thread (ss ++ x ∷ [])) (behind_root_statement x (record { plan = q; block = in_thread (ss ++ x ∷ []); variables = vs })) (root_statement_stays q (in_thread (ss ++ x ∷ [])) vs x)
       (other_block q (in_thread ss) (in_thread (ss ++ x ∷ [])) is.open_fields is.behaviours is.threads is)
-
-  -- ---- each line
-
-  -- what of the rules is asked of a line
-  record Ruled (c : Context) (l : Line) : Type 0 where
-    stands : may_stand c.block l ≡ true
-    known : names_are_known reg c l ≡ true
-    new : names_are_new c l ≡ true
-    fits : all_fits reg c l ≡ true
-    room : plan_has_room c l ≡ true
-
-  abbrev After : Context → Line → Type 0
-  After c l = Offered reg (behind reg l c).plan (behind reg l c).block
-
-  top_step : (q : Plan) (vs : List Scoped) (l : Line) → Ruled (record { plan = q; block = at_top; variables = vs }) l → Offered reg q at_top → After (record { plan = q; block = at_top; variables = vs }) l
-  unfolding may_stand behind names_are_known all_fits plan_has_room has_room all_differ
-  top_step q vs (line.behaviour name faces) ruled is =
-      let few = ltb-true (length (q.behaviours ++ [])) 256 ruled.room in let long = ap length (append-nil q.behaviours) in
-      other_block q at_top (in_behaviour (record { name = name; faces = faces; fields = []; methods = [] })) (refl, tt) (omega arith) is.threads is
-  top_step q vs (line.service name b) ruled is =
-      let known = and_parts (is_there reg is_new_service name) _ ruled.known in
-      service_offered q vs name b (behaviour_number (record { plan = q; block = at_top; variables = vs }) b) refl known.0 ruled.fits is
-  top_step q vs (line.singleton name b) ruled is =
-      let known = and_parts (is_there reg is_new_singleton name) _ ruled.known in
-      singleton_offered q vs name b (behaviour_number (record { plan = q; block = at_top; variables = vs }) b) refl known.0 ruled.fits (ltb-true (length q.singletons) 256 ruled.room) is
-  top_step q vs (line.export name b) ruled is =
-      export_offered q name (behaviour_number (record { plan = q; block = at_top; variables = vs }) b) (ltb-true (length q.exports) 256 ruled.room) is
-  top_step q vs line.thread ruled is =
-      let few = ltb-true (length q.threads) 32 ruled.room in
-      other_block q at_top (in_thread []) tt is.behaviours (omega arith) is
-  top_step q vs _ ruled is = let bad : false ≡ true = ruled.stands in absurd (cc)
-
-  behaviour_step : (q : Plan) (vs : List Scoped) (b : Behaviour) (l : Line) → Ruled (record { plan = q; block = in_behaviour b; variables = vs }) l → Offered reg q (in_behaviour b)
-      → After (record { plan = q; block = in_behaviour b; variables = vs }) l
-  unfolding may_stand behind names_are_new
-  behaviour_step q vs b (line.field d) ruled is = field_offered q vs b d.name (type_of_text reg d.kind) ruled.new is
-  behaviour_step q vs b (line.method face function) ruled is = opens_offered q vs b face function (declared_function reg face function) is
-  behaviour_step q vs b line.end_line ruled is = behaviour_closed q b is
-  behaviour_step q vs b _ ruled is = let bad : false ≡ true = ruled.stands in absurd (cc)
-
-  method_step : (q : Plan) (vs : List Scoped) (b : Behaviour) (m : Method) (f : Function) (l : Line) → Ruled (record { plan = q; block = in_method b m f; variables = vs }) l
-      → Offered reg q (in_method b m f) → After (record { plan = q; block = in_method b m f; variables = vs }) l
-  unfolding may_stand behind
-  method_step q vs b m f (line.behaviour name faces) ruled is = let bad : false ≡ true = ruled.stands in absurd (cc)
-  method_step q vs b m f (line.field d) ruled is = let bad : false ≡ true = ruled.stands in absurd (cc)
-  method_step q vs b m f (line.method face function) ruled is = let bad : false ≡ true = ruled.stands in absurd (cc)
-  method_step q vs b m f (line.service name x) ruled is = let bad : false ≡ true = ruled.stands in absurd (cc)
-  method_step q vs b m f (line.singleton name x) ruled is = let bad : false ≡ true = ruled.stands in absurd (cc)
-  method_step q vs b m f (line.export name x) ruled is = let bad : false ≡ true = ruled.stands in absurd (cc)
-  method_step q vs b m f line.thread ruled is = let bad : false ≡ true = ruled.stands in absurd (cc)
-  method_step q vs b m f line.end_line ruled is =
-      other_block q (in_method b m f) (in_behaviour (record b { methods = b.methods ++ m ∷ [] })) is.open_fields is.behaviours is.threads is
-  method_step q vs b m f l ruled is = method_offered q vs b m f (statement_of reg (record { plan = q; block = in_method b m f; variables = vs }) l) is
-
-  thread_step : (q : Plan) (vs : List Scoped) (ss : List RootStatement) (l : Line) → Ruled (record { plan = q; block = in_thread ss; variables = vs }) l
-      → Offered reg q (in_thread ss) → After (record { plan = q; block = in_thread ss; variables = vs }) l
-  unfolding may_stand behind
-  thread_step q vs ss (line.behaviour name faces) ruled is = let bad : false ≡ true = ruled.stands in absurd (cc)
-  thread_step q vs ss (line.field d) ruled is = let bad : false ≡ true = ruled.stands in absurd (cc)
-  thread_step q vs ss (line.method face function) ruled is = let bad : false ≡ true = ruled.stands in absurd (cc)
-  thread_step q vs ss (line.service name x) ruled is = let bad : false ≡ true = ruled.stands in absurd (cc)
-  thread_step q vs ss (line.singleton name x) ruled is = let bad : false ≡ true = ruled.stands in absurd (cc)
-  thread_step q vs ss (line.export name x) ruled is = let bad : false ≡ true = ruled.stands in absurd (cc)
-  thread_step q vs ss line.thread ruled is = let bad : false ≡ true = ruled.stands in absurd (cc)
-  thread_step q vs ss line.end_line ruled is = thread_closed q ss is
-  thread_step q vs ss l ruled is = root_offered q vs ss (root_statement_of reg (record { plan = q; block = in_thread ss; variables = vs }) l) is
-
-  line_step : (q : Plan) (vs : List Scoped) (bl : Block) (l : Line) → Ruled (record { plan = q; block = bl; variables = vs }) l → Offered reg q bl → After (record { plan = q; block = bl; variables = vs }) l
-  line_step q vs at_top l ruled is = top_step q vs l ruled is
-  line_step q vs (in_behaviour b) l ruled is = behaviour_step q vs b l ruled is
-  line_step q vs (in_method b m f) l ruled is = method_step q vs b m f l ruled is
-  line_step q vs (in_thread ss) l ruled is = thread_step q vs ss l ruled is
-
-  -- ---- all lines
-
-  asked_of : (b : Bool) (why : LineReason) (rest : Option LineReason) → (if not b then Some why else rest) ≡ None → (b ≡ true) × (rest ≡ None)
-  asked_of true why rest is = (refl, is)
-  asked_of false why rest is = absurd (cc)
-
-  ruled_line : (c : Context) (l : Line) → reason_of reg c l ≡ None → Ruled c l
-  unfolding reason_of has_form keeps_limits
-  ruled_line c l none =
-      let form = asked_of (has_form reg c l) _ _ none in
-      let known = asked_of (names_are_known reg c l) _ _ form.1 in
-      let new = asked_of (names_are_new c l) _ _ known.1 in
-      let fits = asked_of (all_fits reg c l) _ _ new.1 in
-      let limits = asked_of (keeps_limits c l) _ _ fits.1 in
-      record {
-        stands = (and_parts _ (may_stand c.block l) form.0).1;
-        known = known.0;
-        new = new.0;
-        fits = fits.0;
-        room = (and_parts (terms_are_flat l) (plan_has_room c l) limits.0).1;
-      }
-
-  lines_offered : (ls : List Line) (c : Context) → first_wrong reg c ls ≡ None → Offered reg c.plan c.block → Offered reg (behind_all reg ls c).plan (behind_all reg ls c).block
-  unfolding behind_all
-  lines_offered [] c right is = is
-  lines_offered (l ∷ ls) c right is =
-      let parts = right_parts reg c l ls right in
-      lines_offered ls (behind reg l c) parts.1 (line_step c.plan c.variables c.block l (ruled_line c l parts.0) is)
-
-  nothing_offered : Offered reg opening.plan opening.block
-  nothing_offered =
-      record {
-        services = tt;
-        singletons = tt;
-        fields = tt;
-        open_fields = tt;
-        behaviours = omega arith;
-        exports = omega arith;
-        singles = omega arith;
-        threads = omega arith;
-      }
-
-  -- so it is of a plan that keeps the rules
-  pub plan_offers : (p : Plan) → KeepsTheRules reg p → Offered reg p at_top
-  plan_offers p keeps =
-      subst (λ q. Offered reg q at_top) keeps.made (subst (Offered reg (behind_all reg keeps.lines opening).plan) keeps.closed (lines_offered keeps.lines opening keeps.right nothing_offered))

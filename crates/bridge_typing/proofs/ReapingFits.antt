@@ -64,7 +64,7 @@ named_kept g n oid os other =
     find_kept (λ o. bytes_eq oid (own_oid g o.number)) (λ o. not (n == o.number))
     (λ o gone. ap (λ m. bytes_eq oid (own_oid g m)) (sym (eqb-true n o.number (not_false (n == o.number) gone))) ∙ turned (own_oid g n) oid (bytes_eq oid (own_oid g n)) refl other) os
 
-numbered_kept : (n m : ℕ) (os : List Object) → n ≢ m → object_numbered m (without_object n os) ≡ object_numbered m os
+pub numbered_kept : (n m : ℕ) (os : List Object) → n ≢ m → object_numbered m (without_object n os) ≡ object_numbered m os
 unfolding object_numbered without_object
 numbered_kept n m os apart =
     find_kept (λ o. m == o.number) (λ o. not (n == o.number))
@@ -162,7 +162,7 @@ module _ (g : Setting) (os : List Object) (n : ℕ) where
       let both = not_both (bytes_eq gone h.pair.oid) (list_any (λ h. bytes_eq gone h.pair.oid) hs) none in
       let here = stray_none (is_own g h.pair.oid) (bytes_eq gone h.pair.oid) both.0 in let rest = unheld hs both.1 in omega arith
 
-  held_stays : (hs : Holdings) → is_held_object gone hs ≡ false → held_wrong g now hs ≡ held_wrong g os hs
+  pub held_stays : (hs : Holdings) → is_held_object gone hs ≡ false → held_wrong g now hs ≡ held_wrong g os hs
   unfolding is_held_object held_wrong is_fine_own
   held_stays [] none = refl
   held_stays (h ∷ hs) none =
@@ -172,7 +172,7 @@ module _ (g : Setting) (os : List Object) (n : ℕ) where
       ap (λ b. one_if (not ((is_own g h.pair.oid && (is_well g.registry h.pair.oid h.pair.face && b)) || is_fine_peer g h.pair.oid h.pair.face))) same in
       let rest = held_stays hs both.1 in omega arith
 
-  sent_stays : (stubs : Stubs) → has_stub gone stubs ≡ false → sent_wrong g now stubs ≡ sent_wrong g os stubs
+  pub sent_stays : (stubs : Stubs) → has_stub gone stubs ≡ false → sent_wrong g now stubs ≡ sent_wrong g os stubs
   unfolding has_stub sent_wrong
   sent_stays [] none = refl
   sent_stays (row ∷ stubs) none =
@@ -242,7 +242,7 @@ module _ (g : Setting) (os : List Object) (n : ℕ) where
           frames_stay (Some r.function) fs (λ h. let parts = method_more g h b fs in let all = held h in omega arith) fit.2,
         )
 
-    stacks_stay : (ss : List Stack) → ((h : Hold) → stacks_have g h ss ≤ times h hs) → AllByRecursion (StackFits g os) ss → AllByRecursion (StackFits g now) ss
+    pub stacks_stay : (ss : List Stack) → ((h : Hold) → stacks_have g h ss ≤ times h hs) → AllByRecursion (StackFits g os) ss → AllByRecursion (StackFits g now) ss
     stacks_stay [] held all = tt
     stacks_stay (s ∷ ss) held all = (
       record {
@@ -254,91 +254,9 @@ module _ (g : Setting) (os : List Object) (n : ℕ) where
 
     -- ---- objects
 
-    objects_stay : (xs : List Object) → ((h : Hold) → objects_have h xs ≤ times h hs) → total (object_wrong g os) xs ≡ 0 → total (object_wrong g now) xs ≡ 0
+    pub objects_stay : (xs : List Object) → ((h : Hold) → objects_have h xs ≤ times h hs) → total (object_wrong g os) xs ≡ 0 → total (object_wrong g now) xs ≡ 0
     unfolding total object_wrong
     objects_stay [] held fine = refl
     objects_stay (o ∷ xs) held fine =
         let here = refs_stay (holder.Object o.number) (refs_of_values o.fields) hs (unheld hs none) (λ h. let parts = objects_more h o xs in let all = held h in omega arith) (omega arith) in
         let rest = objects_stay xs (λ h. let parts = objects_more h o xs in let all = held h in omega arith) (omega arith) in omega arith
-
--- ---- an object goes
-
-all_filter : {X : Type 0} (P : X → Type 0) (keeps : X → Bool) (xs : List X) → AllByRecursion P xs → AllByRecursion P (filter keeps xs)
-all_filter P keeps [] all = tt
-all_filter P keeps (x ∷ xs) all = by_test (keeps x) (all_filter P keeps xs all.1)
-  where
-    by_test : (b : Bool) → AllByRecursion P (filter keeps xs) → AllByRecursion P (if b then x ∷ filter keeps xs else filter keeps xs)
-    by_test true rest = (all.0, rest)
-    by_test false rest = rest
-
-module _ (g : Setting) (given : IsGiven g) (most : ℕ) (s : Side) (o : Object) (found : lowest g s.tables ≡ Some o) (covered : AllCovered g s) (fit : SideFits g most s) where
-  may : MayGo g s.tables o
-  may = lowest_may_go g s.tables o found
-
-  objects_held : (h : Hold) → objects_have h fit.os ≤ times h s.tables.holdings
-  objects_held h = let all = covered h in let same = ap (objects_have h) fit.tables.same in omega arith
-
-  stacks_held : (h : Hold) → stacks_have g h s.stacks ≤ times h s.tables.holdings
-  stacks_held h = let all = covered h in omega arith
-
-  all_stay : total (object_wrong g (without_object o.number fit.os)) fit.os ≡ 0
-  all_stay = objects_stay g fit.os o.number s.tables.holdings may.unheld fit.os objects_held fit.objects.fine
-
-  apart : (n k : ℕ) → slice_get (first_objects g.plan) n ≡ Some k → o.number ≢ suc n
-  apart n k is same = let within = place_within (first_objects g.plan) n k is in let later = may.later in omega arith
-
-  left_fit : ObjectsFit g (without_object o.number fit.os) fit.made
-  unfolding without_object behaviour_at
-  left_fit =
-      let stay = all_stay in
-      let fewer = total_filter (object_wrong g (without_object o.number fit.os)) (λ k. not (o.number == k.number)) fit.os in
-      record {
-        each = all_filter (ObjectFits g fit.made) (λ k. not (o.number == k.number)) fit.os fit.objects.each;
-        fine = omega arith;
-        first = λ n k within is. ap (option_map (λ o. o.behaviour)) (numbered_kept o.number (suc n) fit.os (apart n k is)) ∙ fit.objects.first n k within is;
-        few = fit.objects.few;
-      }
-
-  tables_left : TablesFit g (without_object o.number fit.os) fit.made (record s.tables { objects = without_object o.number s.tables.objects })
-  tables_left =
-      record {
-        same = ap (without_object o.number) fit.tables.same;
-        counted = fit.tables.counted;
-        held = held_stays g fit.os o.number s.tables.holdings may.unheld ∙ fit.tables.held;
-        sent = sent_stays g fit.os o.number s.tables.stubs may.unsent ∙ fit.tables.sent;
-        sayable = fit.tables.sayable;
-      }
-
-  its_fields : total (wrong g (without_object o.number fit.os)) (refs_of_values o.fields) ≡ 0
-  unfolding lowest object_wrong
-  its_fields =
-      let stay = all_stay in
-      let there : find (may_go g s.tables) fit.os ≡ Some o = ap (find (may_go g s.tables)) (sym fit.tables.same) ∙ found in
-      let one = found_at_most (object_wrong g (without_object o.number fit.os)) (may_go g s.tables) o fit.os there in omega arith
-
-  reaped_by : (b : Bool) → TablesFit g (without_object o.number fit.os) fit.made (reaps_object g b o s.tables)
-  reaped_by true =
-      lets_go_all_fits g given (without_object o.number fit.os) fit.made (holder.Object o.number) (refs_of_values o.fields)
-      (record s.tables { objects = without_object o.number s.tables.objects }) its_fields tables_left
-  reaped_by false =
-      loses_all_fits g given (without_object o.number fit.os) fit.made (holder.Object o.number) (refs_of_values o.fields)
-      (record s.tables { objects = without_object o.number s.tables.objects }) tables_left
-
-  pub reaps_fits : SideFits g most (reaps g o s)
-  unfolding reaps
-  reaps_fits =
-      record {
-        os = without_object o.number fit.os;
-        made = fit.made;
-        objects = left_fit;
-        tables = reaped_by (stands s);
-        stacks = stacks_stay g fit.os o.number s.tables.holdings may.unheld s.stacks stacks_held fit.stacks;
-        apart = fit.apart;
-        heard = fit.heard;
-        opened = fit.opened;
-        counted = fit.counted;
-      }
-
-pub reaps_some_fits : (g : Setting) → IsGiven g → (most : ℕ) (o : Option Object) (s : Side) → lowest g s.tables ≡ o → AllCovered g s → SideFits g most s → SideFits g most (reaps_some g o s)
-reaps_some_fits g given most None s found covered fit = fit
-reaps_some_fits g given most (Some o) s found covered fit = reaps_fits g given most s o found covered fit

@@ -33,7 +33,7 @@ use Rattle.bridge_typing.proofs.SideFits.{SideFits}
 use Rattle.bridge_typing.proofs.ApplyingMoves.{effect_moves}
 use Rattle.bridge_typing.proofs.FeedingFits.{feeds_fits}
 use Rattle.bridge_typing.proofs.OpeningFits.{opening_fits}
-use Rattle.bridge_typing.proofs.ReapingFits.{reaps_some_fits}
+use Rattle.bridge_typing.proofs.ReapedFits.{reaps_some_fits}
 use Rattle.bridge_typing.proofs.RootFits.{root_calls_fits, root_queries_fits, root_asks_fits, root_makes_fits, root_drops_fits, root_takes_fits}
 use Rattle.bridge_typing.proofs.SideLaws.{thread_frames, thread_is, moved_fits, later_fits, ends_fits, runs_out_fits, drains_fits}
 
