@@ -115,10 +115,6 @@ all_more : {X : Type 0} (P Q : X → Type 0) → ((x : X) → P x → Q x) → (
 all_more P Q more [] all = tt
 all_more P Q more (x ∷ xs) all = (more x all.0, all_more P Q more xs all.1)
 
--- a field of this name and type is there
-is_there_field : Field → List Field → Bool
-is_there_field p fs = list_any (λ f. bytes_eq p.name f.name && same_kind p.kind f.kind) fs
-
 same_names : (p f : Field) → bytes_eq p.name f.name ≡ true → p.name ≡ f.name
 same_names p f is = (bytes_eq-Decides p.name f.name).0 is
 

@@ -1,26 +1,21 @@
 -- An answer that is handed down leaves frames and tables that fit: a method goes on with what it takes, or ends with an exception that may go.
-use Rattle.std.proofs.Common.{◌≡◌, ℕ, ◌==◌, Bool, true, false, if◌then◌else◌, List, [], ◌∷◌, ◌++◌, Option, None, Some, slice_get, refl, sym, ap, subst, ◌∙◌, arith}
-use Rattle.std.specs.Option.{option_map}
-use Rattle.message_model.specs.Calls.{numbered, out_kinds}
+use Rattle.std.proofs.Common.{◌≡◌, ℕ, ◌==◌, Bool, true, false, if◌then◌else◌, List, [], ◌∷◌, ◌++◌, Option, None, Some, refl, sym, ap, subst, ◌∙◌, arith}
+use Rattle.message_model.specs.Calls.{out_kinds}
 use Rattle.message_model.specs.Messages.{Answer, returned, raised, reply}
 use Rattle.message_model.specs.Sayable.{AnswerFits, IsThread, IsCalled}
-use Rattle.uno_model.specs.Entities.{Field}
 use Rattle.uno_model.specs.Fits.{Fits, FitEach}
 use Rattle.uno_model.specs.Functions.{Function}
 use Rattle.uno_model.specs.Values.{Ref, own, Plain, plains, refs}
 use Rattle.uno_model.specs.Values as v
 use Rattle.table_model.specs.declared.holder.Holder.{Holder}
 use Rattle.table_model.specs.declared.holder.Holder.TheVariants as holder
-use Rattle.plan_model.specs.Effects.{method_for, methods_of}
 use Rattle.plan_model.specs.Frames.{Variable, Body, Frame, base, body, outgoing}
 use Rattle.plan_model.specs.Holdings.{goes_on, let_go_at_end, refs_under, reference_of, is_taken}
 use Rattle.plan_model.specs.Leaving.{leaving_frame}
-use Rattle.plan_model.specs.Plans.{Method, manager}
+use Rattle.plan_model.specs.Plans.{manager}
 use Rattle.plan_model.specs.Statements.{Statement, call, query}
-use Rattle.plan_model.specs.Statements as st
-use Rattle.plan_typing.specs.Going.{at_place, statement_at}
 use Rattle.plan_typing.specs.Scenes.{VariablesFit}
-use Rattle.plan_typing.specs.Statements.{IsTyped, types_behind, with_result}
+use Rattle.plan_typing.specs.Statements.{IsTyped, types_behind}
 use Rattle.plan_typing.specs.Types.{Types}
 use Rattle.plan_typing.proofs.EffectTypes.{types_stand_behind}
 use Rattle.plan_typing.proofs.FrameAnswers.{answer_taken}
@@ -32,17 +27,16 @@ use Rattle.bridge_laws.proofs.VariableLaws.{untaken_owes}
 use Rattle.bridge_model.specs.Calls.{Unwound, unwound}
 use Rattle.bridge_model.specs.Handing.{behaviour_of, statement_in, statement_of_function, taken_by, goes_on_taking, goes_on_with, root_gets, lets_go_frame, answers_peer, holder_of, gains_with, gains_below, takes_with, takes_below, hands_over, hands, after_letting_go, hands_down, ends_frame, hands_from_peer}
 use Rattle.bridge_model.specs.Handing as handing
-use Rattle.bridge_model.specs.Objects.{object_numbered}
 use Rattle.bridge_model.specs.References.{says, refs_of_answer}
 use Rattle.bridge_model.specs.Settings.{Setting, own_oid}
 use Rattle.bridge_model.specs.Sides.{Object, RootState, waits_query, answered, answer, Tables, state_of, with_root}
 use Rattle.bridge_typing.proofs.Fine.{wrong}
-use Rattle.bridge_typing.proofs.FramesFit.{behaviour_at, BodyFits, TakesFrom, Awaits, Pauses, FramesFit, AnswerComes, AnswerGoes, UnwoundFits}
+use Rattle.bridge_typing.proofs.FramesFit.{BodyFits, TakesFrom, Awaits, Pauses, FramesFit, AnswerComes, AnswerGoes, UnwoundFits}
 use Rattle.bridge_typing.proofs.Given.{IsGiven}
 use Rattle.bridge_typing.proofs.TablesFit.{TablesFit}
 use Rattle.bridge_typing.proofs.LeavingFits.{frame_goes}
 use Rattle.bridge_typing.proofs.TableLaws.{says_fits, gains_all_fits, takes_all_fits, lets_go_all_fits}
-use Rattle.bridge_typing.proofs.WaitingFits.{Found, found_object, no_statement, statement_is, behind_fields, behind_own, paused}
+use Rattle.bridge_typing.proofs.WaitingFits.{no_statement, statement_is, behind_fields, behind_own, paused}
 
 module _ (g : Setting) (given : IsGiven g) (os : List Object) (made : ℕ) (tid : List ℕ) (thread : IsThread tid) where
   -- ---- going on

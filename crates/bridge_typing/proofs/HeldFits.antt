@@ -1,50 +1,20 @@
 -- What a root holds is fine, as it is here.
-use Rattle.std.proofs.Common.{◌≡◌, ℕ, suc, ◌≤◌, ◌<◌, Bool, true, false, cond, not, ◌&&◌, ◌||◌, nat_lt, if◌then◌else◌, List, [], ◌∷◌, length, Option, None, Some, slice_get, refl, sym, subst, arith}
+use Rattle.std.proofs.Common.{◌≡◌, ℕ, ◌≤◌, Bool, true, false, cond, not, ◌&&◌, ◌||◌, if◌then◌else◌, List, [], ◌∷◌, refl, arith}
 use Rattle.std.specs.List.{list_all}
-use Rattle.std.proofs.lemmas.Bool.{and_parts, ltb-true, ltb-false}
-use Rattle.message_model.specs.Calls.{kinds_on, argument_kinds}
-use Rattle.message_model.specs.Messages.{Answer, returned, request}
-use Rattle.message_model.specs.Sayable.{MayBeSaid, IsThread, IsCalled, message_weight}
-use Rattle.uno_model.specs.BuiltIn.{x_interface_name}
-use Rattle.uno_model.specs.Fits.{Fits, FitEach, IsInterface}
-use Rattle.uno_model.specs.Functions.{Function}
-use Rattle.uno_model.specs.Kinds as kd
-use Rattle.uno_model.specs.Values.{Ref, null, own, peer, Plain, plains, refs, depth_in}
+use Rattle.std.proofs.lemmas.Bool.{and_parts, ltb-true}
+use Rattle.uno_model.specs.Values.{Ref, null, own, peer}
 use Rattle.table_model.specs.Bags.{how_often}
 use Rattle.table_model.specs.Holdings.{Hold, hold, hold_cmp, holds, Holdings}
 use Rattle.table_model.specs.Pair.{pair}
 use Rattle.table_model.specs.declared.holder.Holder.TheVariants as holder
-use Rattle.plan_model.specs.Evaluation.{is_heavy, is_deep}
-use Rattle.plan_model.specs.Leaving.{caused}
-use Rattle.plan_model.specs.Plans.{supports, first_objects}
-use Rattle.plan_model.specs.declared.runtime_cause.RuntimeCause.{RuntimeCause}
-use Rattle.plan_model.specs.declared.runtime_cause.RuntimeCause.TheVariants.{TooLarge, TooDeep}
-use Rattle.plan_typing.specs.Effects.{MakingFits}
 use Rattle.bridge_laws.specs.Counting.{total, one_if}
-use Rattle.bridge_laws.proofs.HandingLaws.{returned_owes}
-use Rattle.bridge_laws.proofs.LivingEffectLaws.{defaults_of_fields}
 use Rattle.bridge_laws.proofs.LivingRootLaws.{often_passes}
-use Rattle.bridge_laws.proofs.VariableLaws.{values_none}
-use Rattle.bridge_model.specs.Calls.{query_args, calls_own, calls_peer}
-use Rattle.bridge_model.specs.Objects.{object_answer, fields_of, makes_default, defaults_of}
-use Rattle.bridge_model.specs.References.{gains, gains_all, holds_ref, lets_go, loses, refs_of_values}
-use Rattle.bridge_model.specs.Roots.{holds_each, holds_pair, answered_before, is_answered, bottom, begins_call, calls_unless, root_calls, gets_at_once, asks_peer, begins_query, queries_unless, root_queries, asks_unless, root_asks, root_makes, root_drops, root_takes}
-use Rattle.bridge_model.specs.Settings.{Setting, own_oid, root_tid, ref_of, is_own, is_told}
-use Rattle.bridge_model.specs.Sides.{Object, Tables, Side, stands, waits_call, waits_query, with_root}
+use Rattle.bridge_model.specs.References.{holds_ref}
+use Rattle.bridge_model.specs.Roots.{holds_pair}
+use Rattle.bridge_model.specs.Settings.{Setting, ref_of, is_own, is_told}
+use Rattle.bridge_model.specs.Sides.{Object, Tables}
 use Rattle.bridge_typing.proofs.Fine.{is_well, is_fine_own, is_fine_peer, wrong}
-use Rattle.bridge_typing.proofs.FramesFit.{FramesFit}
-use Rattle.bridge_typing.proofs.Given.{IsGiven}
-use Rattle.bridge_typing.proofs.ObjectsFit.{ObjectsFit}
-use Rattle.bridge_typing.proofs.SideFits.{SideFits}
-use Rattle.bridge_typing.proofs.TablesFit.{is_wrong_pair, held_wrong, TablesFit}
-use Rattle.bridge_typing.proofs.BeginFits.{calls_own_fits, calls_peer_fits}
-use Rattle.bridge_typing.proofs.FineLaws.{own_fine, peer_fine}
-use Rattle.bridge_typing.proofs.CreatedFits.{place_within, faces_are}
-use Rattle.bridge_typing.proofs.HandingFits.{root_gets_fits}
-use Rattle.bridge_typing.proofs.MakingFits.{push_lasts, defaults_fit, made_now, made_fit, made_fine, makes_fits}
-use Rattle.bridge_typing.proofs.QueryFits.{object_goes, query_is}
-use Rattle.bridge_typing.proofs.SideLaws.{stacks_last, unwound_fits, tabled_fits}
-use Rattle.bridge_typing.proofs.TableLaws.{gains_fits, gains_all_fits, loses_fits, lets_go_fits}
+use Rattle.bridge_typing.proofs.TablesFit.{is_wrong_pair, held_wrong}
 
 -- ---- what is held
 

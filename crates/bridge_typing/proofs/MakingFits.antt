@@ -135,9 +135,6 @@ made_now made behaviour fields os = os ++ record { number = suc made; behaviour 
 module _ (g : Setting) (given : IsGiven g) (os : List Object) (made : ℕ) (objects : ObjectsFit g os made) (room : made < 2000000) (behaviour : ℕ) (fields : List Plain)
     (fit : FieldsFit g.registry (as_variables (fields_of g behaviour) fields) (fields_of g behaviour)) (fine : total (wrong g os) (refs_of_values fields) ≡ 0)
     (next : (k : ℕ) → slice_get (first_objects g.plan) made ≡ Some k → behaviour ≡ k) where
-  new_object : Object
-  new_object = record { number = suc made; behaviour = behaviour; fields = fields }
-
   lasts : Lasts g os (made_now made behaviour fields os)
   lasts = push_lasts g os (record { number = suc made; behaviour = behaviour; fields = fields })
 

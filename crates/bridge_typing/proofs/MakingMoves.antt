@@ -1,5 +1,5 @@
 -- A method that makes an object, and the service manager that creates one, leave what fits.
-use Rattle.std.proofs.Common.{◌≡◌, ℕ, zero, suc, ◌+◌, ◌≤◌, ◌<◌, ◌^◌, ◌==◌, Bool, true, false, ◌||◌, if◌then◌else◌, List, [], ◌∷◌, ◌++◌, length, map, Option, None, Some, Result, Ok, Err, slice_get, refl, sym, ap, subst, ◌∙◌, inl, arith}
+use Rattle.std.proofs.Common.{◌≡◌, ℕ, zero, suc, ◌+◌, ◌≤◌, ◌<◌, ◌^◌, ◌==◌, true, if◌then◌else◌, List, [], ◌∷◌, ◌++◌, length, map, Option, None, Some, Result, Ok, Err, slice_get, refl, sym, ap, subst, ◌∙◌, inl, arith}
 use Rattle.message_model.specs.Messages.{returned, raised}
 use Rattle.message_model.specs.Sayable.{AnswerFits, IsThread, name_weight, answer_weight}
 use Rattle.uno_model.specs.BuiltIn.{exception_name, x_interface_name}
@@ -47,7 +47,6 @@ use Rattle.bridge_typing.proofs.AskingFits.{MakesAt, ReturnsObject}
 use Rattle.bridge_typing.proofs.CallingMoves.{unmoved}
 use Rattle.std.proofs.lemmas.List.{length-map}
 use Rattle.uno_model.specs.Sound.{is_some_list}
-use Rattle.uno_model.proofs.Options.{same_some}
 use Rattle.plan_typing.proofs.EffectPlaces.{all_at_place}
 use Rattle.bridge_typing.proofs.OwnEffects.{lasts_itself}
 use Rattle.bridge_typing.proofs.CreatedFits.{slice_behind, slice_mapped, has_some, FreshFits, CreatedFits, created_fits, place_within, faces_are, root_interface}

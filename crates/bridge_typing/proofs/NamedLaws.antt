@@ -27,9 +27,6 @@ use Rattle.bridge_typing.proofs.FineLaws.{own_tested, object_supports_base}
 unfoldable pub unsupported : Setting → List Object → Naming → ℕ
 unsupported g os n = one_if (n.is_own && not (object_supports g n.oid n.written os))
 
-pub written : Setting → List Object → List Naming → ℕ
-written g os ns = total (unsupported g os) ns
-
 module _ (g : Setting) (sound : IsSound g.registry) (os : List Object) where
   own_step : (fine supported : Bool) → (fine ≡ true → supported ≡ true) → one_if (true && not supported) ≤ one_if (not fine)
   own_step true supported found = let is = found refl in rw is (omega arith)

@@ -112,9 +112,6 @@ module _ (g : Setting) (given : IsGiven g) (os : List Object) (made : ℕ) (obje
 
   -- ---- fields
 
-  its_fields : List Variable
-  its_fields = variables_of g (object_numbered b.object os)
-
   new_fields : Variable → List Plain
   new_fields x = field_values (fields_after (sets_field x) (variables_of g (object_numbered b.object os)))
 

@@ -1,38 +1,26 @@
 -- What services and singletons of a plan give out is of behaviours that fit, fields of a behaviour have different names, and there are not too many of each: each kind of line keeps it.
-use Rattle.std.proofs.Common.{◌≡◌, refl, sym, ap, ◌∙◌, subst, ℕ, zero, suc, ◌+◌, ◌≤◌, ◌<◌, Bool, true, false, not, ◌&&◌, ◌||◌, nat_lt, List, [], ◌∷◌, ◌++◌, length, map, Option, None, Some, slice_get, append-nil, if◌then◌else◌, arith}
-use Rattle.std.specs.List.{AllByRecursion, list_all, list_any, find, position, position_or_len}
+use Rattle.std.proofs.Common.{◌≡◌, refl, sym, ap, ◌∙◌, subst, ℕ, ◌+◌, ◌≤◌, ◌<◌, Bool, true, false, not, ◌||◌, List, [], ◌∷◌, ◌++◌, length, Option, None, Some, slice_get, append-nil, arith}
+use Rattle.std.specs.List.{AllByRecursion, list_all, list_any}
 use Rattle.std.specs.Str.{bytes_eq}
-use Rattle.std.proofs.lemmas.Bool.{and_parts, ltb-true}
+use Rattle.std.proofs.lemmas.Bool.{and_parts}
 use Rattle.std.proofs.lemmas.List.{length-append}
-use Rattle.std.proofs.lemmas.List.Folds.{find_at}
-use Rattle.std.proofs.lemmas.Slice.Eq.{bytes_eq-Decides}
 use Rattle.uno_model.specs.BuiltIn.{HasBuiltIn, x_interface_name}
-use Rattle.uno_model.specs.Entities.{Entity, Field, Body, new_service, new_singleton}
+use Rattle.uno_model.specs.Entities.{Entity, Body, new_service, new_singleton}
 use Rattle.uno_model.specs.Functions.{Function}
 use Rattle.uno_model.specs.Kinds.{Kind}
-use Rattle.uno_model.specs.NamedTypes.{type_of_text}
 use Rattle.uno_model.specs.Registry.{find_entity}
-use Rattle.uno_model.specs.Sound.{IsSound, is_there, is_interface, services_known, all_differ}
+use Rattle.uno_model.specs.Sound.{IsSound, is_there, is_interface, services_known}
 use Rattle.uno_model.proofs.FunctionLaws.{rooted}
-use Rattle.uno_model.proofs.Options.{same_some, none_some}
 use Rattle.uno_model.proofs.UsedKindLaws.{found_entity}
-use Rattle.plan_model.specs.Building.{with_statement, with_root_statement, opens_method, with_field, with_service, with_singleton, with_export, behind, behind_all, behind_statement, behind_root_statement}
-use Rattle.plan_model.specs.Contexts.{Scoped, Block, at_top, in_behaviour, in_method, in_thread, Context, open_behaviours, behaviour_number, behaviour_named, declared_function, opening}
-use Rattle.plan_model.specs.Fitting.{base_of, base_in, service_fits, serves_all, all_fits}
-use Rattle.plan_model.specs.Keeps.{has_form, reason_of, first_wrong, KeepsTheRules}
-use Rattle.plan_model.specs.KnownNames.{is_new_service, is_new_singleton, names_are_known}
-use Rattle.plan_model.specs.Limits.{has_room, plan_has_room, keeps_limits, terms_are_flat}
-use Rattle.plan_model.specs.LinePlaces.{may_stand}
-use Rattle.plan_model.specs.Lines.{Line}
-use Rattle.plan_model.specs.Lines as line
-use Rattle.plan_model.specs.NewNames.{names_are_new}
+use Rattle.plan_model.specs.Building.{with_statement, with_root_statement, opens_method, with_field, with_service, with_singleton, with_export, behind_statement, behind_root_statement}
+use Rattle.plan_model.specs.Contexts.{Scoped, Block, at_top, in_behaviour, in_method, in_thread, Context, open_behaviours, behaviour_number, behaviour_named}
+use Rattle.plan_model.specs.Fitting.{base_of, base_in, service_fits, serves_all}
+use Rattle.plan_model.specs.KnownNames.{is_new_service, is_new_singleton}
 use Rattle.plan_model.specs.Plans.{Plan, Behaviour, Method, Offer, supports}
 use Rattle.plan_model.specs.Services.{constructors_of}
 use Rattle.plan_model.specs.Statements.{Statement, RootStatement}
-use Rattle.plan_model.specs.TypedStatements.{supports_named, statement_of, root_statement_of}
-use Rattle.plan_model.specs.declared.line_reason.LineReason.{LineReason}
+use Rattle.plan_model.specs.TypedStatements.{supports_named}
 use Rattle.plan_typing.proofs.EffectRuntime.{interface_found}
-use Rattle.plan_typing.proofs.PlanLaws.{right_parts}
 use Rattle.plan_typing.proofs.PlanGrows.{Stays, statement_stays, root_statement_stays}
 use Rattle.bridge_typing.proofs.FineLaws.{supports_base}
 use Rattle.bridge_typing.proofs.Given.{OfferFits, ServiceFits, FieldsDiffer}

@@ -1,5 +1,5 @@
 -- An object that is reaped is named nowhere: what frames and objects have is held, and it is not; so all that fits still does.
-use Rattle.std.proofs.Common.{◌≡◌, ◌≢◌, ℕ, suc, ◌+◌, ◌≤◌, ◌==◌, eqb-true, Bool, true, false, cond, not, ◌&&◌, ◌||◌, if◌then◌else◌, List, [], ◌∷◌, filter, find, Option, None, Some, slice_get, refl, sym, ap, ◌∙◌, arith}
+use Rattle.std.proofs.Common.{◌≡◌, ◌≢◌, ℕ, ◌+◌, ◌≤◌, ◌==◌, eqb-true, Bool, true, false, cond, not, ◌&&◌, ◌||◌, if◌then◌else◌, List, [], ◌∷◌, filter, find, Option, None, Some, refl, sym, ap, ◌∙◌, arith}
 use Rattle.std.specs.List.{AllByRecursion, list_any}
 use Rattle.std.specs.Option.{option_map}
 use Rattle.std.specs.Str.{bytes_eq}
@@ -12,31 +12,25 @@ use Rattle.table_model.specs.declared.holder.Holder.{Holder}
 use Rattle.table_model.specs.declared.holder.Holder.TheVariants as holder
 use Rattle.plan_model.specs.Frames.{Body, Frame, base, body, outgoing, Stack}
 use Rattle.plan_model.specs.Holdings.{refs_under}
-use Rattle.plan_model.specs.Plans.{supports, first_objects}
+use Rattle.plan_model.specs.Plans.{supports}
 use Rattle.plan_typing.specs.Types.{Types}
 use Rattle.bridge_laws.specs.Counting.{total, one_if}
 use Rattle.bridge_laws.proofs.HandingLaws.{frames_have, body_has, body_parts, method_more, outgoing_more}
-use Rattle.bridge_laws.proofs.LivingLaws.{AreHeld, AllCovered, told_lives}
+use Rattle.bridge_laws.proofs.LivingLaws.{AreHeld, told_lives}
 use Rattle.bridge_laws.proofs.ObjectLaws.{objects_more}
 use Rattle.bridge_laws.proofs.OccurrenceLaws.{times, objects_have}
-use Rattle.bridge_laws.proofs.ReapingLaws.{MayGo, lowest_may_go}
 use Rattle.bridge_laws.proofs.SideLaws.{stacks_have, stacks_more}
 use Rattle.bridge_laws.proofs.StrayLaws.{is_stray, untold, strays, held_strays}
-use Rattle.bridge_laws.proofs.Sums.{total_at_most, total_plus, total_filter, found_at_most}
-use Rattle.bridge_model.specs.Going.{reaps_object, reaps}
-use Rattle.bridge_model.specs.Objects.{object_numbered, object_named, faces_at, object_supports, is_held_object, has_stub, may_go, lowest, without_object}
+use Rattle.bridge_laws.proofs.Sums.{total_at_most, total_plus}
+use Rattle.bridge_model.specs.Objects.{object_numbered, object_named, faces_at, object_supports, is_held_object, has_stub, without_object}
 use Rattle.bridge_model.specs.References.{refs_of_values}
 use Rattle.bridge_model.specs.Settings.{Setting, is_own, own_oid}
-use Rattle.bridge_model.specs.Sides.{Object, Side, stands}
-use Rattle.bridge_model.specs.Steps.{reaps_some}
+use Rattle.bridge_model.specs.Sides.{Object}
 use Rattle.bridge_typing.proofs.Fine.{is_well, is_fine_own, is_fine_peer, wrong}
 use Rattle.bridge_typing.proofs.FramesFit.{behaviour_at, BodyFits, FramesFit}
-use Rattle.bridge_typing.proofs.Given.{IsGiven}
-use Rattle.bridge_typing.proofs.ObjectsFit.{ObjectFits, object_wrong, ObjectsFit}
-use Rattle.bridge_typing.proofs.SideFits.{StackFits, SideFits}
-use Rattle.bridge_typing.proofs.TablesFit.{is_wrong_pair, held_wrong, is_unsupported, sent_wrong, TablesFit}
-use Rattle.bridge_typing.proofs.CreatedFits.{place_within}
-use Rattle.bridge_typing.proofs.TableLaws.{loses_all_fits, lets_go_all_fits}
+use Rattle.bridge_typing.proofs.ObjectsFit.{object_wrong}
+use Rattle.bridge_typing.proofs.SideFits.{StackFits}
+use Rattle.bridge_typing.proofs.TablesFit.{is_wrong_pair, held_wrong, is_unsupported, sent_wrong}
 
 -- ---- what is found without it
 

@@ -1,7 +1,7 @@
 -- What roots do leaves a side of which all may be said, where what they give may be.
-use Rattle.std.proofs.Common.{◌≡◌, ℕ, suc, ◌≤◌, ◌<◌, Bool, true, false, cond, not, ◌&&◌, ◌||◌, nat_lt, if◌then◌else◌, List, [], ◌∷◌, length, Option, None, Some, slice_get, refl, sym, subst, arith}
+use Rattle.std.proofs.Common.{◌≡◌, ℕ, suc, ◌≤◌, ◌<◌, Bool, true, false, nat_lt, if◌then◌else◌, List, [], length, Option, None, Some, slice_get, refl, sym, subst, arith}
 use Rattle.std.specs.List.{list_all}
-use Rattle.std.proofs.lemmas.Bool.{and_parts, ltb-true, ltb-false}
+use Rattle.std.proofs.lemmas.Bool.{ltb-false}
 use Rattle.message_model.specs.Calls.{kinds_on, argument_kinds}
 use Rattle.message_model.specs.Messages.{Answer, returned, request}
 use Rattle.message_model.specs.Sayable.{MayBeSaid, IsThread, IsCalled, message_weight}
@@ -10,9 +10,6 @@ use Rattle.uno_model.specs.Fits.{Fits, FitEach, IsInterface}
 use Rattle.uno_model.specs.Functions.{Function}
 use Rattle.uno_model.specs.Kinds as kd
 use Rattle.uno_model.specs.Values.{Ref, null, own, peer, Plain, plains, refs, depth_in}
-use Rattle.table_model.specs.Bags.{how_often}
-use Rattle.table_model.specs.Holdings.{Hold, hold, hold_cmp, holds, Holdings}
-use Rattle.table_model.specs.Pair.{pair}
 use Rattle.table_model.specs.declared.holder.Holder.TheVariants as holder
 use Rattle.plan_model.specs.Evaluation.{is_heavy, is_deep}
 use Rattle.plan_model.specs.Leaving.{caused}
@@ -20,23 +17,22 @@ use Rattle.plan_model.specs.Plans.{supports, first_objects}
 use Rattle.plan_model.specs.declared.runtime_cause.RuntimeCause.{RuntimeCause}
 use Rattle.plan_model.specs.declared.runtime_cause.RuntimeCause.TheVariants.{TooLarge, TooDeep}
 use Rattle.plan_typing.specs.Effects.{MakingFits}
-use Rattle.bridge_laws.specs.Counting.{total, one_if}
+use Rattle.bridge_laws.specs.Counting.{total}
 use Rattle.bridge_laws.proofs.HandingLaws.{returned_owes}
 use Rattle.bridge_laws.proofs.LivingEffectLaws.{defaults_of_fields}
-use Rattle.bridge_laws.proofs.LivingRootLaws.{often_passes}
 use Rattle.bridge_laws.proofs.VariableLaws.{values_none}
 use Rattle.bridge_model.specs.Calls.{query_args, calls_own, calls_peer}
 use Rattle.bridge_model.specs.Objects.{object_answer, fields_of, makes_default, defaults_of}
-use Rattle.bridge_model.specs.References.{gains, gains_all, holds_ref, lets_go, loses, refs_of_values}
+use Rattle.bridge_model.specs.References.{gains, gains_all, lets_go, loses, refs_of_values}
 use Rattle.bridge_model.specs.Roots.{holds_each, holds_pair, answered_before, is_answered, bottom, begins_call, calls_unless, root_calls, gets_at_once, asks_peer, begins_query, queries_unless, root_queries, asks_unless, root_asks, root_makes, root_drops, root_takes}
 use Rattle.bridge_model.specs.Settings.{Setting, own_oid, root_tid, ref_of, is_own, is_told}
 use Rattle.bridge_model.specs.Sides.{Object, Tables, Side, stands, waits_call, waits_query, with_root}
-use Rattle.bridge_typing.proofs.Fine.{is_well, is_fine_own, is_fine_peer, wrong}
+use Rattle.bridge_typing.proofs.Fine.{wrong}
 use Rattle.bridge_typing.proofs.FramesFit.{FramesFit}
 use Rattle.bridge_typing.proofs.Given.{IsGiven}
 use Rattle.bridge_typing.proofs.ObjectsFit.{ObjectsFit}
 use Rattle.bridge_typing.proofs.SideFits.{SideFits}
-use Rattle.bridge_typing.proofs.TablesFit.{is_wrong_pair, held_wrong, TablesFit}
+use Rattle.bridge_typing.proofs.TablesFit.{TablesFit}
 use Rattle.bridge_typing.proofs.BeginFits.{calls_own_fits, calls_peer_fits}
 use Rattle.bridge_typing.proofs.FineLaws.{own_fine, peer_fine}
 use Rattle.bridge_typing.proofs.CreatedFits.{place_within, faces_are}
