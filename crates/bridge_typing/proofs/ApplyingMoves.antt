@@ -1,17 +1,15 @@
 -- Whatever a method asks leaves what fits.
-use Rattle.std.proofs.Common.{◌≡◌, ℕ, suc, ◌+◌, ◌≤◌, ◌<◌, Bool, true, false, List, [], ◌∷◌, length, Option, None, Some, refl, sym, ap, subst, ◌∙◌, arith}
+use Rattle.std.proofs.Common.{◌≡◌, ℕ, ◌≤◌, ◌<◌, true, List, ◌∷◌, length, Some, sym, subst}
 use Rattle.message_model.specs.Messages.{returned, raised}
 use Rattle.message_model.specs.Sayable.{IsThread}
 use Rattle.plan_model.specs.Asking.{Effect, lets, sets, sets_field, drops, skips, calls, queries, makes, disposes, creates, returns, raises}
 use Rattle.plan_model.specs.Frames.{Body, Frame, body}
 use Rattle.plan_model.specs.Plans.{first_objects}
-use Rattle.plan_model.specs.Services.{created}
 use Rattle.plan_typing.specs.Effects.{EffectFits}
 use Rattle.plan_typing.specs.Going.{statement_at, types_at}
-use Rattle.bridge_laws.specs.Counting.{total}
 use Rattle.bridge_laws.proofs.EffectLaws.{effect_counts}
-use Rattle.bridge_model.specs.Applying.{goes_on_after, applies_call, applies_query, applies_creating, applies, effect_at}
-use Rattle.bridge_model.specs.Calls.{Unwound, unwound}
+use Rattle.bridge_model.specs.Applying.{applies_call, applies_query, applies, effect_at}
+use Rattle.bridge_model.specs.Calls.{unwound}
 use Rattle.bridge_model.specs.Handing.{ends_frame}
 use Rattle.bridge_model.specs.Settings.{Setting}
 use Rattle.bridge_model.specs.Sides.{Object, Tables}

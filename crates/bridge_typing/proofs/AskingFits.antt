@@ -1,5 +1,5 @@
 -- What a method asks is what the statement at its place says: a call of its function, a query, a new object; and what ends it may go.
-use Rattle.std.proofs.Common.{◌≡◌, ℕ, suc, ◌+◌, ◌≤◌, ◌==◌, Bool, true, false, if◌then◌else◌, List, [], ◌∷◌, map, Option, None, Some, option_map, slice_get, drop, refl, sym, ap, subst, ◌∙◌, inl, inr, arith}
+use Rattle.std.proofs.Common.{◌≡◌, ℕ, ◌==◌, Bool, true, false, if◌then◌else◌, List, [], ◌∷◌, map, Option, None, Some, option_map, slice_get, drop, refl, sym, subst, inl, inr}
 use Rattle.std.specs.Str.{bytes_eq}
 use Rattle.message_model.specs.Calls.{numbered, kinds_on, out_kinds}
 use Rattle.message_model.specs.Messages.{Answer, returned, raised}
@@ -27,7 +27,7 @@ use Rattle.plan_model.specs.Statements.{Call, Query, Making, Statement, let_vari
 use Rattle.plan_model.specs.declared.runtime_cause.RuntimeCause.{RuntimeCause}
 use Rattle.plan_model.specs.declared.runtime_cause.RuntimeCause.TheVariants.{Range, Null}
 use Rattle.plan_typing.specs.Effects.{NamesDiffer, RunFits}
-use Rattle.plan_typing.specs.Going.{at_place, method_of, statement_at, RestTyped, IsFunctionOf, GivesAnys}
+use Rattle.plan_typing.specs.Going.{at_place, statement_at, RestTyped, IsFunctionOf, GivesAnys}
 use Rattle.plan_typing.specs.Scenes.{VariablesFit}
 use Rattle.plan_model.specs.Contexts.{parameters}
 use Rattle.plan_typing.proofs.EffectCreates.{manager_gives}

@@ -1,46 +1,43 @@
 -- Calls that begin: a method of an own object with what its arguments give, and a call that goes out.
-use Rattle.std.proofs.Common.{◌≡◌, ℕ, suc, ◌+◌, ◌≤◌, ◌==◌, eqb-true, Bool, true, false, cond, ◌||◌, if◌then◌else◌, List, [], ◌∷◌, find, Option, None, Some, slice_get, refl, sym, ap, subst, ◌∙◌, arith}
-use Rattle.std.specs.List.{list_any}
+use Rattle.std.proofs.Common.{◌≡◌, ℕ, ◌≤◌, ◌==◌, eqb-true, Bool, true, false, cond, ◌||◌, if◌then◌else◌, List, [], ◌∷◌, find, Option, None, Some, slice_get, refl, sym, ap, subst, ◌∙◌, arith}
 use Rattle.std.specs.Option.{option_map}
 use Rattle.std.specs.Str.{bytes_eq}
 use Rattle.std.proofs.lemmas.Slice.Eq.{bytes_eq-Decides}
-use Rattle.message_model.specs.Calls.{numbered, goes, argument_kinds, kinds_on}
+use Rattle.message_model.specs.Calls.{numbered, argument_kinds}
 use Rattle.message_model.specs.Messages.{request}
 use Rattle.message_model.specs.Sayable.{IsThread, IsCalled, Fill, message_weight}
 use Rattle.message_model.proofs.FunctionKindLaws.{numbered_typed}
 use Rattle.uno_model.specs.BuiltIn.{factory_name}
-use Rattle.uno_model.specs.Entities.{Entity, Param}
-use Rattle.uno_model.specs.Fits.{FitEach, IsIdentity}
+use Rattle.uno_model.specs.Entities.{Param}
+use Rattle.uno_model.specs.Fits.{IsIdentity}
 use Rattle.uno_model.specs.Functions.{Function}
 use Rattle.uno_model.specs.Reaches.{is_base_of}
 use Rattle.uno_model.specs.Registry.{IsBaseOf}
 use Rattle.uno_model.specs.Sound.{IsSound, is_storable}
 use Rattle.uno_model.specs.Types.{is_type}
-use Rattle.uno_model.specs.Values.{own, Plain, plains}
+use Rattle.uno_model.specs.Values.{own, Plain}
 use Rattle.uno_model.proofs.AllLaws.{each_of_both}
 use Rattle.uno_model.proofs.AssignableLaws.{base_told}
 use Rattle.uno_model.proofs.Options.{same_some}
 use Rattle.table_model.specs.declared.holder.Holder.TheVariants as holder
 use Rattle.plan_model.specs.Contexts.{parameters}
 use Rattle.plan_model.specs.Frames.{Body, Frame, base, body, outgoing}
-use Rattle.plan_model.specs.Holdings.{refs_under, first_variables}
-use Rattle.plan_model.specs.Plans.{Plan, manager, faces_in, faces_of, supports}
-use Rattle.plan_typing.specs.Effects.{CallFits}
+use Rattle.plan_model.specs.Holdings.{first_variables}
+use Rattle.plan_model.specs.Plans.{manager, faces_in, faces_of, supports}
 use Rattle.plan_typing.specs.Going.{beginning_types}
 use Rattle.plan_typing.specs.Scenes.{VariablesFit}
 use Rattle.plan_typing.proofs.EffectFrames.{behaviour_fields, rest_begins}
 use Rattle.plan_typing.proofs.EffectPlaces.{types_stand_first}
 use Rattle.plan_typing.proofs.FrameFirst.{first_variables_fit}
 use Rattle.bridge_laws.specs.Counting.{total}
-use Rattle.bridge_laws.proofs.IdentityLaws.{given_own}
 use Rattle.bridge_laws.proofs.VariableLaws.{first_variables_owe}
-use Rattle.bridge_model.specs.Calls.{Unwound, unwound, params_of, first_body, calls_own, serves, calls_peer}
+use Rattle.bridge_model.specs.Calls.{params_of, first_body, calls_own, serves, calls_peer}
 use Rattle.bridge_model.specs.Objects.{object_numbered, object_named, number_of, faces_at, object_supports, fields_of}
-use Rattle.bridge_model.specs.References.{says, gains_all, takes_all, refs_of_values}
+use Rattle.bridge_model.specs.References.{gains_all, takes_all, refs_of_values}
 use Rattle.bridge_model.specs.Settings.{Setting, own_oid}
 use Rattle.bridge_model.specs.Sides.{Object, Tables}
 use Rattle.bridge_typing.proofs.Fine.{wrong}
-use Rattle.bridge_typing.proofs.FramesFit.{behaviour_at, BodyFits, Runs, Pauses, FramesFit, UnwoundFits}
+use Rattle.bridge_typing.proofs.FramesFit.{behaviour_at, BodyFits, Pauses, FramesFit, UnwoundFits}
 use Rattle.bridge_typing.proofs.Given.{IsGiven}
 use Rattle.bridge_typing.proofs.TablesFit.{TablesFit}
 use Rattle.bridge_typing.proofs.FineLaws.{OwnFine, own_fine, fine_own}
@@ -184,17 +181,20 @@ module _ (g : Setting) (given : IsGiven g) (os : List Object) (made : ℕ) where
       let object = named_object g oid face os fine.supported in
       let begun = begun_fits false oid face function f args t object fit.same gives fine in
       record {
-        frames =
-            (record {
-              behaviour = object.object.behaviour;
-              function = f;
-              types = beginning_types f (fields_of g object.object.behaviour);
-              fits = begun;
-              rest =
-                  rest_begins g.registry given.sound given.differ g.plan given.typed object.object.behaviour face function f gives.called.found
-                  (manages g given.sound object.object.behaviour face object.supported);
-              begun = λ is. refl;
-            }, no_peer, below);
+        frames = (
+          record {
+            behaviour = object.object.behaviour;
+            function = f;
+            types = beginning_types f (fields_of g object.object.behaviour);
+            fits = begun;
+            rest =
+                rest_begins g.registry given.sound given.differ g.plan given.typed object.object.behaviour face function f gives.called.found
+                (manages g given.sound object.object.behaviour face object.supported);
+            begun = λ is. refl;
+          },
+          no_peer,
+          below,
+        );
         tables =
             gains_fits g given os made (holder.Frame t.frames_made) (own (own_oid g (number_of (object_named g oid t.objects))) face)
             (gains_all (holder.Frame t.frames_made) (refs_of_values args) t) begun.held
@@ -218,17 +218,20 @@ module _ (g : Setting) (given : IsGiven g) (os : List Object) (made : ℕ) where
       let object = named_object g oid face os fine.supported in
       let begun = begun_fits true oid face function f args t object fit.same gives fine in
       record {
-        frames =
-            (record {
-              behaviour = object.object.behaviour;
-              function = f;
-              types = beginning_types f (fields_of g object.object.behaviour);
-              fits = begun;
-              rest =
-                  rest_begins g.registry given.sound given.differ g.plan given.typed object.object.behaviour face function f gives.called.found
-                  (manages g given.sound object.object.behaviour face object.supported);
-              begun = λ is. refl;
-            }, λ from_peer. rests, waited f fs rests below);
+        frames = (
+          record {
+            behaviour = object.object.behaviour;
+            function = f;
+            types = beginning_types f (fields_of g object.object.behaviour);
+            fits = begun;
+            rest =
+                rest_begins g.registry given.sound given.differ g.plan given.typed object.object.behaviour face function f gives.called.found
+                (manages g given.sound object.object.behaviour face object.supported);
+            begun = λ is. refl;
+          },
+          λ from_peer. rests,
+          waited f fs rests below,
+        );
         tables =
             gains_fits g given os made (holder.Frame t.frames_made) (own (own_oid g (number_of (object_named g oid t.objects))) face)
             (takes_all g (holder.Frame t.frames_made) (refs_of_values args) t) begun.held

@@ -1,41 +1,36 @@
 -- Calls, queries and ends of a method leave what fits.
-use Rattle.std.proofs.Common.{◌≡◌, ℕ, suc, ◌+◌, ◌≤◌, ◌==◌, Bool, true, false, List, [], ◌∷◌, ◌++◌, Option, None, Some, refl, sym, ap, subst, ◌∙◌, inl, arith}
-use Rattle.message_model.specs.Calls.{numbered}
-use Rattle.message_model.specs.Messages.{Answer, returned, raised}
+use Rattle.std.proofs.Common.{◌≡◌, ℕ, ◌+◌, true, List, [], ◌∷◌, Some, refl, sym, subst, ◌∙◌, arith}
+use Rattle.message_model.specs.Messages.{Answer, returned}
 use Rattle.message_model.specs.Sayable.{AnswerFits, IsThread, IsCalled}
 use Rattle.uno_model.specs.Entities.{Entity}
-use Rattle.uno_model.specs.Fits.{Fits, HeldFits, IsInterface}
+use Rattle.uno_model.specs.Fits.{IsInterface}
 use Rattle.uno_model.specs.Functions.{Function}
 use Rattle.uno_model.specs.Kinds as kd
 use Rattle.uno_model.specs.Values.{Ref, null, own, peer, Plain, refs, object_in}
 use Rattle.uno_model.specs.Values as v
 use Rattle.uno_model.proofs.Options.{same_some}
-use Rattle.table_model.specs.declared.holder.Holder.TheVariants as holder
-use Rattle.plan_model.specs.Asking.{Effect, calls, queries, returns, raises}
 use Rattle.plan_model.specs.Frames.{Body, Frame, body}
-use Rattle.plan_model.specs.Plans.{manager}
-use Rattle.plan_model.specs.Statements.{Statement, call, query}
+use Rattle.plan_model.specs.Statements.{call, query}
 use Rattle.plan_typing.specs.Effects.{CallFits, TargetFits}
-use Rattle.plan_typing.specs.Going.{statement_at, IsFunctionOf}
+use Rattle.plan_typing.specs.Going.{statement_at}
 use Rattle.plan_typing.proofs.EffectFrames.{rest_goes_on}
 use Rattle.bridge_laws.specs.Counting.{total}
-use Rattle.bridge_laws.proofs.VariableLaws.{values_none}
 use Rattle.bridge_model.specs.Applying.{applies_call, answers_query, applies_query}
-use Rattle.bridge_model.specs.Calls.{Unwound, unwound, query_args, calls_own, calls_peer}
+use Rattle.bridge_model.specs.Calls.{Unwound, query_args}
 use Rattle.bridge_model.specs.Handing.{gains_below, ends_frame}
 use Rattle.bridge_model.specs.Objects.{object_answer}
 use Rattle.bridge_model.specs.References.{refs_of_values, refs_of_answer}
-use Rattle.bridge_model.specs.Settings.{Setting, own_oid}
+use Rattle.bridge_model.specs.Settings.{Setting}
 use Rattle.bridge_model.specs.Sides.{Object, Tables}
 use Rattle.bridge_typing.proofs.Fine.{wrong}
-use Rattle.bridge_typing.proofs.FramesFit.{Runs, Pauses, FramesFit, AnswerGoes, UnwoundFits}
+use Rattle.bridge_typing.proofs.FramesFit.{Runs, Pauses, FramesFit, UnwoundFits}
 use Rattle.bridge_typing.proofs.Given.{IsGiven}
 use Rattle.bridge_typing.proofs.Moves.{Moves}
-use Rattle.bridge_typing.proofs.ObjectsFit.{ObjectsFit, Lasts}
+use Rattle.bridge_typing.proofs.ObjectsFit.{ObjectsFit}
 use Rattle.bridge_typing.proofs.TablesFit.{TablesFit}
 use Rattle.bridge_typing.proofs.AskingFits.{CallsAt, QueriesAt}
-use Rattle.bridge_typing.proofs.BeginFits.{Gives, calls_own_fits, calls_peer_fits}
-use Rattle.bridge_typing.proofs.FineLaws.{OwnFine, own_fine, PeerFine, peer_fine}
+use Rattle.bridge_typing.proofs.BeginFits.{calls_own_fits, calls_peer_fits}
+use Rattle.bridge_typing.proofs.FineLaws.{OwnFine, own_fine, peer_fine}
 use Rattle.bridge_typing.proofs.HandingFits.{hands_fits, gains_below_fits, ends_frame_fits}
 use Rattle.bridge_typing.proofs.LeavingFits.{IsLight}
 use Rattle.bridge_typing.proofs.OwnEffects.{lasts_itself}
@@ -64,18 +59,21 @@ module _ (g : Setting) (given : IsGiven g) (os : List Object) (made : ℕ) (obje
       → at.typed.function ≡ called → FramesFit g os (Some called) (body b ∷ fs)
   unfolding FramesFit
   call_waits target function called at same =
-      let next = rest_goes_on g.registry g.plan r.behaviour b.place b.face r.function r.types (call at.call) r.rest at.is (λ ends. ends) in
-      (record {
-        behaviour = r.behaviour;
-        function = r.function;
-        types = r.types;
-        statement = call at.call;
-        fits = r.fits;
-        found = at.is;
-        typed = next.0;
-        rest = next.1;
-        takes = (at.typed, same);
-      }, rests, below)
+      let next = rest_goes_on g.registry g.plan r.behaviour b.place b.face r.function r.types (call at.call) r.rest at.is (λ ends. ends) in (
+        record {
+          behaviour = r.behaviour;
+          function = r.function;
+          types = r.types;
+          statement = call at.call;
+          fits = r.fits;
+          found = at.is;
+          typed = next.0;
+          rest = next.1;
+          takes = (at.typed, same);
+        },
+        rests,
+        below,
+      )
 
   pub call_moves : (target : Ref) (function : ℕ) (args : List Plain) (t : Tables) → TargetFits g.registry tid target function args
       → CallsAt g.registry r.types (statement_at g.plan r.behaviour b.place r.function) target function
@@ -100,18 +98,21 @@ module _ (g : Setting) (given : IsGiven g) (os : List Object) (made : ℕ) (obje
       → FramesFit g os (Some called) (body b ∷ fs)
   unfolding FramesFit
   query_waits wanted called at result =
-      let next = rest_goes_on g.registry g.plan r.behaviour b.place b.face r.function r.types (query at.query) r.rest at.is (λ ends. ends) in
-      (record {
-        behaviour = r.behaviour;
-        function = r.function;
-        types = r.types;
-        statement = query at.query;
-        fits = r.fits;
-        found = at.is;
-        typed = next.0;
-        rest = next.1;
-        takes = (at.wanted, result);
-      }, rests, below)
+      let next = rest_goes_on g.registry g.plan r.behaviour b.place b.face r.function r.types (query at.query) r.rest at.is (λ ends. ends) in (
+        record {
+          behaviour = r.behaviour;
+          function = r.function;
+          types = r.types;
+          statement = query at.query;
+          fits = r.fits;
+          found = at.is;
+          typed = next.0;
+          rest = next.1;
+          takes = (at.wanted, result);
+        },
+        rests,
+        below,
+      )
 
   asked_fine : (wanted : List ℕ) → total (wrong g os) (refs_of_values (query_args wanted)) ≡ 0
   unfolding total refs refs_of_values
@@ -123,7 +124,7 @@ module _ (g : Setting) (given : IsGiven g) (os : List Object) (made : ℕ) (obje
   answered_fits oid face wanted f t called fine at fit =
       let x = object_answer g oid (kd.interface wanted) os in
       let any = object_goes g given os made objects oid (kd.interface wanted) fine.told
-          (λ other is. subst (IsInterface g.registry) (sym at.same ∙ wanted_is wanted other is) at.wanted) in
+      (λ other is. subst (IsInterface g.registry) (sym at.same ∙ wanted_is wanted other is) at.wanted) in
       let goes = query_goes g given os made objects tid face f x thread called any in
       subst (λ now. UnwoundFits g os made (answers_query g tid (object_answer g oid (kd.interface wanted) now) (body b ∷ fs) t)) (sym fit.same)
       (hands_fits g given os made tid thread f (returned x []) (body b ∷ fs) (gains_below (body b ∷ fs) (returned x []) t) (record { fits = goes.fits; fine = goes.fine })

@@ -1,28 +1,43 @@
 -- What a name creates fits, and supports XInterface.
-use Rattle.std.proofs.Common.{◌≡◌, ℕ, zero, suc, ◌+◌, ◌≤◌, ◌<◌, ◌==◌, eqb-true, Bool, true, false, if◌then◌else◌, List, [], ◌∷◌, ◌++◌, length, map, Option, None, Some, Result, Ok, Err, slice_get, refl, sym, ap, subst, ◌∙◌, arith}
-use Rattle.std.specs.List.{AllByRecursion, list_all, list_any, find, position_or_len}
-use Rattle.uno_model.specs.BuiltIn.{HasBuiltIn, x_interface_name, x_interface, factory_name}
+use Rattle.std.proofs.Common.{◌≡◌, ℕ, zero, suc, ◌<◌, ◌==◌, eqb-true, Bool, true, false, if◌then◌else◌, List, [], ◌∷◌, length, Option, None, Some, Result, Ok, Err, slice_get, refl, sym, ap, subst, arith, ◌+◌, ◌||◌, ◌++◌, map, ◌∙◌}
+use Rattle.std.specs.List.{AllByRecursion, list_any, find, position_or_len}
+use Rattle.uno_model.specs.BuiltIn.{x_interface_name, x_interface, factory_name}
 use Rattle.uno_model.specs.Fits.{FitAll, IsInterface}
 use Rattle.uno_model.specs.Kinds as kd
 use Rattle.uno_model.specs.Registry.{find_entity}
-use Rattle.uno_model.specs.Sound.{all_differ}
-use Rattle.uno_model.specs.Values.{own, Plain, plains}
-use Rattle.plan_model.specs.Fitting.{serves}
+use Rattle.uno_model.specs.Values.{Plain, plains}
 use Rattle.plan_model.specs.Frames.{Variable}
-use Rattle.plan_model.specs.Plans.{Plan, Behaviour, Offer, manager, faces_in, faces_of, supports, first_objects, has_offers, singleton_object}
-use Rattle.plan_model.specs.Services.{Created, fresh, singleton, first_filled, fields_with, fields_of_behaviour, constructors_of, of_service, of_singleton, has_name, among_singletons, created}
+use Rattle.plan_model.specs.Plans.{Behaviour, Offer, manager, faces_in, faces_of, supports}
+use Rattle.plan_model.specs.Services.{Created, fresh, singleton, first_filled, fields_with, fields_of_behaviour, constructors_of, of_service, of_singleton, has_name, created}
 use Rattle.plan_model.specs.declared.refusal.Refusal.{Refusal}
 use Rattle.plan_typing.specs.Scenes.{FieldsFit}
 use Rattle.plan_typing.specs.Statements.{IsTypedBehaviour}
 use Rattle.plan_typing.proofs.EffectPlaces.{all_at_place}
 use Rattle.plan_typing.proofs.EffectRuntime.{interface_found}
 use Rattle.plan_typing.proofs.TermFunctions.{interface_type}
-use Rattle.bridge_laws.proofs.CreatedLaws.{IsPlaced, created_placed}
 use Rattle.bridge_model.specs.Objects.{fields_of, as_variables}
 use Rattle.bridge_model.specs.Settings.{Setting}
-use Rattle.bridge_typing.proofs.Given.{OfferFits, ServiceFits, FieldsDiffer, IsGiven}
+use Rattle.bridge_typing.proofs.Given.{ServiceFits, FieldsDiffer, IsGiven}
 use Rattle.bridge_typing.proofs.CreatingFits.{TakesPlace, OnEach, first_fits, fields_fit}
 use Rattle.bridge_typing.proofs.JobFits.{found_all}
+use Rattle.uno_model.proofs.Options.{same_some}
+use Rattle.uno_model.specs.Sound.{is_some_list}
+
+-- ---- places in lists
+
+pub slice_behind : {X : Type 0} (xs ys : List X) (n : ℕ) → slice_get (xs ++ ys) (length xs + n) ≡ slice_get ys n
+slice_behind [] ys n = let same : 0 + n ≡ n = omega arith in ap (slice_get ys) same
+slice_behind (x ∷ xs) ys n = let same : suc (length xs) + n ≡ suc (length xs + n) = omega arith in ap (slice_get (x ∷ (xs ++ ys))) same ∙ slice_behind xs ys n
+
+pub slice_mapped : {X Y : Type 0} (f : X → Y) (xs : List X) (n : ℕ) (x : X) → slice_get xs n ≡ Some x → slice_get (map f xs) n ≡ Some (f x)
+slice_mapped f [] n x is = absurd (cc)
+slice_mapped f (y ∷ xs) zero x is = ap (λ z. Some (f z)) (same_some is)
+slice_mapped f (y ∷ xs) (suc n) x is = slice_mapped f xs n x is
+
+pub has_some : (a : Bool) (xs : List Offer) (n : ℕ) (x : Offer) → slice_get xs n ≡ Some x → (a || is_some_list xs) ≡ true
+has_some true xs n x is = refl
+has_some false [] n x is = absurd (cc)
+has_some false (y ∷ xs) n x is = refl
 
 -- ---- behaviours at their places
 
@@ -88,7 +103,7 @@ module _ (g : Setting) (given : IsGiven g) (args : List Plain) (fits : FitAll g.
   created_by name (Some o) is =
       let service = found_all (ServiceFits g.registry g.plan) (has_name name) g.plan.services o given.services is in
       let made = service_by o (first_filled g.registry (constructors_of (find_entity o.name g.registry)) args) service refl
-          (first_fits g.registry given.sound service.behaviour (constructors_of (find_entity o.name g.registry)) args service.serves fits) in
+      (first_fits g.registry given.sound service.behaviour (constructors_of (find_entity o.name g.registry)) args service.serves fits) in
       rw is made
 
   pub created_fits : (name : List ℕ) → CreatedFits g (created g.plan g.registry name args)

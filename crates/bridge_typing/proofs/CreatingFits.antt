@@ -1,36 +1,28 @@
 -- What the service manager creates fits: the fields of a new object take what the arguments give for the parameters of a constructor, or have the defaults of their types.
-use Rattle.std.proofs.Common.{◌≡◌, ◌≢◌, ℕ, zero, suc, ◌+◌, ◌≤◌, ◌<◌, ◌==◌, eqb-true, Bool, true, false, cond, not, ◌&&◌, ◌||◌, if◌then◌else◌, List, [], ◌∷◌, length, map, find, Option, None, Some, Result, Ok, Err, slice_get, refl, sym, ap, subst, ◌∙◌, arith}
-use Rattle.std.specs.List.{AllByRecursion, list_all, list_any, position_or_len}
+use Rattle.std.proofs.Common.{◌≡◌, ℕ, Bool, true, false, cond, not, ◌&&◌, ◌||◌, if◌then◌else◌, List, [], ◌∷◌, map, find, Option, None, Some, refl, sym, ap, subst, ◌∙◌}
+use Rattle.std.specs.List.{AllByRecursion, list_all, list_any}
 use Rattle.std.specs.Option.{option_or}
 use Rattle.std.specs.Str.{bytes_eq}
 use Rattle.std.proofs.lemmas.Bool.{and_parts}
 use Rattle.std.proofs.lemmas.Slice.Eq.{bytes_eq-Decides}
-use Rattle.uno_model.specs.BuiltIn.{x_interface_name}
 use Rattle.uno_model.specs.Codes.{same_kind}
 use Rattle.uno_model.specs.Entities.{Entity, Field, Constructor}
 use Rattle.uno_model.specs.Fits.{Fits, FitAll, does_fit}
 use Rattle.uno_model.specs.Kinds.{Kind}
 use Rattle.uno_model.specs.Kinds as kd
-use Rattle.uno_model.specs.Registry.{find_entity}
 use Rattle.uno_model.specs.Sound.{IsSound, all_differ}
 use Rattle.uno_model.specs.Values.{Plain, plains}
-use Rattle.uno_model.specs.Values as v
 use Rattle.uno_model.proofs.CodeLaws.{same_kind_told}
 use Rattle.uno_model.proofs.DefaultLaws.{default_fits}
 use Rattle.uno_model.proofs.FitLaws.{fit_told}
 use Rattle.uno_model.proofs.Options.{same_some}
-use Rattle.plan_model.specs.Fitting.{has_field, has_rest_field, serves, serves_all}
+use Rattle.plan_model.specs.Fitting.{has_field, has_rest_field, serves}
 use Rattle.plan_model.specs.Frames.{Variable}
-use Rattle.plan_model.specs.Plans.{Plan, Behaviour, Offer, manager, faces_in, faces_of, supports}
-use Rattle.plan_model.specs.Services.{Created, fresh, singleton, content_of, filled, rest_filled, all_filled, first_filled, field_value, fields_with, fields_of_behaviour, constructors_of, of_service, of_singleton, has_name, among_singletons, created}
-use Rattle.plan_model.specs.declared.refusal.Refusal.{Refusal}
+use Rattle.plan_model.specs.Plans.{Behaviour}
+use Rattle.plan_model.specs.Services.{content_of, filled, rest_filled, all_filled, first_filled, field_value, fields_with}
 use Rattle.plan_typing.specs.Scenes.{FieldsFit}
 use Rattle.plan_typing.specs.Statements.{IsTypedField}
-use Rattle.plan_typing.proofs.EffectFrames.{behaviour_fields}
-use Rattle.plan_typing.proofs.EffectPlaces.{all_at_place}
-use Rattle.bridge_model.specs.Objects.{fields_of, as_variables}
-use Rattle.bridge_model.specs.Settings.{Setting}
-use Rattle.bridge_typing.proofs.Given.{ServiceFits, FieldsDiffer, IsGiven}
+use Rattle.bridge_model.specs.Objects.{as_variables}
 use Rattle.bridge_typing.proofs.JobFits.{found_all}
 use Rattle.bridge_typing.proofs.MakingFits.{values_fit}
 
@@ -68,13 +60,15 @@ module _ (reg : List Entity) (sound : IsSound reg) (b : Behaviour) where
   unfolding Fits
   rest_fits None [] has fits = tt
   rest_fits None (arg ∷ args) has fits = tt
-  rest_fits (Some name) args has fits =
-      (record {
-        place = record { name = name; kind = kd.sequence kd.any };
-        has = has;
-        named = refl;
-        fits = (refl, (λ is. absurd (cc)), refl, fits);
-      }, tt)
+  rest_fits (Some name) args has fits = (
+    record {
+      place = record { name = name; kind = kd.sequence kd.any };
+      has = has;
+      named = refl;
+      fits = (refl, (λ is. absurd (cc)), refl, fits);
+    },
+    tt,
+  )
 
   all_by : (p : Field) (ps : List Field) (rest : Option (List ℕ)) (arg : Plain) (args : List Plain) (x : Option Variable) (xs : Option (List Variable))
       → filled reg p arg ≡ x → all_filled reg ps rest args ≡ xs → OnOne reg b x → OnEach reg b xs → OnEach reg b (all_filled reg (p ∷ ps) rest (arg ∷ args))
@@ -120,10 +114,6 @@ none_of name (f ∷ fs) not_there = by_test (bytes_eq name f.name) refl not_ther
 all_more : {X : Type 0} (P Q : X → Type 0) → ((x : X) → P x → Q x) → (xs : List X) → AllByRecursion P xs → AllByRecursion Q xs
 all_more P Q more [] all = tt
 all_more P Q more (x ∷ xs) all = (more x all.0, all_more P Q more xs all.1)
-
--- a field of this name and type is there
-is_there_field : Field → List Field → Bool
-is_there_field p fs = list_any (λ f. bytes_eq p.name f.name && same_kind p.kind f.kind) fs
 
 same_names : (p f : Field) → bytes_eq p.name f.name ≡ true → p.name ≡ f.name
 same_names p f is = (bytes_eq-Decides p.name f.name).0 is

@@ -1,5 +1,5 @@
 -- Bytes that come in leave a side of which all may be said.
-use Rattle.std.proofs.Common.{◌≡◌, ℕ, zero, suc, ◌+◌, ◌-◌, ◌≤◌, Bool, true, false, if◌then◌else◌, List, [], ◌∷◌, ◌++◌, length, drop, Option, None, Some, Result, Ok, Err, refl, ◌∙◌, sym, ap, subst, arith}
+use Rattle.std.proofs.Common.{◌≡◌, ℕ, zero, suc, ◌+◌, ◌-◌, Bool, true, false, if◌then◌else◌, List, [], ◌∷◌, ◌++◌, length, drop, Option, None, Some, Result, Ok, Err, refl, ◌∙◌}
 use Rattle.message_model.specs.Arriving.{IsHeard}
 use Rattle.message_model.specs.Headers.{Heard}
 use Rattle.message_model.specs.Messages.{Message, request, release, reply}
@@ -9,7 +9,7 @@ use Rattle.urp_model.specs.declared.fault.Fault.{Fault}
 use Rattle.urp_model.specs.declared.reason.Reason.{Reason}
 use Rattle.urp_model.specs.declared.reason.Reason.TheVariants.{LeftOver}
 use Rattle.bridge_model.specs.Feeding.{block_stands, header_fault, Hearing, breaks, remembers, gets, block_ends, Next, hears_tested, hears_read, hears, heard_nothing, holds_bytes, takes_block, feeds_whole, feeds_part, feeds, count_said}
-use Rattle.bridge_model.specs.Receiving.{refusal, receives}
+use Rattle.bridge_model.specs.Receiving.{refusal}
 use Rattle.bridge_model.specs.Settings.{Setting}
 use Rattle.bridge_model.specs.Sides.{Side}
 use Rattle.bridge_model.specs.Stacks.{waits_of}

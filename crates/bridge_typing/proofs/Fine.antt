@@ -1,5 +1,5 @@
 -- References that are fine: told as own or foreign by their identity, under an interface of the registry, and of an object that lives and supports it.
-use Rattle.std.specs.Prelude.{◌≡◌, ℕ, Bool, not, ◌&&◌, List}
+use Rattle.std.specs.Prelude.{ℕ, Bool, not, ◌&&◌, List}
 use Rattle.uno_model.specs.Entities.{Entity}
 use Rattle.uno_model.specs.Fits.{is_identity}
 use Rattle.uno_model.specs.Kinds as kd

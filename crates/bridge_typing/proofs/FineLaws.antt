@@ -1,17 +1,15 @@
 -- References that are fine, by what they are; and supporting an interface is supporting its bases.
-use Rattle.std.proofs.Common.{◌≡◌, ℕ, ◌+◌, ◌≤◌, Bool, true, false, not, ◌&&◌, ◌||◌, cond, nat_lt, if◌then◌else◌, List, [], ◌∷◌, length, Option, None, Some, refl, sym, ap, ◌∙◌, arith}
-use Rattle.std.specs.Prelude.{IsTrue}
+use Rattle.std.proofs.Common.{◌≡◌, ℕ, Bool, true, false, not, ◌&&◌, ◌||◌, nat_lt, List, [], ◌∷◌, length, refl, ap, arith}
 use Rattle.std.specs.List.{list_any}
 use Rattle.std.proofs.lemmas.Bool.{and_parts, and_from, ltb-true, lt-ltb}
-use Rattle.uno_model.specs.Circles.{HasNoCircle}
 use Rattle.uno_model.specs.Entities.{Entity}
 use Rattle.uno_model.specs.Fits.{IsIdentity, IsInterface, is_identity}
 use Rattle.uno_model.specs.Kinds as kd
 use Rattle.uno_model.specs.Reaches.{is_base_of}
-use Rattle.uno_model.specs.Registry.{IsBaseOf, leads_to}
+use Rattle.uno_model.specs.Registry.{IsBaseOf}
 use Rattle.uno_model.specs.Sound.{IsSound}
 use Rattle.uno_model.specs.Types.{is_type}
-use Rattle.uno_model.specs.Values.{Ref, null, own, peer}
+use Rattle.uno_model.specs.Values.{own, peer}
 use Rattle.uno_model.proofs.AssignableLaws.{base_told, base_over_base}
 use Rattle.plan_model.specs.Plans.{supports}
 use Rattle.bridge_model.specs.Objects.{object_supports, object_named, faces_at}

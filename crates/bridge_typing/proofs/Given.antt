@@ -1,5 +1,5 @@
 -- What is asked of a setting: a sound registry, and a plan of which typed statements and offers are known.
-use Rattle.std.specs.Prelude.{◌≡◌, ℕ, ◌≤◌, ◌<◌, ◌^◌, true, List, [], length, map, Some, slice_get}
+use Rattle.std.specs.Prelude.{◌≡◌, ◌≤◌, ◌<◌, ◌^◌, true, List, [], length, map, Some, slice_get}
 use Rattle.std.specs.List.{AllByRecursion}
 use Rattle.uno_model.specs.BuiltIn.{HasBuiltIn, x_interface_name}
 use Rattle.uno_model.specs.Entities.{Entity}

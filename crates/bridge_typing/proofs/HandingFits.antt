@@ -1,28 +1,21 @@
 -- An answer that is handed down leaves frames and tables that fit: a method goes on with what it takes, or ends with an exception that may go.
-use Rattle.std.proofs.Common.{◌≡◌, ℕ, suc, ◌+◌, ◌≤◌, ◌==◌, Bool, true, false, if◌then◌else◌, List, [], ◌∷◌, ◌++◌, Option, None, Some, slice_get, refl, sym, ap, subst, ◌∙◌, arith}
-use Rattle.std.specs.Option.{option_map}
-use Rattle.message_model.specs.Calls.{numbered, comes, kinds_on, out_kinds}
+use Rattle.std.proofs.Common.{◌≡◌, ℕ, ◌==◌, Bool, true, false, if◌then◌else◌, List, [], ◌∷◌, ◌++◌, Option, None, Some, refl, sym, ap, subst, ◌∙◌, arith}
+use Rattle.message_model.specs.Calls.{out_kinds}
 use Rattle.message_model.specs.Messages.{Answer, returned, raised, reply}
 use Rattle.message_model.specs.Sayable.{AnswerFits, IsThread, IsCalled}
-use Rattle.uno_model.specs.Entities.{Entity, Field}
 use Rattle.uno_model.specs.Fits.{Fits, FitEach}
 use Rattle.uno_model.specs.Functions.{Function}
-use Rattle.uno_model.specs.Kinds.{Kind}
-use Rattle.uno_model.specs.Kinds as kd
 use Rattle.uno_model.specs.Values.{Ref, own, Plain, plains, refs}
 use Rattle.uno_model.specs.Values as v
 use Rattle.table_model.specs.declared.holder.Holder.{Holder}
 use Rattle.table_model.specs.declared.holder.Holder.TheVariants as holder
-use Rattle.plan_model.specs.Effects.{method_for, methods_of}
 use Rattle.plan_model.specs.Frames.{Variable, Body, Frame, base, body, outgoing}
-use Rattle.plan_model.specs.Holdings.{Taken, goes_on, let_go_at_end, refs_under, reference_of, is_taken}
+use Rattle.plan_model.specs.Holdings.{goes_on, let_go_at_end, refs_under, reference_of, is_taken}
 use Rattle.plan_model.specs.Leaving.{leaving_frame}
-use Rattle.plan_model.specs.Plans.{Method, manager}
+use Rattle.plan_model.specs.Plans.{manager}
 use Rattle.plan_model.specs.Statements.{Statement, call, query}
-use Rattle.plan_model.specs.Statements as st
-use Rattle.plan_typing.specs.Going.{at_place, statement_at}
 use Rattle.plan_typing.specs.Scenes.{VariablesFit}
-use Rattle.plan_typing.specs.Statements.{IsTyped, types_behind, with_result}
+use Rattle.plan_typing.specs.Statements.{IsTyped, types_behind}
 use Rattle.plan_typing.specs.Types.{Types}
 use Rattle.plan_typing.proofs.EffectTypes.{types_stand_behind}
 use Rattle.plan_typing.proofs.FrameAnswers.{answer_taken}
@@ -34,96 +27,16 @@ use Rattle.bridge_laws.proofs.VariableLaws.{untaken_owes}
 use Rattle.bridge_model.specs.Calls.{Unwound, unwound}
 use Rattle.bridge_model.specs.Handing.{behaviour_of, statement_in, statement_of_function, taken_by, goes_on_taking, goes_on_with, root_gets, lets_go_frame, answers_peer, holder_of, gains_with, gains_below, takes_with, takes_below, hands_over, hands, after_letting_go, hands_down, ends_frame, hands_from_peer}
 use Rattle.bridge_model.specs.Handing as handing
-use Rattle.bridge_model.specs.Objects.{object_numbered}
-use Rattle.bridge_model.specs.References.{says, refs_of_values, refs_of_answer}
+use Rattle.bridge_model.specs.References.{says, refs_of_answer}
 use Rattle.bridge_model.specs.Settings.{Setting, own_oid}
 use Rattle.bridge_model.specs.Sides.{Object, RootState, waits_query, answered, answer, Tables, state_of, with_root}
 use Rattle.bridge_typing.proofs.Fine.{wrong}
-use Rattle.bridge_typing.proofs.FramesFit.{behaviour_at, BodyFits, Runs, TakesFrom, Awaits, Pauses, FramesFit, AnswerComes, AnswerGoes, UnwoundFits}
+use Rattle.bridge_typing.proofs.FramesFit.{BodyFits, TakesFrom, Awaits, Pauses, FramesFit, AnswerComes, AnswerGoes, UnwoundFits}
 use Rattle.bridge_typing.proofs.Given.{IsGiven}
 use Rattle.bridge_typing.proofs.TablesFit.{TablesFit}
 use Rattle.bridge_typing.proofs.LeavingFits.{frame_goes}
 use Rattle.bridge_typing.proofs.TableLaws.{says_fits, gains_all_fits, takes_all_fits, lets_go_all_fits}
-
--- ---- the statement that waits
-
--- an object that is found with its behaviour
-pub record Found (m n : ℕ) (os : List Object) : Type 0 where
-  pub object : Object
-  pub there : object_numbered m os ≡ Some object
-  pub behaves : object.behaviour ≡ n
-
-found_in : (m n : ℕ) (os : List Object) (o : Option Object) → object_numbered m os ≡ o → option_map (λ o. o.behaviour) o ≡ Some n → Found m n os
-found_in m n os None there is = absurd (cc)
-found_in m n os (Some o) there is = record { object = o; there = there; behaves = cc }
-
-pub found_object : (m n : ℕ) (os : List Object) → behaviour_at m os ≡ Some n → Found m n os
-unfolding behaviour_at
-found_object m n os is = found_in m n os (object_numbered m os) refl is
-
-same_place : (place : ℕ) (m : Option Method) → statement_in place m ≡ at_place place m
-same_place place None = refl
-same_place place (Some m) = refl
-
-written_by : (g : Setting) (n place : ℕ) (f : Function) (s : Statement) (b : Bool)
-    → at_place place (if b then None else method_for f (methods_of (slice_get g.plan.behaviours n))) ≡ Some s
-    → at_place place (method_for f (methods_of (slice_get g.plan.behaviours n))) ≡ Some s
-written_by g n place f s true is = absurd (cc)
-written_by g n place f s false is = is
-
--- the service manager has no statements
-pub no_statement : (g : Setting) (n place : ℕ) (f : Function) (s : Statement) (b : Bool) → b ≡ true
-    → at_place place (if b then None else method_for f (methods_of (slice_get g.plan.behaviours n))) ≡ Some s → ⊥
-no_statement g n place f s true manages is = absurd (cc)
-no_statement g n place f s false manages is = absurd (cc)
-
-pub statement_is : (g : Setting) (os : List Object) (b : Body) (n : ℕ) (f : Function) (s : Statement) → numbered g.registry b.face b.function ≡ Some f
-    → behaviour_at b.object os ≡ Some n → statement_at g.plan n b.place f ≡ Some s → handing.statement_at g os b ≡ Some s
-unfolding handing.statement_at
-statement_is g os b n f s found at is =
-    let object = found_object b.object n os at in
-    ap (statement_of_function g os b) found
-    ∙ (ap (λ o. statement_in b.place (method_for f (methods_of (behaviour_of g o)))) object.there
-    ∙ (ap (λ k. statement_in b.place (method_for f (methods_of (slice_get g.plan.behaviours k)))) object.behaves
-    ∙ (same_place b.place (method_for f (methods_of (slice_get g.plan.behaviours n))) ∙ written_by g n b.place f s (n == manager) is)))
-
--- ---- the types behind a statement
-
-result_fields : (to : Option Field) (ts : Types) → (with_result to ts).fields ≡ ts.fields
-result_fields None ts = refl
-result_fields (Some x) ts = refl
-
-result_own : (to : Option Field) (ts : Types) → (with_result to ts).own ≡ ts.own
-result_own None ts = refl
-result_own (Some x) ts = refl
-
-pub behind_fields : (s : Statement) (ts : Types) → (types_behind s ts).fields ≡ ts.fields
-unfolding types_behind
-behind_fields (st.let_variable x a) ts = refl
-behind_fields (call c) ts = result_fields c.to ts
-behind_fields (query q) ts = refl
-behind_fields (st.make m) ts = refl
-behind_fields (st.drop_variable name) ts = refl
-behind_fields s ts = refl
-
-pub behind_own : (s : Statement) (ts : Types) → (types_behind s ts).own ≡ ts.own
-unfolding types_behind
-behind_own (st.let_variable x a) ts = refl
-behind_own (call c) ts = result_own c.to ts
-behind_own (query q) ts = refl
-behind_own (st.make m) ts = refl
-behind_own (st.drop_variable name) ts = refl
-behind_own s ts = refl
-
--- ---- frames
-
--- under a frame that the peer called no method waits for this end
-pub paused : (g : Setting) (os : List Object) (f : Function) (fs : List Frame) → Pauses fs → FramesFit g os (Some f) fs → FramesFit g os None fs
-unfolding FramesFit
-paused g os f [] rests fit = fit
-paused g os f (base root ∷ fs) rests fit = fit
-paused g os f (outgoing o ∷ fs) rests fit = fit
-paused g os f (body b ∷ fs) rests fit = absurd rests
+use Rattle.bridge_typing.proofs.WaitingFits.{no_statement, statement_is, behind_fields, behind_own, paused}
 
 module _ (g : Setting) (given : IsGiven g) (os : List Object) (made : ℕ) (tid : List ℕ) (thread : IsThread tid) where
   -- ---- going on
@@ -174,17 +87,20 @@ module _ (g : Setting) (given : IsGiven g) (os : List Object) (made : ℕ) (tid 
       let parts = returned_owes (wrong g os) x outs in let none = goes.fine in let before = r.fits.fine in
       let most = taken_by_owes (wrong g os) g o x outs b.variables in
       record {
-        frames =
-            (record {
-              behaviour = r.behaviour;
-              function = r.function;
-              types = types_behind r.statement r.types;
-              fits =
-                  subst (λ s. BodyFits g os (goes_on (taken_by g s x outs b.variables).variables b) r.behaviour r.function (types_behind r.statement r.types)) (sym is)
-                  (goes_on_fits called b x outs r goes);
-              rest = r.rest;
-              begun = λ manages. absurd (no_statement g r.behaviour b.place r.function r.statement (r.behaviour == manager) manages r.found);
-            }, rests, below);
+        frames = (
+          record {
+            behaviour = r.behaviour;
+            function = r.function;
+            types = types_behind r.statement r.types;
+            fits =
+                subst (λ s. BodyFits g os (goes_on (taken_by g s x outs b.variables).variables b) r.behaviour r.function (types_behind r.statement r.types)) (sym is)
+                (goes_on_fits called b x outs r goes);
+            rest = r.rest;
+            begun = λ manages. absurd (no_statement g r.behaviour b.place r.function r.statement (r.behaviour == manager) manages r.found);
+          },
+          rests,
+          below,
+        );
         tables = lets_go_all_fits g given os made (holder.Frame b.number) (taken_by g o x outs b.variables).let_go t (omega arith) fit;
       }
 

@@ -1,5 +1,5 @@
 -- Values that come from the peer fit as they are here, and their references are fine where they pass the tests of a message.
-use Rattle.std.proofs.Common.{◌≡◌, ℕ, suc, max, ◌+◌, ◌≤◌, Bool, true, false, not, ◌&&◌, if◌then◌else◌, List, [], ◌∷◌, ◌++◌, Option, None, Some, refl, sym, ap, subst, ◌∙◌, arith}
+use Rattle.std.proofs.Common.{◌≡◌, ℕ, suc, max, Bool, true, false, not, if◌then◌else◌, List, [], ◌∷◌, Option, None, Some, refl, sym, ap, subst, ◌∙◌, arith}
 use Rattle.std.specs.Option.{option_or}
 use Rattle.message_model.specs.Messages.{Answer, returned, raised}
 use Rattle.message_model.specs.Sayable.{AnswerFits, Fill}
@@ -17,7 +17,7 @@ use Rattle.bridge_laws.proofs.HandingLaws.{returned_owes, raised_owes}
 use Rattle.bridge_laws.proofs.HomeLaws.{at_home_counts, each_home_counts, home_answer_counts, unless_passed}
 use Rattle.bridge_laws.proofs.Sums.{total_append}
 use Rattle.bridge_model.specs.Objects.{has_stub, object_supports}
-use Rattle.bridge_model.specs.Receiving.{own_refusal, named_refusal, ref_refusal, refs_refusal}
+use Rattle.bridge_model.specs.Receiving.{own_refusal, ref_refusal, refs_refusal}
 use Rattle.bridge_model.specs.References.{home_value, home_values, each_home, home_answer, refs_of_values, refs_of_answer}
 use Rattle.bridge_model.specs.Settings.{Setting, is_own, ref_of, at_home}
 use Rattle.bridge_model.specs.Sides.{Object, Tables}

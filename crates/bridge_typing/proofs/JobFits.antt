@@ -1,5 +1,5 @@
 -- What the method at the top of a thread asks fits, refers to what is fine, and is what the statement at its place says.
-use Rattle.std.proofs.Common.{◌≡◌, ℕ, suc, ◌+◌, ◌≤◌, ◌==◌, Bool, true, false, cond, List, [], ◌∷◌, length, Option, None, Some, slice_get, refl, sym, ap, subst, ◌∙◌, inl, inr, arith}
+use Rattle.std.proofs.Common.{◌≡◌, ℕ, suc, ◌==◌, Bool, true, false, cond, List, [], ◌∷◌, length, Option, None, Some, refl, sym, ap, subst, ◌∙◌, inl, arith}
 use Rattle.std.specs.Option.{option_map}
 use Rattle.std.specs.List.{AllByRecursion, find}
 use Rattle.message_model.specs.Calls.{numbered}
@@ -11,14 +11,12 @@ use Rattle.uno_model.specs.Registry.{IsBaseOf}
 use Rattle.uno_model.specs.Values.{Ref, own, Plain}
 use Rattle.uno_model.specs.Values as v
 use Rattle.plan_model.specs.Asking.{Effect, Running}
-use Rattle.plan_model.specs.Effects.{body_effect, running, function_effect, effect}
-use Rattle.plan_model.specs.Frames.{Body, Frame, body}
+use Rattle.plan_model.specs.Effects.{body_effect, function_effect, effect}
+use Rattle.plan_model.specs.Frames.{Body, Frame}
 use Rattle.plan_model.specs.Holdings.{refs_under}
-use Rattle.plan_model.specs.Plans.{manager}
 use Rattle.plan_typing.specs.Effects.{RunFits, EffectFits}
 use Rattle.plan_typing.specs.Going.{statement_at, types_at}
 use Rattle.plan_typing.specs.Scenes.{VariablesFit, FieldsFit}
-use Rattle.plan_typing.specs.Types.{Types}
 use Rattle.uno_model.proofs.Options.{same_some}
 use Rattle.uno_model.proofs.VisitLaws.{interfaces_are_bases}
 use Rattle.plan_typing.proofs.CalleePlaces.{among_contains}
@@ -29,21 +27,19 @@ use Rattle.bridge_laws.specs.Counting.{total}
 use Rattle.bridge_laws.proofs.EffectLaws.{effect_counts}
 use Rattle.bridge_laws.proofs.EvaluationLaws.{scene_counts}
 use Rattle.bridge_laws.proofs.JobLaws.{body_counts}
-use Rattle.bridge_laws.proofs.ObjectLaws.{fields_in, variables_owe}
+use Rattle.bridge_laws.proofs.ObjectLaws.{variables_owe}
 use Rattle.bridge_laws.proofs.Sums.{found_at_most}
-use Rattle.bridge_laws.proofs.VariableLaws.{values_none}
 use Rattle.bridge_model.specs.Applying.{behaviour_number, job_of, effect_at}
 use Rattle.bridge_model.specs.Objects.{object_numbered, variables_of, fields_of, as_variables}
-use Rattle.bridge_model.specs.References.{refs_of_values}
 use Rattle.bridge_model.specs.Settings.{Setting, own_oid}
 use Rattle.bridge_model.specs.Sides.{Object, Tables}
 use Rattle.bridge_typing.proofs.Fine.{wrong}
-use Rattle.bridge_typing.proofs.FramesFit.{behaviour_at, BodyFits, Runs}
+use Rattle.bridge_typing.proofs.FramesFit.{behaviour_at, Runs}
 use Rattle.bridge_typing.proofs.Given.{IsGiven}
 use Rattle.bridge_typing.proofs.ObjectsFit.{ObjectFits, object_wrong, ObjectsFit}
 use Rattle.bridge_typing.proofs.AskingFits.{Asks, body_asks}
 use Rattle.bridge_typing.proofs.FineLaws.{OwnFine, own_fine, fine_own, object_supports_base}
-use Rattle.bridge_typing.proofs.HandingFits.{Found, found_object}
+use Rattle.bridge_typing.proofs.WaitingFits.{found_object}
 
 -- ---- objects
 

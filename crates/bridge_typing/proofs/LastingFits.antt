@@ -1,10 +1,9 @@
 -- What fits still fits where objects keep their behaviours and support what they supported.
-use Rattle.std.proofs.Common.{◌≡◌, ℕ, ◌+◌, ◌≤◌, Bool, true, false, cond, not, ◌&&◌, ◌||◌, List, [], ◌∷◌, Option, None, Some, refl, sym, ap, subst, ◌∙◌, arith}
+use Rattle.std.proofs.Common.{◌≡◌, ℕ, ◌≤◌, Bool, true, false, not, ◌&&◌, ◌||◌, List, [], ◌∷◌, Option, None, Some, refl, sym, ◌∙◌, arith}
 use Rattle.uno_model.specs.Functions.{Function}
 use Rattle.uno_model.specs.Values.{Ref, null, own, peer}
 use Rattle.table_model.specs.Bags.{how_many}
 use Rattle.table_model.specs.Holdings.{Holdings}
-use Rattle.table_model.specs.Pair.{Pair}
 use Rattle.table_model.specs.Stubs.{Stubs}
 use Rattle.plan_model.specs.Frames.{Body, Frame, base, body, outgoing}
 use Rattle.plan_model.specs.Holdings.{refs_under}
@@ -15,7 +14,7 @@ use Rattle.bridge_model.specs.Objects.{object_supports}
 use Rattle.bridge_model.specs.Settings.{Setting, is_own, own_oid}
 use Rattle.bridge_model.specs.Sides.{Object, Tables}
 use Rattle.bridge_typing.proofs.Fine.{is_well, is_fine_own, is_fine_peer, wrong}
-use Rattle.bridge_typing.proofs.FramesFit.{BodyFits, Runs, Awaits, FramesFit}
+use Rattle.bridge_typing.proofs.FramesFit.{BodyFits, FramesFit}
 use Rattle.bridge_typing.proofs.ObjectsFit.{Lasts, object_wrong}
 use Rattle.bridge_typing.proofs.TablesFit.{is_wrong_pair, held_wrong, is_unsupported, sent_wrong, TablesFit}
 
@@ -65,15 +64,15 @@ module _ (g : Setting) (os now : List Object) (lasts : Lasts g os now) where
   unfolding held_wrong
   held_lasts hs none =
       let fewer = fewer_many (λ h. is_wrong_pair g os h.pair) (λ h. is_wrong_pair g now h.pair)
-          (λ h. fewer_by (is_fine_own g os h.pair.oid h.pair.face || is_fine_peer g h.pair.oid h.pair.face) (is_fine_own g now h.pair.oid h.pair.face || is_fine_peer g h.pair.oid h.pair.face)
-          (or_more (is_fine_own g os h.pair.oid h.pair.face) (is_fine_own g now h.pair.oid h.pair.face) (is_fine_peer g h.pair.oid h.pair.face) (fine_stays h.pair.oid h.pair.face))) hs in
+      (λ h. fewer_by (is_fine_own g os h.pair.oid h.pair.face || is_fine_peer g h.pair.oid h.pair.face) (is_fine_own g now h.pair.oid h.pair.face || is_fine_peer g h.pair.oid h.pair.face)
+      (or_more (is_fine_own g os h.pair.oid h.pair.face) (is_fine_own g now h.pair.oid h.pair.face) (is_fine_peer g h.pair.oid h.pair.face) (fine_stays h.pair.oid h.pair.face))) hs in
       omega arith
 
   sent_lasts : (stubs : Stubs) → sent_wrong g os stubs ≡ 0 → sent_wrong g now stubs ≡ 0
   unfolding sent_wrong
   sent_lasts stubs none =
       let fewer = fewer_many (λ row. is_unsupported g os row.0) (λ row. is_unsupported g now row.0)
-          (λ row. fewer_by (object_supports g row.0.oid row.0.face os) (object_supports g row.0.oid row.0.face now) (lasts.supported row.0.oid row.0.face)) stubs in
+      (λ row. fewer_by (object_supports g row.0.oid row.0.face os) (object_supports g row.0.oid row.0.face now) (lasts.supported row.0.oid row.0.face)) stubs in
       omega arith
 
   pub body_lasts : (b : Body) (n : ℕ) (f : Function) (ts : Types) → BodyFits g os b n f ts → BodyFits g now b n f ts
@@ -95,28 +94,34 @@ module _ (g : Setting) (os now : List Object) (lasts : Lasts g os now) where
   frames_last asked (base root ∷ fs) fit = tt
   frames_last asked (outgoing o ∷ fs) fit = (fit.0, fit.1, frames_last (Some fit.0) fs fit.2)
   frames_last None (body b ∷ fs) fit =
-      let r = fit.0 in
-      (record {
-        behaviour = r.behaviour;
-        function = r.function;
-        types = r.types;
-        fits = body_lasts b r.behaviour r.function r.types r.fits;
-        rest = r.rest;
-        begun = r.begun;
-      }, fit.1, frames_last (Some r.function) fs fit.2)
+      let r = fit.0 in (
+        record {
+          behaviour = r.behaviour;
+          function = r.function;
+          types = r.types;
+          fits = body_lasts b r.behaviour r.function r.types r.fits;
+          rest = r.rest;
+          begun = r.begun;
+        },
+        fit.1,
+        frames_last (Some r.function) fs fit.2,
+      )
   frames_last (Some f) (body b ∷ fs) fit =
-      let r = fit.0 in
-      (record {
-        behaviour = r.behaviour;
-        function = r.function;
-        types = r.types;
-        statement = r.statement;
-        fits = body_lasts b r.behaviour r.function r.types r.fits;
-        found = r.found;
-        typed = r.typed;
-        rest = r.rest;
-        takes = r.takes;
-      }, fit.1, frames_last (Some r.function) fs fit.2)
+      let r = fit.0 in (
+        record {
+          behaviour = r.behaviour;
+          function = r.function;
+          types = r.types;
+          statement = r.statement;
+          fits = body_lasts b r.behaviour r.function r.types r.fits;
+          found = r.found;
+          typed = r.typed;
+          rest = r.rest;
+          takes = r.takes;
+        },
+        fit.1,
+        frames_last (Some r.function) fs fit.2,
+      )
 
   -- with the objects that are there now
   pub tables_last : (made count : ℕ) (t : Tables) → count ≡ made → TablesFit g os made t → TablesFit g now count (record t { objects = now })

@@ -1,20 +1,15 @@
 -- What leaves a frame may go on its thread.
-use Rattle.std.proofs.Common.{◌≡◌, ℕ, ◌+◌, ◌≤◌, Bool, true, false, nat_lt, if◌then◌else◌, List, [], ◌∷◌, length, Option, None, Some, refl, sym, ap, subst, ◌∙◌, arith}
+use Rattle.std.proofs.Common.{◌≡◌, ℕ, ◌+◌, ◌≤◌, Bool, true, false, if◌then◌else◌, List, Some, refl, sym, subst, arith}
 use Rattle.std.proofs.lemmas.Bool.{ltb-false}
 use Rattle.message_model.specs.Calls.{numbered}
-use Rattle.message_model.specs.Messages.{Answer, returned, raised, reply}
+use Rattle.message_model.specs.Messages.{Answer, reply}
 use Rattle.message_model.specs.Sayable.{IsThread, IsCalled, message_weight, name_weight, answer_weight}
-use Rattle.uno_model.specs.BuiltIn.{runtime_exception_name}
 use Rattle.uno_model.specs.Entities.{Entity}
 use Rattle.uno_model.specs.Functions.{Function}
-use Rattle.uno_model.specs.Kinds.{Kind}
-use Rattle.uno_model.specs.Kinds as kd
-use Rattle.uno_model.specs.Values.{Plain}
-use Rattle.uno_model.specs.Values as v
 use Rattle.uno_model.specs.Weights.{weight, weights}
 use Rattle.plan_model.specs.Evaluation.{is_heavy, is_deep}
 use Rattle.plan_model.specs.Frames.{Body}
-use Rattle.plan_model.specs.Leaving.{runtime_raised, message_of, caused, as_declared, answer_depth, sendable, leaving, leaving_frame}
+use Rattle.plan_model.specs.Leaving.{message_of, caused, as_declared, answer_depth, sendable, leaving, leaving_frame}
 use Rattle.plan_model.specs.declared.runtime_cause.RuntimeCause.{RuntimeCause}
 use Rattle.plan_model.specs.declared.runtime_cause.RuntimeCause.TheVariants.{Null, Range, Depth, TooLarge, TooDeep}
 use Rattle.plan_typing.specs.Answers.{WorkedOut}

@@ -1,5 +1,5 @@
 -- Objects that are made: the new one is found under its name, and all others are as they were.
-use Rattle.std.proofs.Common.{◌≡◌, ◌≢◌, ℕ, zero, suc, ◌+◌, ◌≤◌, ◌<◌, ◌^◌, ◌==◌, eqb-true, Bool, true, false, cond, if◌then◌else◌, List, [], ◌∷◌, ◌++◌, length, map, find, Option, None, Some, slice_get, refl, sym, ap, subst, ◌∙◌, arith}
+use Rattle.std.proofs.Common.{◌≡◌, ◌≢◌, ℕ, suc, ◌≤◌, ◌<◌, ◌^◌, ◌==◌, eqb-true, Bool, true, false, cond, List, [], ◌∷◌, ◌++◌, map, find, Option, None, Some, slice_get, refl, sym, ap, ◌∙◌, arith}
 use Rattle.std.specs.List.{AllByRecursion}
 use Rattle.std.specs.Fmt.{decimal}
 use Rattle.std.specs.Option.{option_map}
@@ -11,21 +11,18 @@ use Rattle.uno_model.specs.Defaults.{default_of_kind}
 use Rattle.uno_model.specs.Entities.{Entity, Field}
 use Rattle.uno_model.specs.Fits.{Fits, IsInterface}
 use Rattle.uno_model.specs.Sound.{IsSound}
-use Rattle.uno_model.specs.Types.{is_type}
 use Rattle.uno_model.specs.Values.{own, Plain}
 use Rattle.uno_model.proofs.DefaultLaws.{default_fits}
-use Rattle.uno_model.proofs.Options.{same_some}
 use Rattle.table_model.specs.declared.holder.Holder.TheVariants as holder
-use Rattle.plan_model.specs.Plans.{manager, faces_in, faces_of, supports, first_objects}
+use Rattle.plan_model.specs.Plans.{faces_of, supports, first_objects}
 use Rattle.plan_typing.specs.Scenes.{FieldsFit}
 use Rattle.plan_typing.specs.Statements.{IsTypedField}
 use Rattle.plan_typing.proofs.EffectFrames.{behaviour_fields}
 use Rattle.bridge_laws.specs.Counting.{total}
 use Rattle.bridge_laws.proofs.IdentityLaws.{given_own}
-use Rattle.bridge_laws.proofs.LivingEffectLaws.{defaults_of_fields}
 use Rattle.bridge_laws.proofs.Sums.{total_push}
-use Rattle.bridge_model.specs.Objects.{object_numbered, object_named, faces_at, object_supports, fields_of, as_variables, makes_object, defaults_of, makes_default}
-use Rattle.bridge_model.specs.References.{gains_all, refs_of_values}
+use Rattle.bridge_model.specs.Objects.{object_numbered, object_named, faces_at, object_supports, fields_of, as_variables, makes_object, defaults_of}
+use Rattle.bridge_model.specs.References.{refs_of_values}
 use Rattle.bridge_model.specs.Settings.{Setting, prefix, own_oid}
 use Rattle.bridge_model.specs.Sides.{Object, Tables}
 use Rattle.bridge_typing.proofs.Fine.{wrong}
@@ -138,9 +135,6 @@ made_now made behaviour fields os = os ++ record { number = suc made; behaviour 
 module _ (g : Setting) (given : IsGiven g) (os : List Object) (made : ℕ) (objects : ObjectsFit g os made) (room : made < 2000000) (behaviour : ℕ) (fields : List Plain)
     (fit : FieldsFit g.registry (as_variables (fields_of g behaviour) fields) (fields_of g behaviour)) (fine : total (wrong g os) (refs_of_values fields) ≡ 0)
     (next : (k : ℕ) → slice_get (first_objects g.plan) made ≡ Some k → behaviour ≡ k) where
-  new_object : Object
-  new_object = record { number = suc made; behaviour = behaviour; fields = fields }
-
   lasts : Lasts g os (made_now made behaviour fields os)
   lasts = push_lasts g os (record { number = suc made; behaviour = behaviour; fields = fields })
 

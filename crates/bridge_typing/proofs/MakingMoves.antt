@@ -1,22 +1,19 @@
 -- A method that makes an object, and the service manager that creates one, leave what fits.
-use Rattle.std.proofs.Common.{◌≡◌, ℕ, zero, suc, ◌+◌, ◌≤◌, ◌<◌, ◌^◌, ◌==◌, Bool, true, false, ◌||◌, if◌then◌else◌, List, [], ◌∷◌, ◌++◌, length, map, Option, None, Some, Result, Ok, Err, slice_get, refl, sym, ap, subst, ◌∙◌, inl, arith, append_assoc}
-use Rattle.std.specs.List.{AllByRecursion}
-use Rattle.message_model.specs.Calls.{out_kinds}
-use Rattle.message_model.specs.Messages.{Answer, returned, raised}
-use Rattle.message_model.specs.Sayable.{AnswerFits, Fill, IsThread, name_weight, answer_weight}
+use Rattle.std.proofs.Common.{◌≡◌, ℕ, zero, suc, ◌+◌, ◌≤◌, ◌<◌, ◌^◌, ◌==◌, true, if◌then◌else◌, List, [], ◌∷◌, ◌++◌, length, map, Option, None, Some, Result, Ok, Err, slice_get, refl, sym, ap, subst, ◌∙◌, inl, arith}
+use Rattle.message_model.specs.Messages.{returned, raised}
+use Rattle.message_model.specs.Sayable.{AnswerFits, IsThread, name_weight, answer_weight}
 use Rattle.uno_model.specs.BuiltIn.{exception_name, x_interface_name}
-use Rattle.uno_model.specs.Fits.{Fits, FitEach, FitAll, HeldFits, IsInterface}
-use Rattle.uno_model.specs.Functions.{Function}
+use Rattle.uno_model.specs.Fits.{Fits, FitEach, FitAll}
 use Rattle.uno_model.specs.Kinds.{Kind}
 use Rattle.uno_model.specs.Kinds as kd
 use Rattle.uno_model.specs.Values.{Ref, own, Plain, plains, refs, depth, depth_in}
 use Rattle.uno_model.specs.Values as v
-use Rattle.uno_model.specs.Weights.{weight, weights, ref_weight}
+use Rattle.uno_model.specs.Weights.{weight, weights}
 use Rattle.table_model.specs.declared.holder.Holder.TheVariants as holder
-use Rattle.plan_model.specs.Frames.{Variable, Body, Frame, body}
+use Rattle.plan_model.specs.Frames.{Body, Frame, body}
 use Rattle.plan_model.specs.Holdings.{with_variable, refs_under, goes_on}
 use Rattle.plan_model.specs.Leaving.{leaving_frame}
-use Rattle.plan_model.specs.Plans.{Plan, Behaviour, Offer, manager, faces_of, supports, has_offers, first_objects, singleton_object}
+use Rattle.plan_model.specs.Plans.{Offer, manager, faces_of, supports, first_objects, singleton_object}
 use Rattle.plan_model.specs.Services.{Created, fresh, singleton, created, refusal_exception, refusal_message}
 use Rattle.plan_model.specs.Statements.{make}
 use Rattle.plan_model.specs.declared.refusal.Refusal.{Refusal}
@@ -36,26 +33,26 @@ use Rattle.bridge_laws.proofs.VariableLaws.{values_none, with_variable_owes}
 use Rattle.bridge_model.specs.Applying.{applies_making, returns_object, applies_creating}
 use Rattle.bridge_model.specs.Calls.{Unwound, unwound}
 use Rattle.bridge_model.specs.Handing.{ends_frame}
-use Rattle.bridge_model.specs.Objects.{object_numbered, faces_at, object_supports, fields_of, makes_object, defaults_of, makes_default}
+use Rattle.bridge_model.specs.Objects.{faces_at, object_supports, fields_of, makes_object, defaults_of, makes_default}
 use Rattle.bridge_model.specs.References.{gains, refs_of_values, refs_of_answer}
 use Rattle.bridge_model.specs.Settings.{Setting, own_oid}
 use Rattle.bridge_model.specs.Sides.{Object, Tables}
 use Rattle.bridge_typing.proofs.Fine.{wrong}
-use Rattle.bridge_typing.proofs.FramesFit.{behaviour_at, BodyFits, Runs, Pauses, FramesFit, AnswerGoes, UnwoundFits}
+use Rattle.bridge_typing.proofs.FramesFit.{Runs, Pauses, FramesFit, AnswerGoes, UnwoundFits}
 use Rattle.bridge_typing.proofs.Given.{IsGiven, OfferFits}
 use Rattle.bridge_typing.proofs.Moves.{Moves}
 use Rattle.bridge_typing.proofs.ObjectsFit.{ObjectsFit, Lasts}
 use Rattle.bridge_typing.proofs.TablesFit.{TablesFit}
 use Rattle.bridge_typing.proofs.AskingFits.{MakesAt, ReturnsObject}
-use Rattle.bridge_typing.proofs.CallingMoves.{one_count, unmoved}
+use Rattle.bridge_typing.proofs.CallingMoves.{unmoved}
 use Rattle.std.proofs.lemmas.List.{length-map}
 use Rattle.uno_model.specs.Sound.{is_some_list}
-use Rattle.uno_model.proofs.Options.{same_some}
 use Rattle.plan_typing.proofs.EffectPlaces.{all_at_place}
 use Rattle.bridge_typing.proofs.OwnEffects.{lasts_itself}
-use Rattle.bridge_typing.proofs.CreatedFits.{FreshFits, CreatedFits, created_fits, place_within, faces_are, root_interface}
-use Rattle.bridge_typing.proofs.FineLaws.{OwnFine, own_fine, fine_own}
-use Rattle.bridge_typing.proofs.HandingFits.{Found, found_object, next_fits, no_statement, ends_frame_fits}
+use Rattle.bridge_typing.proofs.CreatedFits.{slice_behind, slice_mapped, has_some, FreshFits, CreatedFits, created_fits, place_within, faces_are, root_interface}
+use Rattle.bridge_typing.proofs.FineLaws.{own_fine, fine_own}
+use Rattle.bridge_typing.proofs.HandingFits.{next_fits, ends_frame_fits}
+use Rattle.bridge_typing.proofs.WaitingFits.{found_object, no_statement}
 use Rattle.bridge_typing.proofs.LastingFits.{refs_last, body_lasts, frames_last}
 use Rattle.bridge_typing.proofs.LeavingFits.{frame_goes}
 use Rattle.bridge_typing.proofs.MakingFits.{named_by_number, push_lasts, defaults_fit, made_now, made_fit, made_fine, makes_fits}
@@ -110,17 +107,20 @@ module _ (g : Setting) (given : IsGiven g) (os : List Object) (made : ℕ) (obje
     now_frames : FramesFit g now None (body (goes_on (with_variable to (v.ref (own (own_oid g (suc made)) face)) b.variables) b) ∷ fs)
     unfolding FramesFit goes_on
     now_frames =
-        let next = rest_goes_on g.registry g.plan r.behaviour b.place b.face r.function r.types (make at.making) r.rest at.is (λ ends. ends) in
-        (record {
-          behaviour = r.behaviour;
-          function = r.function;
-          types = types_behind (make at.making) r.types;
-          fits =
-              next_fits g given now (suc made) tid thread b r.behaviour r.function r.types (make at.making) (with_variable to (v.ref (own (own_oid g (suc made)) face)) b.variables)
-              (body_lasts g os now now_lasts b r.behaviour r.function r.types r.fits) next.0 variables_fit variables_fine;
-          rest = next.1;
-          begun = λ manages. absurd (no_statement g r.behaviour b.place r.function (make at.making) (r.behaviour == manager) manages at.is);
-        }, rests, frames_last g os now now_lasts (Some r.function) fs below)
+        let next = rest_goes_on g.registry g.plan r.behaviour b.place b.face r.function r.types (make at.making) r.rest at.is (λ ends. ends) in (
+          record {
+            behaviour = r.behaviour;
+            function = r.function;
+            types = types_behind (make at.making) r.types;
+            fits =
+                next_fits g given now (suc made) tid thread b r.behaviour r.function r.types (make at.making) (with_variable to (v.ref (own (own_oid g (suc made)) face)) b.variables)
+                (body_lasts g os now now_lasts b r.behaviour r.function r.types r.fits) next.0 variables_fit variables_fine;
+            rest = next.1;
+            begun = λ manages. absurd (no_statement g r.behaviour b.place r.function (make at.making) (r.behaviour == manager) manages at.is);
+          },
+          rests,
+          frames_last g os now now_lasts (Some r.function) fs below,
+        )
 
     makes_at : (n : ℕ) → Tables → Unwound
     makes_at n t =
@@ -158,11 +158,12 @@ module _ (g : Setting) (given : IsGiven g) (os : List Object) (made : ℕ) (obje
         → AnswerFits g.registry r.function (returned (v.ref (own (own_oid g n) x_interface_name)) [])
     unfolding Fits FitEach depth depth_in
     object_fits now n fine =
-        let is = own_fine g now (own_oid g n) x_interface_name fine in
-        (subst (Fits g.registry (v.ref (own (own_oid g n) x_interface_name))) (sym returns.result)
-            (record { identity = is.identity; held = is.interface; reached = inl refl }),
-        omega arith,
-        record { fit = subst (FitEach g.registry v.none) (sym returns.outs) tt; deep = omega arith })
+        let is = own_fine g now (own_oid g n) x_interface_name fine in (
+          subst (Fits g.registry (v.ref (own (own_oid g n) x_interface_name))) (sym returns.result)
+              (record { identity = is.identity; held = is.interface; reached = inl refl }),
+          omega arith,
+          record { fit = subst (FitEach g.registry v.none) (sym returns.outs) tt; deep = omega arith },
+        )
 
     object_goes : (now : List Object) (n : ℕ) → n < 2 ^ 64 → wrong g now (own (own_oid g n) x_interface_name) ≡ 0
         → AnswerGoes g now tid r.function (returned (v.ref (own (own_oid g n) x_interface_name)) [])
@@ -185,7 +186,7 @@ module _ (g : Setting) (given : IsGiven g) (os : List Object) (made : ℕ) (obje
         let lasts = push_lasts g os (record { number = suc made; behaviour = behaviour; fields = values }) in
         let new = made_fine g given os made objects room behaviour values fits.fields fine (none_next behaviour) x_interface_name (root_interface g given) fits.root in
         let ended = returns_fits now (suc made) (suc made) (makes_object behaviour values t) lasts (omega arith) new
-            (makes_fits g given os made objects room behaviour values fits.fields fine (none_next behaviour) t fit) in
+        (makes_fits g given os made objects room behaviour values fits.fields fine (none_next behaviour) t fit) in
         subst (λ n. Moves g os made (returns_object g tid b (suc n) fs (makes_object behaviour values t))) (sym fit.counted)
         (record {
           now = now;
@@ -199,20 +200,6 @@ module _ (g : Setting) (given : IsGiven g) (os : List Object) (made : ℕ) (obje
         })
 
     -- ---- singletons
-
-    slice_behind : {X : Type 0} (xs ys : List X) (n : ℕ) → slice_get (xs ++ ys) (length xs + n) ≡ slice_get ys n
-    slice_behind [] ys n = let same : 0 + n ≡ n = omega arith in ap (slice_get ys) same
-    slice_behind (x ∷ xs) ys n = let same : suc (length xs) + n ≡ suc (length xs + n) = omega arith in ap (slice_get (x ∷ (xs ++ ys))) same ∙ slice_behind xs ys n
-
-    slice_mapped : {X Y : Type 0} (f : X → Y) (xs : List X) (n : ℕ) (x : X) → slice_get xs n ≡ Some x → slice_get (map f xs) n ≡ Some (f x)
-    slice_mapped f [] n x is = absurd (cc)
-    slice_mapped f (y ∷ xs) zero x is = ap (λ z. Some (f z)) (same_some is)
-    slice_mapped f (y ∷ xs) (suc n) x is = slice_mapped f xs n x is
-
-    has_some : (a : Bool) (xs : List Offer) (n : ℕ) (x : Offer) → slice_get xs n ≡ Some x → (a || is_some_list xs) ≡ true
-    has_some true xs n x is = refl
-    has_some false [] n x is = absurd (cc)
-    has_some false (y ∷ xs) n x is = refl
 
     singleton_first : (place : ℕ) (o : Offer) → slice_get g.plan.singletons place ≡ Some o → slice_get (first_objects g.plan) (length g.plan.exports + suc place) ≡ Some o.behaviour
     unfolding first_objects
@@ -249,12 +236,12 @@ module _ (g : Setting) (given : IsGiven g) (os : List Object) (made : ℕ) (obje
         let within = place_within (first_objects g.plan) (length g.plan.exports + suc place) o.behaviour first in
         let count = given.objects in
         let fine = fine_own g os (own_oid g n) x_interface_name
-            (record {
-              told = given_own g n;
-              identity = identity_named g n given.short (omega arith);
-              interface = root_interface g given;
-              supported = singleton_supports place o is;
-            }) in
+        (record {
+          told = given_own g n;
+          identity = identity_named g n given.short (omega arith);
+          interface = root_interface g given;
+          supported = singleton_supports place o is;
+        }) in
         subst (λ m. wrong g os (own (own_oid g m) x_interface_name) ≡ 0) (sym (number_is place)) fine
 
     singleton_few : (place : ℕ) (o : Offer) → slice_get g.plan.singletons place ≡ Some o → singleton_object g.plan place < 2 ^ 64
@@ -285,7 +272,7 @@ module _ (g : Setting) (given : IsGiven g) (os : List Object) (made : ℕ) (obje
         → Moves g os made (ends_frame g tid b (leaving_frame g.registry tid b (raised (kd.exception exception_name) (refusal_exception why name))) fs t)
     refused_moves why name t fit =
         let goes = frame_goes g given os tid thread b r.function (raised (kd.exception exception_name) (refusal_exception why name)) r.fits.called
-            (base_fits g.registry given.built (refusal_message why name)) (refusal_none why name) in
+        (base_fits g.registry given.built (refusal_message why name)) (refusal_none why name) in
         unmoved g os made (ends_frame g tid b (leaving_frame g.registry tid b (raised (kd.exception exception_name) (refusal_exception why name))) fs t) objects
         (ends_frame_fits g given os made tid thread b r.function (leaving_frame g.registry tid b (raised (kd.exception exception_name) (refusal_exception why name))) fs t r.fits.called
         (r.fits.fine, r.fits.held) goes rests below fit)

@@ -1,11 +1,10 @@
 -- What a message that may be said names of this end under the interfaces that it writes supports them, where its references are fine.
-use Rattle.std.proofs.Common.{◌≡◌, ℕ, ◌+◌, ◌≤◌, Bool, true, false, not, ◌&&◌, List, [], ◌∷◌, ◌++◌, Option, None, Some, refl, sym, ap, subst, ◌∙◌, arith}
-use Rattle.message_model.specs.Calls.{numbered, argument_kinds, out_kinds}
+use Rattle.std.proofs.Common.{◌≡◌, ℕ, ◌≤◌, Bool, true, false, not, ◌&&◌, List, [], ◌∷◌, Some, refl, ap, arith}
+use Rattle.message_model.specs.Calls.{argument_kinds, out_kinds}
 use Rattle.message_model.specs.MessageNamings.{answer_namings, message_namings}
 use Rattle.message_model.specs.Messages.{Answer, returned, raised, Message, request, release, reply}
-use Rattle.message_model.specs.Sayable.{AnswerFits, MayBeSaid, arguments_of, outs_of, result_of}
-use Rattle.uno_model.specs.Entities.{Entity}
-use Rattle.uno_model.specs.Fits.{Fits, FitEach, FitAll, RefFits, InterfaceFits, HeldFits, member_kinds}
+use Rattle.message_model.specs.Sayable.{AnswerFits, MayBeSaid, arguments_of}
+use Rattle.uno_model.specs.Fits.{Fits, FitEach, FitAll, RefFits, HeldFits, member_kinds}
 use Rattle.uno_model.specs.Functions.{Function}
 use Rattle.uno_model.specs.Kinds.{Kind}
 use Rattle.uno_model.specs.Kinds as kd
@@ -13,7 +12,7 @@ use Rattle.uno_model.specs.Sound.{IsSound}
 use Rattle.uno_model.specs.Values.{Ref, null, own, peer, Plain, Plains, any, tuple, list, ref, none, more, plains, refs, refs_in, object_in}
 use Rattle.urp_model.specs.Namings.{Naming, naming, namings, namings_each, namings_all}
 use Rattle.bridge_model.specs.Objects.{object_supports}
-use Rattle.bridge_model.specs.References.{refs_of_values, refs_of_answer}
+use Rattle.bridge_model.specs.References.{refs_of_answer}
 use Rattle.bridge_model.specs.Settings.{Setting}
 use Rattle.bridge_model.specs.Sides.{Object}
 use Rattle.bridge_laws.specs.Counting.{total, one_if}
@@ -27,9 +26,6 @@ use Rattle.bridge_typing.proofs.FineLaws.{own_tested, object_supports_base}
 -- 1 for an own object under an interface that it does not support
 unfoldable pub unsupported : Setting → List Object → Naming → ℕ
 unsupported g os n = one_if (n.is_own && not (object_supports g n.oid n.written os))
-
-pub written : Setting → List Object → List Naming → ℕ
-written g os ns = total (unsupported g os) ns
 
 module _ (g : Setting) (sound : IsSound g.registry) (os : List Object) where
   own_step : (fine supported : Bool) → (fine ≡ true → supported ≡ true) → one_if (true && not supported) ≤ one_if (not fine)

@@ -1,5 +1,5 @@
 -- At the opening all may be said: the first objects fit, and nothing else is there.
-use Rattle.std.proofs.Common.{◌≡◌, ℕ, zero, suc, ◌+◌, ◌≤◌, ◌<◌, Bool, true, false, List, [], ◌∷◌, ◌++◌, length, Option, None, Some, slice_get, refl, sym, ap, subst, ◌∙◌, arith}
+use Rattle.std.proofs.Common.{◌≡◌, ℕ, suc, ◌+◌, ◌<◌, List, [], ◌∷◌, ◌++◌, length, Some, slice_get, refl, sym, ap, subst, ◌∙◌, arith}
 use Rattle.message_model.proofs.MessageArrivalLaws.{nothing_is_heard}
 use Rattle.std.proofs.lemmas.List.{append_assoc, length-append}
 use Rattle.uno_model.proofs.Options.{same_some}
@@ -7,13 +7,13 @@ use Rattle.plan_model.specs.Plans.{first_objects}
 use Rattle.bridge_laws.specs.Counting.{total}
 use Rattle.bridge_laws.proofs.LivingEffectLaws.{defaults_of_fields}
 use Rattle.bridge_laws.proofs.ThreadStackLaws.{AreApart}
-use Rattle.bridge_model.specs.Objects.{object_named, object_numbered, fields_of, defaults_of, makes_default, makes_all}
+use Rattle.bridge_model.specs.Objects.{fields_of, defaults_of, makes_default, makes_all}
 use Rattle.bridge_model.specs.Settings.{Setting}
 use Rattle.bridge_model.specs.Sides.{Object, Tables}
 use Rattle.bridge_model.specs.Steps.{no_objects, opening}
 use Rattle.bridge_typing.proofs.Fine.{wrong}
 use Rattle.bridge_typing.proofs.Given.{IsGiven}
-use Rattle.bridge_typing.proofs.ObjectsFit.{ObjectsFit, object_wrong}
+use Rattle.bridge_typing.proofs.ObjectsFit.{ObjectsFit}
 use Rattle.bridge_typing.proofs.SideFits.{SideFits}
 use Rattle.bridge_typing.proofs.TablesFit.{held_wrong, sent_wrong, TablesFit}
 use Rattle.bridge_typing.proofs.MakingFits.{defaults_fit, made_now, made_fit, makes_fits}
@@ -39,16 +39,16 @@ module _ (g : Setting) (given : IsGiven g) where
   makes_all_fits (b ∷ bs) before t is opened =
       let all = length-append before (b ∷ bs) in let count = ap length is in let few = given.objects in
       let next : (k : ℕ) → slice_get (first_objects g.plan) (length before) ≡ Some k → b ≡ k =
-          λ k at. same_some (sym (slice_next before bs b) ∙ (ap (λ l. slice_get l (length before)) (sym is) ∙ at)) in
+      λ k at. same_some (sym (slice_next before bs b) ∙ (ap (λ l. slice_get l (length before)) (sym is) ∙ at)) in
       let fields = defaults_fit g given b in
       let fine = defaults_of_fields (wrong g opened.os) g.registry (fields_of g b) in
       let room : length before < 2000000 = omega arith in
       let more : Opened g (suc (length before)) (makes_default g b t) =
-          record {
-            os = made_now (length before) b (defaults_of g b) opened.os;
-            objects = made_fit g given opened.os (length before) opened.objects room b (defaults_of g b) fields fine next;
-            tables = makes_fits g given opened.os (length before) opened.objects room b (defaults_of g b) fields fine next t opened.tables;
-          } in
+      record {
+        os = made_now (length before) b (defaults_of g b) opened.os;
+        objects = made_fit g given opened.os (length before) opened.objects room b (defaults_of g b) fields fine next;
+        tables = makes_fits g given opened.os (length before) opened.objects room b (defaults_of g b) fields fine next t opened.tables;
+      } in
       let one = length-append before (b ∷ []) in
       let longer : length (before ++ b ∷ []) ≡ suc (length before) = omega arith in
       let rest = makes_all_fits bs (before ++ b ∷ []) (makes_default g b t) (is ∙ sym (append_assoc before (b ∷ []) bs)) (subst (λ n. Opened g n (makes_default g b t)) (sym longer) more) in

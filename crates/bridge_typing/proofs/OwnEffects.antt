@@ -1,10 +1,10 @@
 -- What a method does to its own variables and fields leaves what fits.
-use Rattle.std.proofs.Common.{◌≡◌, ℕ, suc, ◌+◌, ◌≤◌, ◌==◌, Bool, true, false, List, [], ◌∷◌, ◌++◌, Option, None, Some, refl, sym, ap, subst, ◌∙◌, arith}
+use Rattle.std.proofs.Common.{◌≡◌, ℕ, ◌==◌, true, List, [], ◌∷◌, None, Some, refl, sym, ap, subst, arith}
 use Rattle.message_model.specs.Sayable.{IsThread}
 use Rattle.uno_model.specs.Values.{Ref, Plain, refs}
 use Rattle.table_model.specs.declared.holder.Holder.{Holder}
 use Rattle.table_model.specs.declared.holder.Holder.TheVariants as holder
-use Rattle.plan_model.specs.Asking.{Effect, lets, sets, sets_field, drops, skips}
+use Rattle.plan_model.specs.Asking.{lets, sets, sets_field, drops, skips}
 use Rattle.plan_model.specs.Evaluation.{value_under}
 use Rattle.plan_model.specs.Frames.{Variable, Body, Frame, body}
 use Rattle.plan_model.specs.Holdings.{put, refs_under, variables_after, fields_after, held_by, let_go_by, goes_on}
@@ -12,7 +12,6 @@ use Rattle.plan_model.specs.Plans.{manager}
 use Rattle.plan_typing.specs.Going.{statement_at, types_at}
 use Rattle.plan_typing.specs.Scenes.{VariablesFit, FieldsFit}
 use Rattle.plan_typing.specs.Statements.{types_behind}
-use Rattle.plan_typing.specs.Types.{Types}
 use Rattle.plan_typing.proofs.EffectFrames.{rest_goes_on}
 use Rattle.bridge_laws.specs.Counting.{total}
 use Rattle.bridge_laws.proofs.EvaluationLaws.{under_at_most}
@@ -29,7 +28,8 @@ use Rattle.bridge_typing.proofs.Moves.{Moves}
 use Rattle.bridge_typing.proofs.ObjectsFit.{ObjectsFit, Lasts}
 use Rattle.bridge_typing.proofs.TablesFit.{TablesFit}
 use Rattle.bridge_typing.proofs.AskingFits.{GoesOn}
-use Rattle.bridge_typing.proofs.HandingFits.{next_fits, no_statement, Found, found_object}
+use Rattle.bridge_typing.proofs.HandingFits.{next_fits}
+use Rattle.bridge_typing.proofs.WaitingFits.{no_statement, found_object}
 use Rattle.bridge_typing.proofs.JobFits.{fields_fine}
 use Rattle.bridge_typing.proofs.LastingFits.{refs_last, frames_last, tables_last}
 use Rattle.bridge_typing.proofs.OwnFits.{fields_last, as_they_fit, with_fields_fit}
@@ -47,18 +47,21 @@ module _ (g : Setting) (given : IsGiven g) (os : List Object) (made : ℕ) (obje
       → FramesFit g os None (body (goes_on xs b) ∷ fs)
   unfolding FramesFit goes_on
   goes_on_with xs on variables fine =
-      let next = rest_goes_on g.registry g.plan r.behaviour b.place b.face r.function r.types on.statement r.rest on.is on.on in
-      (record {
-        behaviour = r.behaviour;
-        function = r.function;
-        types = types_behind on.statement r.types;
-        fits =
-            next_fits g given os made tid thread b r.behaviour r.function r.types on.statement xs r.fits next.0
-            (subst (λ o. VariablesFit g.registry xs (types_at o r.types).variables) on.is variables)
-            fine;
-        rest = next.1;
-        begun = λ manages. absurd (no_statement g r.behaviour b.place r.function on.statement (r.behaviour == manager) manages on.is);
-      }, rests, below)
+      let next = rest_goes_on g.registry g.plan r.behaviour b.place b.face r.function r.types on.statement r.rest on.is on.on in (
+        record {
+          behaviour = r.behaviour;
+          function = r.function;
+          types = types_behind on.statement r.types;
+          fits =
+              next_fits g given os made tid thread b r.behaviour r.function r.types on.statement xs r.fits next.0
+              (subst (λ o. VariablesFit g.registry xs (types_at o r.types).variables) on.is variables)
+              fine;
+          rest = next.1;
+          begun = λ manages. absurd (no_statement g r.behaviour b.place r.function on.statement (r.behaviour == manager) manages on.is);
+        },
+        rests,
+        below,
+      )
 
   changed : (who : Holder) (held gone : List Ref) (t : Tables) → total (wrong g os) held ≡ 0 → total (wrong g os) gone ≡ 0 → TablesFit g os made t
       → TablesFit g os made (lets_go_all g who gone (gains_all who held t))
@@ -108,9 +111,6 @@ module _ (g : Setting) (given : IsGiven g) (os : List Object) (made : ℕ) (obje
       moved b.variables _ (goes_on_with b.variables on variables r.fits.fine) (changed (holder.Frame b.number) [] [] t refl refl fit)
 
   -- ---- fields
-
-  its_fields : List Variable
-  its_fields = variables_of g (object_numbered b.object os)
 
   new_fields : Variable → List Plain
   new_fields x = field_values (fields_after (sets_field x) (variables_of g (object_numbered b.object os)))
@@ -169,7 +169,7 @@ module _ (g : Setting) (given : IsGiven g) (os : List Object) (made : ℕ) (obje
       field_tables before =
           lets_go_all g (holder.Object b.object) (refs (value_under x.name (variables_of g (object_numbered b.object before))))
           (record (gains_all (holder.Object b.object) (refs x.value) t) {
-            objects = with_fields b.object (field_values (fields_after (sets_field x) (variables_of g (object_numbered b.object before)))) (gains_all (holder.Object b.object) (refs x.value) t).objects
+            objects = with_fields b.object (field_values (fields_after (sets_field x) (variables_of g (object_numbered b.object before)))) (gains_all (holder.Object b.object) (refs x.value) t).objects;
           })
 
       tables_now : TablesFit g (with_fields b.object (new_fields x) os) made (field_tables os)

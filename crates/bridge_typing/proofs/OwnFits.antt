@@ -1,42 +1,23 @@
 -- What a method does to its own variables and to its object's fields leaves frames, objects and tables that fit.
-use Rattle.std.proofs.Common.{◌≡◌, ℕ, suc, ◌+◌, ◌≤◌, ◌==◌, Bool, true, false, cond, if◌then◌else◌, List, [], ◌∷◌, ◌++◌, map, find, Option, None, Some, refl, sym, ap, subst, ◌∙◌, arith}
+use Rattle.std.proofs.Common.{◌≡◌, ℕ, suc, ◌+◌, ◌≤◌, ◌==◌, Bool, true, false, cond, if◌then◌else◌, List, [], ◌∷◌, find, Option, None, Some, refl, sym, ap, subst, ◌∙◌, arith}
 use Rattle.std.specs.List.{AllByRecursion}
 use Rattle.std.specs.Option.{option_map}
 use Rattle.std.specs.Str.{bytes_eq}
 use Rattle.uno_model.specs.Entities.{Entity, Field}
-use Rattle.uno_model.specs.Functions.{Function}
-use Rattle.uno_model.specs.Values.{Ref, Plain, refs}
+use Rattle.uno_model.specs.Values.{Plain}
 use Rattle.uno_model.proofs.Options.{same_some}
-use Rattle.table_model.specs.declared.holder.Holder.{Holder}
-use Rattle.table_model.specs.declared.holder.Holder.TheVariants as holder
-use Rattle.plan_model.specs.Asking.{Effect, lets, sets, sets_field, drops, skips}
-use Rattle.plan_model.specs.Frames.{Variable, Body, Frame, body}
-use Rattle.plan_model.specs.Holdings.{put, refs_under, variables_after, fields_after, held_by, let_go_by, goes_on}
-use Rattle.plan_model.specs.Evaluation.{value_under}
-use Rattle.plan_model.specs.Plans.{manager, supports, faces_of, Plan}
-use Rattle.plan_typing.specs.Going.{statement_at, types_at}
-use Rattle.plan_typing.specs.Scenes.{VariablesFit, FieldsFit}
-use Rattle.plan_typing.specs.Statements.{types_behind}
-use Rattle.plan_typing.specs.Types.{Types}
-use Rattle.plan_typing.proofs.EffectFrames.{rest_goes_on}
+use Rattle.plan_model.specs.Frames.{Variable}
+use Rattle.plan_model.specs.Plans.{supports, faces_of}
+use Rattle.plan_typing.specs.Scenes.{FieldsFit}
 use Rattle.bridge_laws.specs.Counting.{total}
-use Rattle.bridge_laws.proofs.EvaluationLaws.{under_at_most}
-use Rattle.bridge_laws.proofs.VariableLaws.{with_variable_owes, put_owes, without_owes, field_values_owe}
-use Rattle.bridge_model.specs.Applying.{goes_on_after}
-use Rattle.bridge_model.specs.Calls.{Unwound, unwound}
-use Rattle.bridge_model.specs.Objects.{object_numbered, object_named, variables_of, faces_at, object_supports, fields_of, as_variables, field_values, with_fields}
-use Rattle.bridge_model.specs.References.{gains_all, lets_go_all, refs_of_values}
+use Rattle.bridge_model.specs.Objects.{object_numbered, object_named, faces_at, object_supports, fields_of, as_variables, field_values, with_fields}
+use Rattle.bridge_model.specs.References.{refs_of_values}
 use Rattle.bridge_model.specs.Settings.{Setting, own_oid}
-use Rattle.bridge_model.specs.Sides.{Object, Tables}
+use Rattle.bridge_model.specs.Sides.{Object}
 use Rattle.bridge_typing.proofs.Fine.{wrong}
-use Rattle.bridge_typing.proofs.FramesFit.{behaviour_at, BodyFits, Runs, Pauses, FramesFit, UnwoundFits}
-use Rattle.bridge_typing.proofs.Given.{IsGiven}
+use Rattle.bridge_typing.proofs.FramesFit.{behaviour_at}
 use Rattle.bridge_typing.proofs.ObjectsFit.{ObjectFits, object_wrong, ObjectsFit, Lasts}
-use Rattle.bridge_typing.proofs.TablesFit.{TablesFit}
-use Rattle.bridge_typing.proofs.AskingFits.{GoesOn}
-use Rattle.bridge_typing.proofs.HandingFits.{next_fits, no_statement, Found, found_object}
-use Rattle.bridge_typing.proofs.LastingFits.{objects_last, refs_last, frames_last, tables_last}
-use Rattle.bridge_typing.proofs.TableLaws.{gains_all_fits, lets_go_all_fits}
+use Rattle.bridge_typing.proofs.LastingFits.{objects_last, refs_last}
 
 -- ---- fields that change
 
@@ -82,12 +63,14 @@ each_step : (g : Setting) (made n : ℕ) (fields : List Plain) (o x : Object) (n
     → FieldsFit g.registry (as_variables (fields_of g o.behaviour) fields) (fields_of g o.behaviour)
     → AllByRecursion (ObjectFits g made) (if b then record x { fields = fields } ∷ os else x ∷ new)
 each_step g made n fields o x new os true found behind all fit =
-    let one = ap (λ (y : Object). y.behaviour) (same_some found) in
-    (record {
-      least = all.0.least;
-      most = all.0.most;
-      fields = subst (λ k. FieldsFit g.registry (as_variables (fields_of g k) fields) (fields_of g k)) (sym one) fit;
-    }, all.1)
+    let one = ap (λ (y : Object). y.behaviour) (same_some found) in (
+      record {
+        least = all.0.least;
+        most = all.0.most;
+        fields = subst (λ k. FieldsFit g.registry (as_variables (fields_of g k) fields) (fields_of g k)) (sym one) fit;
+      },
+      all.1,
+    )
 each_step g made n fields o x new os false found behind all fit = (all.0, behind found)
 
 each_with : (g : Setting) (made n : ℕ) (fields : List Plain) (o : Object) (os : List Object) → object_numbered n os ≡ Some o → AllByRecursion (ObjectFits g made) os

@@ -1,18 +1,18 @@
 -- What function 0 is answered at once may go: an any with an object that supports the wanted interface, or the void any.
-use Rattle.std.proofs.Common.{◌≡◌, ◌≢◌, ℕ, suc, ◌+◌, ◌≤◌, ◌<◌, ◌^◌, Bool, true, false, if◌then◌else◌, List, [], ◌∷◌, length, Option, None, Some, refl, sym, ap, subst, ◌∙◌, inl, arith}
+use Rattle.std.proofs.Common.{◌≡◌, ℕ, ◌≤◌, Bool, true, false, if◌then◌else◌, List, [], Option, None, Some, refl, sym, ap, subst, ◌∙◌, inl, arith}
 use Rattle.std.specs.Str.{bytes_eq}
-use Rattle.message_model.specs.Calls.{numbered, kinds_on, out_kinds}
-use Rattle.message_model.specs.Messages.{Answer, returned}
-use Rattle.message_model.specs.Sayable.{AnswerFits, Fill, IsThread, IsCalled, name_weight, answer_weight}
+use Rattle.message_model.specs.Calls.{kinds_on}
+use Rattle.message_model.specs.Messages.{returned}
+use Rattle.message_model.specs.Sayable.{AnswerFits, IsThread, IsCalled}
 use Rattle.uno_model.specs.BuiltIn.{x_interface_name, query_interface}
-use Rattle.uno_model.specs.Fits.{Fits, FitEach, HeldFits, IsIdentity, IsInterface}
+use Rattle.uno_model.specs.Fits.{Fits, FitEach, IsIdentity, IsInterface}
 use Rattle.uno_model.specs.Functions.{Function}
 use Rattle.uno_model.specs.Functions as fn
 use Rattle.uno_model.specs.Kinds.{Kind}
 use Rattle.uno_model.specs.Kinds as kd
 use Rattle.uno_model.specs.Values.{Ref, own, Plain, plains, refs, depth, depth_in}
 use Rattle.uno_model.specs.Values as v
-use Rattle.uno_model.specs.Weights.{weight, weights, ref_weight}
+use Rattle.uno_model.specs.Weights.{weight, weights}
 use Rattle.uno_model.proofs.Options.{same_some}
 use Rattle.plan_model.specs.Holdings.{query_answer, no_object}
 use Rattle.plan_model.specs.Plans.{supports, exported}
@@ -23,14 +23,13 @@ use Rattle.bridge_laws.proofs.HandingLaws.{returned_owes}
 use Rattle.bridge_laws.proofs.IdentityLaws.{given_own}
 use Rattle.bridge_laws.proofs.VariableLaws.{values_none}
 use Rattle.bridge_model.specs.Objects.{object_named, faces_at, object_supports, object_answer, answer_of_number, name_answer}
-use Rattle.bridge_model.specs.References.{refs_of_values, refs_of_answer}
 use Rattle.bridge_model.specs.Settings.{Setting, is_own, own_oid}
 use Rattle.bridge_model.specs.Sides.{Object}
 use Rattle.bridge_typing.proofs.Fine.{wrong}
 use Rattle.bridge_typing.proofs.FramesFit.{AnswerGoes}
 use Rattle.bridge_typing.proofs.Given.{IsGiven}
 use Rattle.bridge_typing.proofs.ObjectsFit.{ObjectFits, ObjectsFit}
-use Rattle.bridge_typing.proofs.BeginFits.{Named, named_object, named_itself}
+use Rattle.bridge_typing.proofs.BeginFits.{named_object, named_itself}
 use Rattle.bridge_typing.proofs.FineLaws.{fine_own}
 use Rattle.bridge_typing.proofs.JobFits.{found_all}
 use Rattle.bridge_typing.proofs.TableLaws.{text_most, face_short, identity_named}

@@ -1,11 +1,11 @@
 -- A message that is read fits, and a reply is that of the call at the top of its thread.
-use Rattle.std.proofs.Common.{◌≡◌, refl, sym, ap, ◌∙◌, subst, ℕ, Bool, true, false, cond, if◌then◌else◌, List, [], ◌∷◌, ◌++◌, Option, None, Some, Result, Ok, Err, inl, inr}
+use Rattle.std.proofs.Common.{◌≡◌, refl, sym, ap, ◌∙◌, subst, ℕ, Bool, true, false, cond, if◌then◌else◌, List, [], ◌∷◌, ◌++◌, Option, None, Some, Ok, inl, inr}
 use Rattle.std.specs.Str.{bytes_eq}
 use Rattle.std.proofs.lemmas.Slice.Eq.{bytes_eq-Decides}
 use Rattle.message_model.specs.Arriving.{IsHeard, MessageFits}
 use Rattle.message_model.specs.Calls.{Waiting, Waits, waiting}
 use Rattle.message_model.specs.Headers.{Heard, Opening, Target}
-use Rattle.message_model.specs.Messages.{Message, request, release, reply}
+use Rattle.message_model.specs.Messages.{Message}
 use Rattle.message_model.specs.ReadingMessages.{message_at}
 use Rattle.message_model.specs.Sayable.{IsAwaited}
 use Rattle.message_model.specs.SpellingMessages.{SpellsAsked, a_release, a_call, SpellsMessage}

@@ -1,43 +1,36 @@
 -- An object that is reaped is named nowhere: what frames and objects have is held, and it is not; so all that fits still does.
-use Rattle.std.proofs.Common.{◌≡◌, ◌≢◌, ℕ, suc, ◌+◌, ◌≤◌, ◌<◌, ◌==◌, eqb-true, Bool, true, false, cond, not, ◌&&◌, ◌||◌, if◌then◌else◌, List, [], ◌∷◌, ◌++◌, filter, find, length, Option, None, Some, slice_get, refl, sym, ap, subst, ◌∙◌, arith}
+use Rattle.std.proofs.Common.{◌≡◌, ◌≢◌, ℕ, ◌+◌, ◌≤◌, ◌==◌, eqb-true, Bool, true, false, cond, not, ◌&&◌, ◌||◌, if◌then◌else◌, List, [], ◌∷◌, filter, find, Option, None, Some, refl, sym, ap, ◌∙◌, arith}
 use Rattle.std.specs.List.{AllByRecursion, list_any}
 use Rattle.std.specs.Option.{option_map}
 use Rattle.std.specs.Str.{bytes_eq}
 use Rattle.std.proofs.lemmas.Slice.Eq.{bytes_eq-Decides}
 use Rattle.uno_model.specs.Functions.{Function}
-use Rattle.uno_model.specs.Values.{Ref, null, own, peer, refs}
-use Rattle.table_model.specs.Bags.{how_many}
+use Rattle.uno_model.specs.Values.{Ref, null, own, peer}
 use Rattle.table_model.specs.Holdings.{Hold, Holdings}
 use Rattle.table_model.specs.Stubs.{Stubs}
 use Rattle.table_model.specs.declared.holder.Holder.{Holder}
 use Rattle.table_model.specs.declared.holder.Holder.TheVariants as holder
 use Rattle.plan_model.specs.Frames.{Body, Frame, base, body, outgoing, Stack}
-use Rattle.plan_model.specs.Holdings.{refs_under, let_go_at_end}
-use Rattle.plan_model.specs.Plans.{supports, first_objects}
+use Rattle.plan_model.specs.Holdings.{refs_under}
+use Rattle.plan_model.specs.Plans.{supports}
 use Rattle.plan_typing.specs.Types.{Types}
 use Rattle.bridge_laws.specs.Counting.{total, one_if}
-use Rattle.bridge_laws.proofs.HandingLaws.{frames_have, body_has, body_parts, method_more, base_more, outgoing_more}
-use Rattle.bridge_laws.proofs.LivingLaws.{AreHeld, AllCovered, told_lives}
-use Rattle.bridge_laws.proofs.ObjectLaws.{object_has, objects_more}
-use Rattle.bridge_laws.proofs.OccurrenceLaws.{times, refs_owe, refs_owe_is, objects_have}
-use Rattle.bridge_laws.proofs.ReapingLaws.{MayGo, lowest_may_go}
-use Rattle.bridge_laws.proofs.SideLaws.{stacks_have, SideCovers, stacks_more}
+use Rattle.bridge_laws.proofs.HandingLaws.{frames_have, body_has, body_parts, method_more, outgoing_more}
+use Rattle.bridge_laws.proofs.LivingLaws.{AreHeld, told_lives}
+use Rattle.bridge_laws.proofs.ObjectLaws.{objects_more}
+use Rattle.bridge_laws.proofs.OccurrenceLaws.{times, objects_have}
+use Rattle.bridge_laws.proofs.SideLaws.{stacks_have, stacks_more}
 use Rattle.bridge_laws.proofs.StrayLaws.{is_stray, untold, strays, held_strays}
-use Rattle.bridge_laws.proofs.Sums.{total_append, total_at_most, total_plus, total_filter, found_at_most}
-use Rattle.bridge_model.specs.Going.{reaps_object, reaps}
-use Rattle.bridge_model.specs.Objects.{object_numbered, object_named, faces_at, object_supports, is_held_object, has_stub, may_go, lowest, without_object}
-use Rattle.bridge_model.specs.References.{lets_go_all, loses_all, refs_of_values}
+use Rattle.bridge_laws.proofs.Sums.{total_at_most, total_plus}
+use Rattle.bridge_model.specs.Objects.{object_numbered, object_named, faces_at, object_supports, is_held_object, has_stub, without_object}
+use Rattle.bridge_model.specs.References.{refs_of_values}
 use Rattle.bridge_model.specs.Settings.{Setting, is_own, own_oid}
-use Rattle.bridge_model.specs.Sides.{Object, Tables, Side, stands, with_tables}
-use Rattle.bridge_model.specs.Steps.{reaps_some}
+use Rattle.bridge_model.specs.Sides.{Object}
 use Rattle.bridge_typing.proofs.Fine.{is_well, is_fine_own, is_fine_peer, wrong}
-use Rattle.bridge_typing.proofs.FramesFit.{behaviour_at, BodyFits, Runs, Awaits, FramesFit}
-use Rattle.bridge_typing.proofs.Given.{IsGiven}
-use Rattle.bridge_typing.proofs.ObjectsFit.{ObjectFits, object_wrong, ObjectsFit}
-use Rattle.bridge_typing.proofs.SideFits.{StackFits, SideFits}
-use Rattle.bridge_typing.proofs.TablesFit.{is_wrong_pair, held_wrong, is_unsupported, sent_wrong, TablesFit}
-use Rattle.bridge_typing.proofs.CreatedFits.{place_within}
-use Rattle.bridge_typing.proofs.TableLaws.{loses_all_fits, lets_go_all_fits}
+use Rattle.bridge_typing.proofs.FramesFit.{behaviour_at, BodyFits, FramesFit}
+use Rattle.bridge_typing.proofs.ObjectsFit.{object_wrong}
+use Rattle.bridge_typing.proofs.SideFits.{StackFits}
+use Rattle.bridge_typing.proofs.TablesFit.{is_wrong_pair, held_wrong, is_unsupported, sent_wrong}
 
 -- ---- what is found without it
 
@@ -65,7 +58,7 @@ named_kept g n oid os other =
     find_kept (λ o. bytes_eq oid (own_oid g o.number)) (λ o. not (n == o.number))
     (λ o gone. ap (λ m. bytes_eq oid (own_oid g m)) (sym (eqb-true n o.number (not_false (n == o.number) gone))) ∙ turned (own_oid g n) oid (bytes_eq oid (own_oid g n)) refl other) os
 
-numbered_kept : (n m : ℕ) (os : List Object) → n ≢ m → object_numbered m (without_object n os) ≡ object_numbered m os
+pub numbered_kept : (n m : ℕ) (os : List Object) → n ≢ m → object_numbered m (without_object n os) ≡ object_numbered m os
 unfolding object_numbered without_object
 numbered_kept n m os apart =
     find_kept (λ o. m == o.number) (λ o. not (n == o.number))
@@ -163,17 +156,17 @@ module _ (g : Setting) (os : List Object) (n : ℕ) where
       let both = not_both (bytes_eq gone h.pair.oid) (list_any (λ h. bytes_eq gone h.pair.oid) hs) none in
       let here = stray_none (is_own g h.pair.oid) (bytes_eq gone h.pair.oid) both.0 in let rest = unheld hs both.1 in omega arith
 
-  held_stays : (hs : Holdings) → is_held_object gone hs ≡ false → held_wrong g now hs ≡ held_wrong g os hs
+  pub held_stays : (hs : Holdings) → is_held_object gone hs ≡ false → held_wrong g now hs ≡ held_wrong g os hs
   unfolding is_held_object held_wrong is_fine_own
   held_stays [] none = refl
   held_stays (h ∷ hs) none =
       let both = not_both (bytes_eq gone h.pair.oid) (list_any (λ h. bytes_eq gone h.pair.oid) hs) none in
       let same = supports_kept h.pair.oid h.pair.face both.0 in
       let here : one_if (is_wrong_pair g now h.pair) ≡ one_if (is_wrong_pair g os h.pair) =
-          ap (λ b. one_if (not ((is_own g h.pair.oid && (is_well g.registry h.pair.oid h.pair.face && b)) || is_fine_peer g h.pair.oid h.pair.face))) same in
+      ap (λ b. one_if (not ((is_own g h.pair.oid && (is_well g.registry h.pair.oid h.pair.face && b)) || is_fine_peer g h.pair.oid h.pair.face))) same in
       let rest = held_stays hs both.1 in omega arith
 
-  sent_stays : (stubs : Stubs) → has_stub gone stubs ≡ false → sent_wrong g now stubs ≡ sent_wrong g os stubs
+  pub sent_stays : (stubs : Stubs) → has_stub gone stubs ≡ false → sent_wrong g now stubs ≡ sent_wrong g os stubs
   unfolding has_stub sent_wrong
   sent_stays [] none = refl
   sent_stays (row ∷ stubs) none =
@@ -191,11 +184,11 @@ module _ (g : Setting) (os : List Object) (n : ℕ) where
         let nothing = unheld hs none in
         let variables = refs_stay (holder.Frame b.number) (refs_under b.variables) hs nothing (λ h. let parts = body_parts g h b in let all = held h in omega arith) fits.fine in
         let one = refs_stay (holder.Frame b.number) (own (own_oid g b.object) b.face ∷ []) hs nothing (λ h. let parts = body_parts g h b in let all = held h in omega arith)
-            (let fine = fits.held in omega arith) in
+        (let fine = fits.held in omega arith) in
         let other = another (holder.Frame b.number) (own_oid g b.object) b.face hs nothing (λ h. let parts = body_parts g h b in let all = held h in omega arith) fits.held in
         record {
           called = fits.called;
-            found = ap (option_map (λ o. o.behaviour)) (numbered_kept n b.object os (λ same. not_it b.object same other)) ∙ fits.found;
+          found = ap (option_map (λ o. o.behaviour)) (numbered_kept n b.object os (λ same. not_it b.object same other)) ∙ fits.found;
           fields = fits.fields;
           itself = fits.itself;
           stand = fits.stand;
@@ -214,124 +207,50 @@ module _ (g : Setting) (os : List Object) (n : ℕ) where
     frames_stay asked (outgoing o ∷ fs) held fit =
         (fit.0, fit.1, frames_stay (Some fit.0) fs (λ h. let parts = outgoing_more g h o fs in let all = held h in omega arith) fit.2)
     frames_stay None (body b ∷ fs) held fit =
-        let r = fit.0 in
-        (record {
-          behaviour = r.behaviour;
-          function = r.function;
-          types = r.types;
-          fits = body_stays b r.behaviour r.function r.types (λ h. let parts = method_more g h b fs in let all = held h in omega arith) r.fits;
-          rest = r.rest;
-          begun = r.begun;
-        }, fit.1, frames_stay (Some r.function) fs (λ h. let parts = method_more g h b fs in let all = held h in omega arith) fit.2)
+        let r = fit.0 in (
+          record {
+            behaviour = r.behaviour;
+            function = r.function;
+            types = r.types;
+            fits = body_stays b r.behaviour r.function r.types (λ h. let parts = method_more g h b fs in let all = held h in omega arith) r.fits;
+            rest = r.rest;
+            begun = r.begun;
+          },
+          fit.1,
+          frames_stay (Some r.function) fs (λ h. let parts = method_more g h b fs in let all = held h in omega arith) fit.2,
+        )
     frames_stay (Some f) (body b ∷ fs) held fit =
-        let r = fit.0 in
-        (record {
-          behaviour = r.behaviour;
-          function = r.function;
-          types = r.types;
-          statement = r.statement;
-          fits = body_stays b r.behaviour r.function r.types (λ h. let parts = method_more g h b fs in let all = held h in omega arith) r.fits;
-          found = r.found;
-          typed = r.typed;
-          rest = r.rest;
-          takes = r.takes;
-        }, fit.1, frames_stay (Some r.function) fs (λ h. let parts = method_more g h b fs in let all = held h in omega arith) fit.2)
+        let r = fit.0 in (
+          record {
+            behaviour = r.behaviour;
+            function = r.function;
+            types = r.types;
+            statement = r.statement;
+            fits = body_stays b r.behaviour r.function r.types (λ h. let parts = method_more g h b fs in let all = held h in omega arith) r.fits;
+            found = r.found;
+            typed = r.typed;
+            rest = r.rest;
+            takes = r.takes;
+          },
+          fit.1,
+          frames_stay (Some r.function) fs (λ h. let parts = method_more g h b fs in let all = held h in omega arith) fit.2,
+        )
 
-    stacks_stay : (ss : List Stack) → ((h : Hold) → stacks_have g h ss ≤ times h hs) → AllByRecursion (StackFits g os) ss → AllByRecursion (StackFits g now) ss
+    pub stacks_stay : (ss : List Stack) → ((h : Hold) → stacks_have g h ss ≤ times h hs) → AllByRecursion (StackFits g os) ss → AllByRecursion (StackFits g now) ss
     stacks_stay [] held all = tt
-    stacks_stay (s ∷ ss) held all =
-        (record {
-          thread = all.0.thread;
-          frames = frames_stay None s.frames (λ h. let parts = stacks_more g h s ss in let most = held h in omega arith) all.0.frames;
-        }, stacks_stay ss (λ h. let parts = stacks_more g h s ss in let most = held h in omega arith) all.1)
+    stacks_stay (s ∷ ss) held all = (
+      record {
+        thread = all.0.thread;
+        frames = frames_stay None s.frames (λ h. let parts = stacks_more g h s ss in let most = held h in omega arith) all.0.frames;
+      },
+      stacks_stay ss (λ h. let parts = stacks_more g h s ss in let most = held h in omega arith) all.1,
+    )
 
     -- ---- objects
 
-    objects_stay : (xs : List Object) → ((h : Hold) → objects_have h xs ≤ times h hs) → total (object_wrong g os) xs ≡ 0 → total (object_wrong g now) xs ≡ 0
+    pub objects_stay : (xs : List Object) → ((h : Hold) → objects_have h xs ≤ times h hs) → total (object_wrong g os) xs ≡ 0 → total (object_wrong g now) xs ≡ 0
     unfolding total object_wrong
     objects_stay [] held fine = refl
     objects_stay (o ∷ xs) held fine =
         let here = refs_stay (holder.Object o.number) (refs_of_values o.fields) hs (unheld hs none) (λ h. let parts = objects_more h o xs in let all = held h in omega arith) (omega arith) in
         let rest = objects_stay xs (λ h. let parts = objects_more h o xs in let all = held h in omega arith) (omega arith) in omega arith
-
--- ---- an object goes
-
-all_filter : {X : Type 0} (P : X → Type 0) (keeps : X → Bool) (xs : List X) → AllByRecursion P xs → AllByRecursion P (filter keeps xs)
-all_filter P keeps [] all = tt
-all_filter P keeps (x ∷ xs) all = by_test (keeps x) (all_filter P keeps xs all.1)
-  where
-    by_test : (b : Bool) → AllByRecursion P (filter keeps xs) → AllByRecursion P (if b then x ∷ filter keeps xs else filter keeps xs)
-    by_test true rest = (all.0, rest)
-    by_test false rest = rest
-
-module _ (g : Setting) (given : IsGiven g) (most : ℕ) (s : Side) (o : Object) (found : lowest g s.tables ≡ Some o) (covered : AllCovered g s) (fit : SideFits g most s) where
-  may : MayGo g s.tables o
-  may = lowest_may_go g s.tables o found
-
-  objects_held : (h : Hold) → objects_have h fit.os ≤ times h s.tables.holdings
-  objects_held h = let all = covered h in let same = ap (objects_have h) fit.tables.same in omega arith
-
-  stacks_held : (h : Hold) → stacks_have g h s.stacks ≤ times h s.tables.holdings
-  stacks_held h = let all = covered h in omega arith
-
-  all_stay : total (object_wrong g (without_object o.number fit.os)) fit.os ≡ 0
-  all_stay = objects_stay g fit.os o.number s.tables.holdings may.unheld fit.os objects_held fit.objects.fine
-
-  apart : (n k : ℕ) → slice_get (first_objects g.plan) n ≡ Some k → o.number ≢ suc n
-  apart n k is same = let within = place_within (first_objects g.plan) n k is in let later = may.later in omega arith
-
-  left_fit : ObjectsFit g (without_object o.number fit.os) fit.made
-  unfolding without_object behaviour_at
-  left_fit =
-      let stay = all_stay in
-      let fewer = total_filter (object_wrong g (without_object o.number fit.os)) (λ k. not (o.number == k.number)) fit.os in
-      record {
-        each = all_filter (ObjectFits g fit.made) (λ k. not (o.number == k.number)) fit.os fit.objects.each;
-        fine = omega arith;
-        first = λ n k within is. ap (option_map (λ o. o.behaviour)) (numbered_kept o.number (suc n) fit.os (apart n k is)) ∙ fit.objects.first n k within is;
-        few = fit.objects.few;
-      }
-
-  tables_left : TablesFit g (without_object o.number fit.os) fit.made (record s.tables { objects = without_object o.number s.tables.objects })
-  tables_left =
-      record {
-        same = ap (without_object o.number) fit.tables.same;
-        counted = fit.tables.counted;
-        held = held_stays g fit.os o.number s.tables.holdings may.unheld ∙ fit.tables.held;
-        sent = sent_stays g fit.os o.number s.tables.stubs may.unsent ∙ fit.tables.sent;
-        sayable = fit.tables.sayable;
-      }
-
-  its_fields : total (wrong g (without_object o.number fit.os)) (refs_of_values o.fields) ≡ 0
-  unfolding lowest object_wrong
-  its_fields =
-      let stay = all_stay in
-      let there : find (may_go g s.tables) fit.os ≡ Some o = ap (find (may_go g s.tables)) (sym fit.tables.same) ∙ found in
-      let one = found_at_most (object_wrong g (without_object o.number fit.os)) (may_go g s.tables) o fit.os there in omega arith
-
-  reaped_by : (b : Bool) → TablesFit g (without_object o.number fit.os) fit.made (reaps_object g b o s.tables)
-  reaped_by true =
-      lets_go_all_fits g given (without_object o.number fit.os) fit.made (holder.Object o.number) (refs_of_values o.fields)
-      (record s.tables { objects = without_object o.number s.tables.objects }) its_fields tables_left
-  reaped_by false =
-      loses_all_fits g given (without_object o.number fit.os) fit.made (holder.Object o.number) (refs_of_values o.fields)
-      (record s.tables { objects = without_object o.number s.tables.objects }) tables_left
-
-  pub reaps_fits : SideFits g most (reaps g o s)
-  unfolding reaps
-  reaps_fits =
-      record {
-        os = without_object o.number fit.os;
-        made = fit.made;
-        objects = left_fit;
-        tables = reaped_by (stands s);
-        stacks = stacks_stay g fit.os o.number s.tables.holdings may.unheld s.stacks stacks_held fit.stacks;
-        apart = fit.apart;
-        heard = fit.heard;
-        opened = fit.opened;
-        counted = fit.counted;
-      }
-
-pub reaps_some_fits : (g : Setting) → IsGiven g → (most : ℕ) (o : Option Object) (s : Side) → lowest g s.tables ≡ o → AllCovered g s → SideFits g most s → SideFits g most (reaps_some g o s)
-reaps_some_fits g given most None s found covered fit = fit
-reaps_some_fits g given most (Some o) s found covered fit = reaps_fits g given most s o found covered fit

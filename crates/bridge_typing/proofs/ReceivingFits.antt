@@ -1,17 +1,15 @@
 -- A message of the peer's that passes its tests leaves a side of which all may be said.
-use Rattle.std.proofs.Common.{◌≡◌, ◌≢◌, ℕ, suc, ◌+◌, ◌≤◌, ◌<◌, ◌^◌, ◌==◌, eqb-true, Bool, true, false, cond, not, ◌&&◌, ◌||◌, if◌then◌else◌, List, [], ◌∷◌, length, Option, None, Some, refl, sym, ap, subst, ◌∙◌, inl, inr, ◌⊎◌, arith}
+use Rattle.std.proofs.Common.{◌≡◌, ℕ, ◌+◌, ◌<◌, ◌^◌, ◌==◌, eqb-true, Bool, true, false, not, ◌&&◌, ◌||◌, if◌then◌else◌, List, [], ◌∷◌, None, Some, refl, sym, ap, subst, ◌∙◌, arith}
 use Rattle.std.specs.List.{list_any}
 use Rattle.std.specs.Str.{bytes_eq}
-use Rattle.std.proofs.lemmas.Bool.{and_parts}
 use Rattle.std.proofs.lemmas.Option.{slice_get_within}
 use Rattle.std.proofs.lemmas.Slice.Eq.{bytes_eq-Decides}
 use Rattle.message_model.specs.Arriving.{RequestFits, ReplyFits, MessageFits}
-use Rattle.message_model.specs.Calls.{numbered, argument_kinds, kinds_on, Waiting, Waits}
+use Rattle.message_model.specs.Calls.{numbered, argument_kinds, kinds_on}
 use Rattle.message_model.specs.Messages.{Answer, Message, request, release, reply, returned}
 use Rattle.message_model.specs.Sayable.{AnswerFits, Fill, IsThread, IsCalled, IsAwaited}
 use Rattle.uno_model.specs.BuiltIn.{x_interface_name, query_interface}
-use Rattle.uno_model.specs.Entities.{Entity}
-use Rattle.uno_model.specs.Fits.{Fits, FitEach, IsIdentity, IsInterface}
+use Rattle.uno_model.specs.Fits.{Fits, FitEach, IsInterface}
 use Rattle.uno_model.specs.Functions.{Function, functions_of}
 use Rattle.uno_model.specs.Functions as fn
 use Rattle.uno_model.specs.Kinds.{Kind}
@@ -27,28 +25,27 @@ use Rattle.table_model.specs.Pair.{pair}
 use Rattle.table_model.specs.Stubs.{Stubs, released_one}
 use Rattle.plan_model.specs.Frames.{Frame, base, body, outgoing, Outgoing, frames_of}
 use Rattle.plan_typing.proofs.CalleeNumbers.{few}
-use Rattle.bridge_laws.specs.Counting.{total, one_if}
+use Rattle.bridge_laws.specs.Counting.{one_if}
 use Rattle.bridge_laws.proofs.HomeLaws.{unless_passed}
 use Rattle.bridge_model.specs.Calls.{serves}
 use Rattle.bridge_model.specs.Handing.{hands_from_peer}
 use Rattle.bridge_model.specs.Objects.{object_supports, object_answer, name_answer}
 use Rattle.bridge_model.specs.Receiving.{is_called_out, is_asked_name, is_target, refs_refusal, refusal, asked_kind, answer_to, answers_at_once, requested, below_top, receives}
 use Rattle.bridge_model.specs.References.{says, each_home, home_answer, refs_of_values, refs_of_answer}
-use Rattle.bridge_model.specs.Settings.{Setting, prefix, is_own}
+use Rattle.bridge_model.specs.Settings.{Setting, is_own}
 use Rattle.bridge_model.specs.Sides.{Object, Tables, Side, with_tables}
 use Rattle.bridge_model.specs.Stacks.{has_stack, is_busy_top, is_busy, waits_of, with_unwound}
-use Rattle.bridge_typing.proofs.Fine.{wrong}
 use Rattle.bridge_typing.proofs.FramesFit.{Pauses, FramesFit, AnswerComes, UnwoundFits}
 use Rattle.bridge_typing.proofs.Given.{IsGiven}
 use Rattle.bridge_typing.proofs.ObjectsFit.{ObjectsFit}
 use Rattle.bridge_typing.proofs.SideFits.{SideFits}
 use Rattle.bridge_typing.proofs.TablesFit.{is_unsupported, sent_wrong, TablesFit}
-use Rattle.bridge_typing.proofs.BeginFits.{Named, named_object, Gives, serves_fits}
+use Rattle.bridge_typing.proofs.BeginFits.{named_object, serves_fits}
 use Rattle.bridge_typing.proofs.FineLaws.{fine_own, object_supports_base}
 use Rattle.bridge_typing.proofs.HandingFits.{hands_from_peer_fits}
 use Rattle.bridge_typing.proofs.HomeFits.{fill_home, answer_home, arguments_fine, answer_fine}
 use Rattle.bridge_typing.proofs.QueryFits.{AnyGoes, named_identity, object_goes, name_goes, query_is, query_goes}
-use Rattle.bridge_typing.proofs.ReadingFits.{WaitsFor, waits_for}
+use Rattle.bridge_typing.proofs.ReadingFits.{waits_for}
 use Rattle.bridge_typing.proofs.SideLaws.{thread_frames, unwound_fits, tabled_fits}
 use Rattle.bridge_typing.proofs.TableLaws.{sent_less, says_fits}
 
@@ -181,13 +178,13 @@ module _ (g : Setting) (given : IsGiven g) where
       let waits = waits_for tid (record { face = face; function = function }) s.stacks fit.apart awaited in
       let under = frames_under fit.os waits.call waits.below (subst (FramesFit g fit.os None) waits.all (thread_frames g fit.os tid s.stacks fit.stacks)) in
       let found : numbered g.registry face function ≡ Some under.0 =
-          ap (λ n. numbered g.registry n function) (sym waits.face) ∙ (ap (numbered g.registry waits.call.face) (sym waits.function) ∙ under.1.found) in
+      ap (λ n. numbered g.registry n function) (sym waits.face) ∙ (ap (numbered g.registry waits.call.face) (sym waits.function) ∙ under.1.found) in
       let same : fits.f ≡ under.0 = same_some (sym fits.found ∙ found) in
       let comes : AnswerComes g fit.os under.0 (home_answer g a) =
-          record {
-            fits = subst (λ h. AnswerFits g.registry h (home_answer g a)) same (answer_home g.registry g fits.f a fits.fits);
-            fine = answer_fine g fit.os s.tables fit.tables.same fits.f a fits.fits passed;
-          } in
+      record {
+        fits = subst (λ h. AnswerFits g.registry h (home_answer g a)) same (answer_home g.registry g fits.f a fits.fits);
+        fine = answer_fine g fit.os s.tables fit.tables.same fits.f a fits.fits passed;
+      } in
       unwound_fits g most tid (hands_from_peer g tid (home_answer g a) (below_top (frames_of tid s.stacks)) s.tables) s fit thread
       (subst (λ fs. UnwoundFits g fit.os fit.made (hands_from_peer g tid (home_answer g a) (below_top fs) s.tables)) (sym waits.all)
       (hands_from_peer_fits g given fit.os fit.made tid thread under.0 (home_answer g a) waits.below s.tables comes under.2 fit.tables))

@@ -1,5 +1,5 @@
 -- A side of which all may be said: the frames of a thread are changed as a whole, and the end of the bridge forgets.
-use Rattle.std.proofs.Common.{◌≡◌, ℕ, suc, ◌+◌, ◌≤◌, Bool, true, false, if◌then◌else◌, List, [], ◌∷◌, length, Option, None, Some, refl, sym, ap, subst, ◌∙◌, arith}
+use Rattle.std.proofs.Common.{◌≡◌, ℕ, suc, Bool, true, false, if◌then◌else◌, List, [], ◌∷◌, Option, None, Some, refl, sym, subst, arith}
 use Rattle.std.specs.List.{AllByRecursion}
 use Rattle.std.specs.Str.{bytes_eq}
 use Rattle.std.proofs.lemmas.Slice.Eq.{bytes_eq-Decides}
@@ -22,7 +22,7 @@ use Rattle.bridge_typing.proofs.FramesFit.{FramesFit, UnwoundFits}
 use Rattle.bridge_typing.proofs.Given.{IsGiven}
 use Rattle.bridge_typing.proofs.Moves.{Moves}
 use Rattle.bridge_typing.proofs.ObjectsFit.{Lasts}
-use Rattle.bridge_typing.proofs.SideFits.{StackFits, Sided, SideFits}
+use Rattle.bridge_typing.proofs.SideFits.{StackFits, SideFits}
 use Rattle.bridge_typing.proofs.TablesFit.{TablesFit}
 use Rattle.bridge_typing.proofs.LastingFits.{frames_last}
 use Rattle.bridge_typing.proofs.TableLaws.{end_fits}

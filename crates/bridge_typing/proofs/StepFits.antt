@@ -1,6 +1,6 @@
 -- Over every history all that was said may be said: each entry leaves a side of which that holds.
-use Rattle.std.proofs.Common.{◌≡◌, ℕ, zero, suc, ◌+◌, ◌≤◌, ◌<◌, Bool, true, false, not, ◌&&◌, nat_lt, if◌then◌else◌, List, [], ◌∷◌, ◌++◌, length, drop, Option, None, Some, refl, sym, ap, subst, ◌∙◌, arith}
-use Rattle.std.specs.List.{AllByRecursion, list_all}
+use Rattle.std.proofs.Common.{◌≡◌, ℕ, zero, suc, ◌+◌, ◌<◌, Bool, true, false, not, nat_lt, if◌then◌else◌, List, [], ◌∷◌, ◌++◌, length, drop, Option, None, Some, refl, sym, subst, arith}
+use Rattle.std.specs.List.{list_all}
 use Rattle.std.proofs.lemmas.Bool.{and_parts, ltb-true}
 use Rattle.message_model.specs.Messages.{Message}
 use Rattle.message_model.specs.Sayable.{IsThread}
@@ -23,7 +23,7 @@ use Rattle.bridge_model.specs.Roots.{holds_each, holds_pair, root_asks, root_cal
 use Rattle.bridge_model.specs.Saying.{AreSayable}
 use Rattle.bridge_model.specs.Settings.{Setting, is_told}
 use Rattle.bridge_model.specs.Sides.{Object, Side, stands}
-use Rattle.bridge_model.specs.Steps.{Turn, turn, step, may, may_begin, may_give, has_entries, most_entries, is_root, is_picked, Picked, picked_in, picked, applies_effect, applies_picked, reaps_some, opening, does, counted, said_by}
+use Rattle.bridge_model.specs.Steps.{Turn, turn, step, may, may_begin, may_give, has_entries, most_entries, is_picked, Picked, picked_in, picked, applies_effect, applies_picked, reaps_some, opening, does, said_by}
 use Rattle.bridge_model.specs.declared.cause.Cause.TheVariants as cause
 use Rattle.bridge_typing.specs.Giving.{MayGive, RootsGive}
 use Rattle.bridge_typing.proofs.FramesFit.{Runs, Pauses, FramesFit}
@@ -33,7 +33,7 @@ use Rattle.bridge_typing.proofs.SideFits.{SideFits}
 use Rattle.bridge_typing.proofs.ApplyingMoves.{effect_moves}
 use Rattle.bridge_typing.proofs.FeedingFits.{feeds_fits}
 use Rattle.bridge_typing.proofs.OpeningFits.{opening_fits}
-use Rattle.bridge_typing.proofs.ReapingFits.{reaps_some_fits}
+use Rattle.bridge_typing.proofs.ReapedFits.{reaps_some_fits}
 use Rattle.bridge_typing.proofs.RootFits.{root_calls_fits, root_queries_fits, root_asks_fits, root_makes_fits, root_drops_fits, root_takes_fits}
 use Rattle.bridge_typing.proofs.SideLaws.{thread_frames, thread_is, moved_fits, later_fits, ends_fits, runs_out_fits, drains_fits}
 
@@ -106,7 +106,7 @@ module _ (g : Setting) (given : IsGiven g) where
   -- ---- entries
 
   -- one more object at most, where the entry counts
-  abbrev after : Entry → ℕ → ℕ
+  abbrev pub after : Entry → ℕ → ℕ
   after e most = if counts e then suc most else most
 
   does_fits : (e : Entry) (s : Side) → MayGive g e → may g s e ≡ true → AllCovered g s → SideFits g (length (first_objects g.plan) + s.entries) s
@@ -157,14 +157,19 @@ module _ (g : Setting) (given : IsGiven g) where
   said_fits reg (drained b) before now all = tt
   said_fits reg e before now all = sayable_rest reg (length before) now all
 
-  record Stays (x : Told) : Type 0 where
-    covered : AllCovered g x.side
-    fit : SideFits g (length (first_objects g.plan) + x.side.entries) x.side
-    said : AreSayable g.registry x.said
+  pub record Stays (x : Told) : Type 0 where
+    pub covered : AllCovered g x.side
+    pub fit : SideFits g (length (first_objects g.plan) + x.side.entries) x.side
+    pub said : AreSayable g.registry x.said
+
+  -- so it is behind the next entry
+  pub next_fits : (x : Told) (e : Entry) → MayGive g e → may g x.side e ≡ true → Stays x
+      → SideFits g (after e (length (first_objects g.plan) + x.side.entries)) (does g e x.side).side
+  next_fits x e gives is stays = does_fits e x.side gives is stays.covered stays.fit
 
   stays_on : (x : Told) (e : Entry) → MayGive g e → may g x.side e ≡ true → Stays x → Stays (told_more x e (turn e x.side (does g e x.side)))
   stays_on x e gives is stays =
-      let fit = does_fits e x.side gives is stays.covered stays.fit in
+      let fit = next_fits x e gives is stays in
       record {
         covered = λ h. kept g h x e (stays.covered h) is;
         fit = counted_by (counts e) x.side.entries (does g e x.side).side (does_counts g e x.side) fit;
@@ -191,14 +196,6 @@ module _ (g : Setting) (given : IsGiven g) where
   first_stays =
       record { covered = λ h. opening_covers g h; fit = subst (λ n. SideFits g n (nothing_told g).side) nothing_counted (opening_fits g given); said = tt }
 
-  all_stays : (es : List Entry) (x : Told) → RootsGive g es → Leads g es x → Stays x
+  pub all_stays : (es : List Entry) (x : Told) → RootsGive g es → Leads g es x → Stays x
   unfolding replay
   all_stays es x gives leads = along_given (Some (nothing_told g)) es gives (λ z is. subst Stays (cc) first_stays) x leads
-
-  -- ---- the laws
-
-  pub all_sayable : (es : List Entry) (x : Told) → RootsGive g es → Leads g es x → AreSayable g.registry x.said
-  all_sayable es x gives leads = (all_stays es x gives leads).said
-
-  pub rest_sayable : (es : List Entry) (x : Told) → RootsGive g es → Leads g es x → AreSayable g.registry x.side.tables.unsaid
-  rest_sayable es x gives leads = (all_stays es x gives leads).fit.tables.sayable

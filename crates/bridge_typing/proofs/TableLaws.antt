@@ -1,5 +1,5 @@
 -- Tables of which all may be said: fine references may be gained, said and taken, and all may be let go.
-use Rattle.std.proofs.Common.{◌≡◌, ℕ, suc, ◌+◌, ◌≤◌, ◌<◌, ◌^◌, ◌==◌, Bool, true, false, cond, not, ◌&&◌, ◌||◌, nat_lt, nat_le, if◌then◌else◌, List, [], ◌∷◌, ◌++◌, length, filter, Option, None, Some, refl, sym, ap, subst, ◌∙◌, arith}
+use Rattle.std.proofs.Common.{◌≡◌, ℕ, ◌+◌, ◌≤◌, ◌<◌, ◌^◌, Bool, true, false, cond, not, ◌&&◌, ◌||◌, nat_lt, nat_le, if◌then◌else◌, List, [], ◌∷◌, ◌++◌, length, filter, Option, None, Some, refl, arith}
 use Rattle.std.proofs.lemmas.Bool.{and_parts, leb-true}
 use Rattle.std.specs.Fmt.{decimal}
 use Rattle.std.proofs.lemmas.Fmt.{length-decimal-le}
@@ -8,14 +8,14 @@ use Rattle.std.specs.Ordering.{eq_by_cmp}
 use Rattle.std.specs.declared.cmp.Ordering.{Ordering}
 use Rattle.message_model.specs.MessageNamings.{message_namings}
 use Rattle.message_model.specs.Messages.{Message, release}
-use Rattle.message_model.specs.Sayable.{IsThread, message_weight, name_weight, heading_weight}
+use Rattle.message_model.specs.Sayable.{IsThread, message_weight}
 use Rattle.uno_model.specs.Entities.{Entity}
 use Rattle.uno_model.specs.Fits.{IsIdentity, IsInterface}
 use Rattle.uno_model.specs.Kinds as kd
 use Rattle.uno_model.specs.Sound.{is_namable}
 use Rattle.uno_model.specs.Types.{is_formed}
 use Rattle.uno_model.specs.Values.{Ref, null, own, peer}
-use Rattle.uno_model.specs.Weights.{compressed_weight, text_weight, kind_weight}
+use Rattle.uno_model.specs.Weights.{compressed_weight, text_weight}
 use Rattle.urp_model.specs.Namings.{Naming}
 use Rattle.table_model.specs.Bags.{how_many, one_more, one_less}
 use Rattle.table_model.specs.Holdings.{Hold, hold, hold_cmp, Holdings}
@@ -39,7 +39,7 @@ use Rattle.bridge_laws.proofs.NamingLaws.{message_refs}
 use Rattle.bridge_laws.proofs.StrayLaws.{fewer_kept, more_put, found_passes}
 use Rattle.bridge_typing.proofs.Fine.{is_fine_own, is_fine_peer, wrong}
 use Rattle.bridge_typing.proofs.Given.{IsGiven}
-use Rattle.bridge_typing.proofs.TablesFit.{is_wrong_pair, held_wrong, is_unsupported, sent_wrong, Table, TablesFit}
+use Rattle.bridge_typing.proofs.TablesFit.{is_wrong_pair, held_wrong, is_unsupported, sent_wrong, TablesFit}
 use Rattle.bridge_typing.proofs.FineLaws.{peer_fine}
 use Rattle.bridge_typing.proofs.NamedLaws.{unsupported, message_named}
 

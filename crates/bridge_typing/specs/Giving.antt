@@ -1,5 +1,5 @@
 -- Journals whose roots give what may be said.
-use Rattle.std.specs.Prelude.{ℕ, List}
+use Rattle.std.specs.Prelude.{List}
 use Rattle.std.specs.List.{AllByRecursion}
 use Rattle.message_model.specs.Messages.{request}
 use Rattle.message_model.specs.Sayable.{MayBeSaid}

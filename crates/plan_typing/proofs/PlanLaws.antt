@@ -35,7 +35,7 @@ none_later None (Some x) is = absurd (cc)
 
 module _ (reg : List Entity) where
   -- a line, and those behind it
-  right_parts : (c : Context) (l : Line) (ls : List Line) → first_wrong reg c (l ∷ ls) ≡ None → (reason_of reg c l ≡ None) × (first_wrong reg (behind reg l c) ls ≡ None)
+  pub right_parts : (c : Context) (l : Line) (ls : List Line) → first_wrong reg c (l ∷ ls) ≡ None → (reason_of reg c l ≡ None) × (first_wrong reg (behind reg l c) ls ≡ None)
   unfolding first_wrong
   right_parts c l ls is = none_later (reason_of reg c l) (first_wrong reg (behind reg l c) ls) is
 
