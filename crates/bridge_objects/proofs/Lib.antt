@@ -1,3 +1,4 @@
+mod Gaining
 mod Lists
 mod Marking
 mod Numbers

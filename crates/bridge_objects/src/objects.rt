@@ -9,6 +9,7 @@ ghost use Rattle.bridge_model.specs.Objects.{has_stub, is_held_object};
 ghost use Rattle.bridge_objects.specs.Kept.{nothing_kept, numbered, named, behaviour_of, fields_of, number_of, lowest};
 
 mod ending;
+mod gaining;
 mod holding;
 mod making;
 mod sending;

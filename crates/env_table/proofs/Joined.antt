@@ -1,5 +1,5 @@
 -- An environment of what frames hold, and of what others do.
-use Rattle.std.proofs.Common.{◌≡◌, ℕ, ◌+◌, ◌≤◌, ◌<◌, Bool, true, false, cond, not, ◌&&◌, ◌||◌, List, [], ◌++◌, length, Option, None, Some, if◌then◌else◌, nat_eq, nat_lt, option_map, refl, sym, ap, ◌∙◌, subst, arith, length-append, IfSome, IfNone}
+use Rattle.std.proofs.Common.{◌≡◌, ℕ, ◌+◌, ◌≤◌, ◌<◌, Bool, true, false, not, ◌&&◌, ◌||◌, List, [], ◌++◌, length, Option, None, Some, if◌then◌else◌, nat_eq, nat_lt, option_map, refl, sym, ap, ◌∙◌, subst, arith, length-append, IfSome, IfNone}
 use borrow.Author.Tests.{ltb-true}
 use Rattle.std.proofs.lemmas.Bool.Decides.{nat_tests}
 use Rattle.std.proofs.lemmas.List.Folds.{list_any-append}

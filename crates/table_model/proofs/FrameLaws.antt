@@ -6,7 +6,7 @@ use Rattle.std.specs.declared.cmp.Ordering.TheVariants.{Less, Greater}
 use Rattle.std.specs.List.{filter, list_all, list_any}
 use Rattle.std.specs.Ordering.{is_gt, is_eq, eq_by_cmp}
 use Rattle.std.specs.Str.{bytes_eq}
-use Rattle.table_model.specs.Bags.{how_many, how_often, one_more, one_less}
+use Rattle.table_model.specs.Bags.{how_often, one_more, one_less}
 use Rattle.table_model.specs.Holdings.{Hold, Holdings, hold, holder_cmp, hold_cmp, is_frame, is_of_frame, outlasts, are_frames, are_others, without_holds, frames_without, holders}
 use Rattle.table_model.specs.Pair.{Pair, is_pair}
 use Rattle.table_model.specs.declared.holder.Holder.{Holder}

@@ -1,4 +1,4 @@
-use Rattle.std.proofs.Common.{◌∙◌, sym, ap, subst, string_bytes, cond, None}
+use Rattle.std.proofs.Common.{◌∙◌, sym, ap, string_bytes, cond, None}
 use Rattle.std.specs.List.{list_any}
 use Rattle.std.specs.Str.{bytes_eq}
 use Rattle.pair_map.proofs.Taking.{same_in_rows}

@@ -5,11 +5,12 @@ use Rattle.env_table.proofs.Joined.{if_some, if_none, either, frames_left, whole
 use Rattle.env_table.proofs.environment.Environment.let_frames_go.Goals as goal
 
 pub invariant_of-self : goal.invariant_of-self
-invariant_of-self c =
-    (either {R = T (are_frames c.take_oid.new.self)} c.take_oid.result
-    (λ oid gone. frames_left c.self.inside.frames c.self.inside.others c.args.self.now c.self.view_is c.self.invariant.0 c.self.invariant.1 c.take_oid.new.self oid gone)
-    (λ none. subst (λ hs. T (are_frames hs)) (sym none) tt) c.take_oid.ensures.gone c.take_oid.ensures.kept,
-    c.self.invariant.1)
+invariant_of-self c = (
+  either {R = T (are_frames c.take_oid.new.self)} c.take_oid.result
+      (λ oid gone. frames_left c.self.inside.frames c.self.inside.others c.args.self.now c.self.view_is c.self.invariant.0 c.self.invariant.1 c.take_oid.new.self oid gone)
+      (λ none. subst (λ hs. T (are_frames hs)) (sym none) tt) c.take_oid.ensures.gone c.take_oid.ensures.kept,
+  c.self.invariant.1,
+)
 
 pub returns-clause-gone : goal.returns-clause-gone
 returns-clause-gone c =

@@ -1,4 +1,4 @@
-use Rattle.std.proofs.Common.{◌∙◌, ap, sym, Some, None, option_map, ◌<◌, arith}
+use Rattle.std.proofs.Common.{◌∙◌, ap, sym, None, option_map, ◌<◌, arith}
 use Rattle.table_model.specs.Objects as model
 use Rattle.object_store.specs.Rows.{object_rows, plain}
 use Rattle.object_store.proofs.Living.{found_rows, is_found, rows_without}

@@ -5,7 +5,7 @@ use Rattle.table_model.specs.Pair.{pair_cmp}
 use Rattle.table_model.proofs.PairLaws.{pair_order}
 use Rattle.table_model.proofs.RowLaws.{in_order_rises}
 use Rattle.pair_map.specs.ByOid.{pair_rows}
-use Rattle.pair_map.proofs.Views.{taken_at, any_at, none_in_order}
+use Rattle.pair_map.proofs.Views.{taken_at, any_at}
 use Rattle.pair_map.proofs.pair_map.PairMap.take_oid.Goals as goal
 
 pub returns-clause-gone : goal.returns-clause-gone
