@@ -3,7 +3,7 @@ use uno_types::{Name, Text, Tid};
 use uno_values::Value;
 
 /// An entry of a journal. Roots are numbered from 1, behaviours from 0, and objects by the number in their identity.
-#[derive(Debug, Drop)]
+#[derive(Drop)]
 pub enum Entry {
     /// Bytes came in.
     Fed(Vec<u8>),
