@@ -10,4 +10,4 @@ mod threads;
 pub use home::{home_answer, home_each, told};
 pub use names::Names;
 pub use setting::Setting;
-pub use supporting::{MANAGER, exported, first_objects, has_offers, supports};
+pub use supporting::{MANAGER, exported, first_objects, has_offers, is_base_of, supports};

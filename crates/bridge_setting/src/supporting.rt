@@ -80,7 +80,8 @@ fn is_reached(registry: &Registry, faces: &[Name], wanted: &str) -> bool
     false
 }
 
-fn is_base_of(registry: &Registry, base: &str, name: &str) -> bool
+/// Whether an interface is assignable to another one: whether it is that one, or derives from it.
+pub fn is_base_of(registry: &Registry, base: &str, name: &str) -> bool
     requires { IsSound registry.now }
     ensures { result ≡ is_base_of registry.now base.now name.now }
 {

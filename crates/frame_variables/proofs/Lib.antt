@@ -1,3 +1,4 @@
 mod VariableLemmas
 mod FirstLemmas
 mod AnswerLemmas
+mod QueryLemmas

@@ -1,9 +1,11 @@
 -- Variables by their names: what stands at the place of the first one of a name.
-use Rattle.std.proofs.Common.{◌≡◌, ℕ, zero, suc, ◌<◌, Bool, true, false, not, List, [], ◌∷◌, length, map, refl, sym, ap, ◌∙◌, arith, absurd, get_or, set, cond}
-use Rattle.std.specs.List.{filter}
+use Rattle.std.proofs.Common.{◌≡◌, ℕ, zero, suc, ◌+◌, ◌<◌, ◌≤◌, nat_lt, Bool, true, false, not, List, [], ◌∷◌, length, refl, sym, ap, ◌∙◌, arith, get_or, set, cond}
+use Rattle.std.specs.List.{filter, position, prefix_len}
+use Rattle.std.proofs.lemmas.Bool.{ltb-false}
+use Rattle.std.proofs.lemmas.List.Quantifiers.{position-Some}
+use Rattle.std.specs.Prelude.{None, Some}
 use Rattle.std.specs.Str.{bytes_eq}
 use Rattle.plan_model.specs.Evaluation.{value_under}
-use Rattle.plan_model.specs.Frames as plain
 use Rattle.plan_model.specs.Holdings.{put, without}
 use Rattle.plan_types.specs.Frames.{variable_of, variables_of}
 use Rattle.plan_types.specs.declared.frame.Variable.{Variable}
@@ -45,6 +47,37 @@ first_behind name x d xs i is =
 
 nowhere_behind : (name : List ℕ) (x d : Variable) (xs : List Variable) → IsNowhere name (x ∷ xs) d → IsNowhere name xs d
 nowhere_behind name x d xs is = λ k below. is (suc k) (above k (length xs) below)
+
+-- what the search for it tells
+pub found_first : (name : List ℕ) (xs : List Variable) (i : ℕ) (d : Variable) → position (has_name name) xs ≡ Some i → IsFirst name xs i d
+found_first name xs i d is =
+    let found = position-Some (has_name name) xs i d is in
+    record { within = found.0; here = found.1; before = found.2 }
+
+-- what stands before the first one that fails a test passes it
+passes_by : (q : Variable → Bool) (x d : Variable) (xs : List Variable) (k : ℕ) (b : Bool) → q x ≡ b → k < cond b (1 + prefix_len q xs) 0
+    → ((j : ℕ) → j < prefix_len q xs → q (get_or xs j d) ≡ true) → q (get_or (x ∷ xs) k d) ≡ true
+passes_by q x d xs k false is below later = below_none k below
+passes_by q x d xs zero true is below later = is
+passes_by q x d xs (suc j) true is below later = later j (omega (arith, below))
+
+passes : (q : Variable → Bool) (xs : List Variable) (k : ℕ) (d : Variable) → k < prefix_len q xs → q (get_or xs k d) ≡ true
+passes q [] k d below = below_none k below
+passes q (x ∷ xs) k d below = passes_by q x d xs k (q x) refl below (λ j less. passes q xs j d less)
+
+none_before : (m n : ℕ) (b : Bool) → nat_lt m n ≡ b → cond b (Some m) None ≡ None → n ≤ m
+none_before m n true is none = let bad : ⊥ = cc in absurd bad
+none_before m n false is none = ltb-false m n is
+
+not_so : (b : Bool) → not b ≡ true → b ≡ false
+not_so false is = refl
+not_so true is = sym is
+
+pub found_none : (name : List ℕ) (xs : List Variable) (d : Variable) → position (has_name name) xs ≡ None → IsNowhere name xs d
+found_none name xs d is = λ k below.
+    let m = prefix_len (λ x. not (has_name name x)) xs in
+    let all : length xs ≤ m = none_before m (length xs) (nat_lt m (length xs)) refl is in
+    not_so (has_name name (get_or xs k d)) (passes (λ x. not (has_name name x)) xs k d (omega (arith, below, all)))
 
 -- ---- the value under a name
 

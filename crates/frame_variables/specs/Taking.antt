@@ -1,7 +1,10 @@
 -- What code has for variables, and for the references that are let go for them: values, whose references these are.
 use Rattle.std.specs.Prelude.{ℕ, List, [], ◌∷◌, map, Option, None, Some}
 use Rattle.std.specs.List.{flat_map}
-use Rattle.uno_model.specs.Values.{Ref, Plain, refs}
+use Rattle.uno_model.specs.Values.{Ref, null, Plain, refs}
+use Rattle.uno_model.specs.Kinds.{Kind}
+use Rattle.uno_model.specs.Kinds as kd
+use Rattle.uno_model.specs.Values as v
 use Rattle.plan_model.specs.Holdings.{Taken, takes}
 use Rattle.plan_types.specs.Frames.{variables_of}
 use Rattle.plan_types.specs.declared.frame.Variable.{Variable}
@@ -30,3 +33,13 @@ takes_first name (x ∷ xs) t = takes name x t
 abbrev pub one_or_none : {A : Type 0} → Option A → List A
 one_or_none None = []
 one_or_none (Some x) = x ∷ []
+
+-- the reference in an any
+abbrev pub reference_inside : Plain → Ref
+reference_inside (v.any k (v.ref r)) = r
+reference_inside x = null
+
+-- the name of the interface that a type is
+abbrev pub interface_in : Kind → Option (List ℕ)
+interface_in (kd.interface name) = Some name
+interface_in k = None

@@ -1,15 +1,16 @@
 //! What the answer to a query does.
-ghost use Rattle.std.specs.Prelude.{◌≡◌, [], IfOk, if◌then◌else◌};
+ghost use Rattle.std.specs.Prelude.{◌≡◌, [], IfOk, if◌then◌else◌, option_map};
 ghost use Rattle.plan_model.specs.Holdings.{is_taken, reference_of, takes_reference};
 ghost use Rattle.plan_types.specs.Frames.{variables_of};
-ghost use Rattle.uno_model.specs.Reaches.{is_base_of};
+ghost use Rattle.uno_entities.specs.TypeNames.{kind_of};
 ghost use Rattle.uno_model.specs.Sound.{IsSound};
 ghost use Rattle.uno_model.specs.Values.{refs};
 ghost use Rattle.uno_values.specs.References.{ref_of};
 ghost use Rattle.uno_values.specs.Values.{plain_of};
-ghost use Rattle.frame_variables.specs.Taking.{refs_of_rest, taken_with};
+ghost use Rattle.frame_variables.specs.Taking.{interface_in, reference_inside, refs_of_rest, taken_with};
 
 use crate::variables::add;
+use bridge_setting::is_base_of;
 use plan_types::Variable;
 use uno_base::NoMemory;
 use uno_types::{Name, Registry, TypeName};
@@ -48,7 +49,7 @@ fn is_taken(registry: &Registry, wanted: &Name, answer: &Value) -> bool
     let Value::Any(any) = answer else {
         return false;
     };
-    let TypeName::Interface(face) = &any.kind else {
+    let Some(face) = interface_in(&any.kind) else {
         return false;
     };
     let Value::Ref(_) = &any.value else {
@@ -57,15 +58,36 @@ fn is_taken(registry: &Registry, wanted: &Name, answer: &Value) -> bool
     is_base_of(registry, wanted.as_str(), face.as_str())
 }
 
-fn is_base_of(registry: &Registry, base: &str, name: &str) -> bool
-    requires { IsSound registry.now }
-    ensures { result ≡ is_base_of registry.now base.now name.now }
+/// The name of the interface that a type is.
+fn interface_in(kind: &TypeName) -> Option<&Name>
+    ensures { option_map (λ name. name.now) result ≡ interface_in (kind_of kind.now) }
 {
-    registry.has_base(base, name)
+    match kind {
+        TypeName::Interface(name) => Some(name),
+        TypeName::Void
+        | TypeName::Char
+        | TypeName::Boolean
+        | TypeName::Byte
+        | TypeName::Short
+        | TypeName::UnsignedShort
+        | TypeName::Long
+        | TypeName::UnsignedLong
+        | TypeName::Hyper
+        | TypeName::UnsignedHyper
+        | TypeName::Str
+        | TypeName::Kind
+        | TypeName::Any
+        | TypeName::Enum(_)
+        | TypeName::Struct(_)
+        | TypeName::Exception(_)
+        | TypeName::Sequence(_) => None,
+    }
 }
 
 /// The reference in an any.
-fn reference_in(answer: Value) -> Reference {
+fn reference_in(answer: Value) -> Reference
+    ensures { ref_of result ≡ reference_inside (plain_of answer) }
+{
     let Value::Any(any) = answer else {
         return Reference::Null;
     };
@@ -77,6 +99,7 @@ fn reference_in(answer: Value) -> Reference {
 }
 
 /// The reference that a query found becomes a variable; the value is given whose references are let go for that.
+#[tactic(auto, unfolding(plan_model::specs::Holdings::takes_reference))]
 pub fn take_reference(
     registry: &Registry,
     wanted: &Name,

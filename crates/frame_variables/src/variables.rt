@@ -1,13 +1,12 @@
 //! Variables by their names.
-ghost use Rattle.std.specs.Prelude.{◌≡◌, OnErr, OnOk, map};
+ghost use Rattle.std.specs.Prelude.{◌≡◌, OnErr, OnOk, not};
 ghost use Rattle.std.specs.List.{filter, position};
-ghost use Rattle.std.specs.Prelude.{not};
 ghost use Rattle.std.specs.Str.{bytes_eq};
 ghost use Rattle.plan_model.specs.Evaluation.{value_under};
-ghost use Rattle.plan_model.specs.Frames as plain;
 ghost use Rattle.plan_model.specs.Holdings.{put, with_variable, without};
-ghost use Rattle.plan_types.specs.Frames.{variable_of, variables_of};
+ghost use Rattle.plan_types.specs.Frames.{variables_of};
 ghost use Rattle.plan_types.specs.declared.frame.Variable.{Variable};
+ghost use Rattle.uno_model.specs.Values.{void};
 ghost use Rattle.uno_values.specs.Values.{plain_of};
 
 use plan_types::Variable;
@@ -26,7 +25,7 @@ pub fn put(variables: &mut Vec<Variable>, name: &Name, value: Value) -> Value
         Some(place) => mem::replace(&mut variables[place].value, value),
         None => {
             drop(value);
-            Value::Void
+            no_value()
         }
     }
 }
@@ -42,8 +41,15 @@ pub fn take_out(variables: &mut Vec<Variable>, name: &Name) -> Value
             keep_others(variables, name);
             value
         }
-        None => Value::Void,
+        None => no_value(),
     }
+}
+
+/// The value of a name that is not there.
+fn no_value() -> Value
+    ensures { plain_of result ≡ void }
+{
+    Value::Void
 }
 
 /// Puts a variable behind the others.
@@ -57,12 +63,6 @@ pub fn add(variables: &mut Vec<Variable>, name: Name, value: Value) -> Result<()
 
 /// The place of the first variable of a name.
 fn place_of(variables: &[Variable], name: &Name) -> Option<usize>
-    ensures { result ≡ position (λ (x : plain.Variable). bytes_eq name.now x.name) (variables_of variables.now) }
-{
-    place_named(variables, name)
-}
-
-fn place_named(variables: &[Variable], name: &Name) -> Option<usize>
     ensures { result ≡ position (λ (x : Variable). bytes_eq name.now x.name) variables.now }
 {
     variables
