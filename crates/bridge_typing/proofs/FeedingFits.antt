@@ -18,7 +18,7 @@ use Rattle.bridge_typing.proofs.Given.{IsGiven}
 use Rattle.bridge_typing.proofs.SideFits.{SideFits}
 use Rattle.bridge_typing.proofs.ReadingFits.{IsRead, read_is}
 use Rattle.bridge_typing.proofs.ReceivingFits.{receives_fits}
-use Rattle.bridge_typing.proofs.SideLaws.{ends_fits}
+use Rattle.bridge_typing.proofs.SideLaws.{ends_fits, heard_fits}
 
 module _ (g : Setting) (given : IsGiven g) (most : ℕ) where
   -- what is remembered of messages changes no test
@@ -30,17 +30,7 @@ module _ (g : Setting) (given : IsGiven g) (most : ℕ) where
 
   remembers_fits : (heard : Heard) (s : Side) → IsHeard g.registry heard → SideFits g most s → SideFits g most (remembers heard s)
   remembers_fits heard s is fit =
-      record {
-        os = fit.os;
-        made = fit.made;
-        objects = fit.objects;
-        tables = fit.tables;
-        stacks = fit.stacks;
-        apart = fit.apart;
-        heard = is;
-        opened = fit.opened;
-        counted = fit.counted;
-      }
+      heard_fits g most s.tables s.stacks s.incoming (record s.incoming { heard = heard }) is fit
 
   breaks_fits : (why : Reason) (place : ℕ) (x : Hearing) → SideFits g most x.side → SideFits g most (breaks why place x).side
   breaks_fits why place x fit = ends_fits g given most (cause.Broken why place) x.side fit
@@ -76,31 +66,11 @@ module _ (g : Setting) (given : IsGiven g) (most : ℕ) where
 
   held_fits : (bytes : List ℕ) (s : Side) → SideFits g most s → SideFits g most (holds_bytes bytes s)
   held_fits bytes s fit =
-      record {
-        os = fit.os;
-        made = fit.made;
-        objects = fit.objects;
-        tables = fit.tables;
-        stacks = fit.stacks;
-        apart = fit.apart;
-        heard = fit.heard;
-        opened = fit.opened;
-        counted = fit.counted;
-      }
+      heard_fits g most s.tables s.stacks s.incoming (record s.incoming { held = bytes }) fit.heard fit
 
   taken_fits : (bytes : List ℕ) (s : Side) → SideFits g most s → SideFits g most (takes_block bytes s)
   taken_fits bytes s fit =
-      record {
-        os = fit.os;
-        made = fit.made;
-        objects = fit.objects;
-        tables = fit.tables;
-        stacks = fit.stacks;
-        apart = fit.apart;
-        heard = fit.heard;
-        opened = fit.opened;
-        counted = fit.counted;
-      }
+      heard_fits g most s.tables s.stacks s.incoming (record s.incoming { place = s.incoming.place + length bytes; held = [] }) fit.heard fit
 
   fed_by : (b : Bool) (whole part : Hearing) → SideFits g most whole.side → SideFits g most part.side → SideFits g most (if b then whole else part).side
   fed_by true whole part now later = now

@@ -26,7 +26,7 @@ use Rattle.bridge_model.specs.Objects.{object_answer, fields_of, makes_default, 
 use Rattle.bridge_model.specs.References.{gains, gains_all, lets_go, loses, refs_of_values}
 use Rattle.bridge_model.specs.Roots.{holds_each, holds_pair, answered_before, is_answered, bottom, begins_call, calls_unless, root_calls, gets_at_once, asks_peer, begins_query, queries_unless, root_queries, asks_unless, root_asks, root_makes, root_drops, root_takes}
 use Rattle.bridge_model.specs.Settings.{Setting, own_oid, root_tid, ref_of, is_own, is_told}
-use Rattle.bridge_model.specs.Sides.{Object, Tables, Side, stands, waits_call, waits_query, with_root}
+use Rattle.bridge_model.specs.Sides.{Object, Tables, Side, stands, waits_call, waits_query, with_root, idle, answered, answer}
 use Rattle.bridge_typing.proofs.Fine.{wrong}
 use Rattle.bridge_typing.proofs.FramesFit.{FramesFit}
 use Rattle.bridge_typing.proofs.Given.{IsGiven}
@@ -89,18 +89,7 @@ module _ (g : Setting) (given : IsGiven g) (most root : ℕ) where
       peer_same oid face name at false is = (cc, cc)
 
   answered_fits : (a : Answer) (s : Side) → SideFits g most s → SideFits g most (is_answered root a s)
-  answered_fits a s fit =
-      record {
-        os = fit.os;
-        made = fit.made;
-        objects = fit.objects;
-        tables = record { same = fit.tables.same; counted = fit.tables.counted; held = fit.tables.held; sent = fit.tables.sent; sayable = fit.tables.sayable };
-        stacks = fit.stacks;
-        apart = fit.apart;
-        heard = fit.heard;
-        opened = fit.opened;
-        counted = fit.counted;
-      }
+  answered_fits a s fit = tabled_fits g most (with_root root (answered (answer a)) s.tables) s fit fit.tables
 
   calls_by : (oid face : List ℕ) (function : ℕ) (args : List Plain) (why : Option RuntimeCause) (s : Side) (fit : SideFits g most s)
       → answered_before (root_tid g root) oid face function args ≡ why → wrong g fit.os (ref_of g oid face) ≡ 0
@@ -237,15 +226,4 @@ module _ (g : Setting) (given : IsGiven g) (most root : ℕ) where
 
   pub root_takes_fits : (s : Side) → SideFits g most s → SideFits g most (root_takes root s)
   unfolding root_takes
-  root_takes_fits s fit =
-      record {
-        os = fit.os;
-        made = fit.made;
-        objects = fit.objects;
-        tables = record { same = fit.tables.same; counted = fit.tables.counted; held = fit.tables.held; sent = fit.tables.sent; sayable = fit.tables.sayable };
-        stacks = fit.stacks;
-        apart = fit.apart;
-        heard = fit.heard;
-        opened = fit.opened;
-        counted = fit.counted;
-      }
+  root_takes_fits s fit = tabled_fits g most (with_root root idle s.tables) s fit fit.tables

@@ -3,6 +3,7 @@ use Rattle.std.proofs.Common.{◌≡◌, ℕ, suc, Bool, true, false, if◌then�
 use Rattle.std.specs.List.{AllByRecursion}
 use Rattle.std.specs.Str.{bytes_eq}
 use Rattle.std.proofs.lemmas.Slice.Eq.{bytes_eq-Decides}
+use Rattle.message_model.specs.Arriving.{IsHeard}
 use Rattle.message_model.specs.Messages.{Message}
 use Rattle.message_model.specs.Sayable.{IsThread}
 use Rattle.message_model.proofs.MessageArrivalLaws.{nothing_is_heard}
@@ -14,7 +15,7 @@ use Rattle.bridge_model.specs.Ends.{tables_at_end, ends_by, runs_out}
 use Rattle.bridge_model.specs.Going.{spells, spells_for, drains}
 use Rattle.bridge_model.specs.Saying.{AreSayable}
 use Rattle.bridge_model.specs.Settings.{Setting}
-use Rattle.bridge_model.specs.Sides.{Object, Tables, Outgoing, Side, with_tables}
+use Rattle.bridge_model.specs.Sides.{Incoming, Object, Tables, Outgoing, Side, with_tables}
 use Rattle.bridge_model.specs.Stacks.{stack_with, puts_frames, with_unwound}
 use Rattle.bridge_model.specs.declared.cause.Cause.{Cause}
 use Rattle.bridge_model.specs.declared.cause.Cause.TheVariants as cause
@@ -22,7 +23,7 @@ use Rattle.bridge_typing.proofs.FramesFit.{FramesFit, UnwoundFits}
 use Rattle.bridge_typing.proofs.Given.{IsGiven}
 use Rattle.bridge_typing.proofs.Moves.{Moves}
 use Rattle.bridge_typing.proofs.ObjectsFit.{Lasts}
-use Rattle.bridge_typing.proofs.SideFits.{StackFits, SideFits}
+use Rattle.bridge_typing.proofs.SideFits.{StackFits, Sided, SideFits}
 use Rattle.bridge_typing.proofs.TablesFit.{TablesFit}
 use Rattle.bridge_typing.proofs.LastingFits.{frames_last}
 use Rattle.bridge_typing.proofs.TableLaws.{end_fits}
@@ -104,6 +105,21 @@ unwound_fits g most tid u s fit thread fits =
       stacks = put_fit g fit.os tid u.frames s.stacks thread fits.frames fit.stacks;
       apart = apart_put tid u.frames s.stacks fit.apart;
       heard = fit.heard;
+      opened = fit.opened;
+      counted = fit.counted;
+    }
+
+-- what came in is told otherwise
+pub heard_fits : (g : Setting) (most : ℕ) (t : Tables) (ss : List Stack) (before now : Incoming) → IsHeard g.registry now.heard → Sided g most t ss before → Sided g most t ss now
+heard_fits g most t ss before now is fit =
+    record {
+      os = fit.os;
+      made = fit.made;
+      objects = fit.objects;
+      tables = fit.tables;
+      stacks = fit.stacks;
+      apart = fit.apart;
+      heard = is;
       opened = fit.opened;
       counted = fit.counted;
     }
