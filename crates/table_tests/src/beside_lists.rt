@@ -66,6 +66,15 @@ fn taken_out(list: &mut Vec<Item>, item: Item) {
     }
 }
 
+/// A frame, an object or a thread.
+fn holder_of(item: Item) -> Holder {
+    match item.holder {
+        0 => Holder::Frame(3),
+        1 => Holder::Object(1),
+        _ => Holder::Root(2),
+    }
+}
+
 fn environment_follows(alloc: Global, operations: u32) -> Result<bool, NoMemory> {
     let mut rng = Lcg64Xsh32::seed_from_u64(18);
     let mut environment = Environment::new(alloc);
@@ -74,7 +83,7 @@ fn environment_follows(alloc: Global, operations: u32) -> Result<bool, NoMemory>
         let item = Item::drawn(&mut rng);
         let oid = item.oid(alloc)?;
         let face = item.face(alloc)?;
-        let holder = Holder::Object(item.holder);
+        let holder = holder_of(item);
         let pairs = pairs_like(&list, item);
         let holders = environment.holders(&oid, &face);
         if holders != pairs
