@@ -4,7 +4,6 @@ pub mod EvaluationLemmas
 pub mod FunctionLemmas
 pub mod GivingLemmas
 pub mod LimitLemmas
+pub mod ManagerLemmas
 pub mod MethodLemmas
-pub mod NameLemmas
 pub mod RaisingLemmas
-pub mod ServiceLemmas

@@ -12,7 +12,6 @@ mod jobs;
 mod limits;
 mod manager;
 mod names;
-mod offered;
 mod operation;
 mod root;
 mod running;

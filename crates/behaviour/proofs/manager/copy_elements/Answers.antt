@@ -1,6 +1,6 @@
 use Rattle.std.proofs.Common.{sym, ◌∙◌, map}
 use Rattle.uno_values.specs.Values.{plain_of}
-use Rattle.behaviour.proofs.ServiceLemmas.{values_back}
+use Rattle.behaviour.proofs.ManagerLemmas.{values_back}
 use Rattle.behaviour.proofs.manager.copy_elements.Goals as goal
 
 pub returns : goal.returns
