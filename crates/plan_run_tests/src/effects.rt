@@ -1,13 +1,14 @@
 //! The effects of statements, by rows: a job, the one statement of its method, and what is asked.
 //!
 //! A statement is `let x E`, `set a E`, `keep last E` (the field), `call W E`, `call W E x` (with a result), `query W x`, `new x`,
-//! `drop x`, `when W == E E`, `when W < E E`, `return E`, `raise NAME`, `dispose`, or nothing, so that the end follows. A word W is
-//! `$x`, `.last` or `self`; an expression E is a word, a digit, or `+x`, one more than `$x`. A value is shown as its number, its text
-//! in quotes or its object's identity, null as `-`, void as `?`.
+//! `drop x`, `when W == E E`, `when W < E E`, `return E`, `raise NAME` (with a message), `raise NAME E`, `dispose`, or nothing, so that
+//! the end follows. A word W is `$x`, `.last` or `self`; an expression E is a word, a digit, or `+x`, one more than `$x`. A value is
+//! shown as its number, its text in quotes or its object's identity, an any as `<5>`, null as `-`, and another one as `?`.
 ghost use Rattle.uno_model.specs.Sound.{IsSound};
 
 mod faces;
 mod jobs;
+mod manager;
 mod plans;
 mod showing;
 
@@ -70,6 +71,26 @@ const DEEP: Case = Case {
     given: "deep",
 };
 
+/// The same on a stack that is full.
+const FULL_AND_LARGE: Case = Case {
+    function: 3,
+    frames: 1000,
+    given: "large",
+};
+
+/// `$a` weighs just what a value may, or is nested just as deep: a message with it is too much.
+const HEAVIEST: Case = Case {
+    function: 3,
+    frames: 1,
+    given: "heaviest",
+};
+
+const DEEPEST: Case = Case {
+    function: 3,
+    frames: 1,
+    given: "deepest",
+};
+
 const ROWS: &[(Case, &str, &str)] = &[
     (ASKED, "let x 5", "lets x 5"),
     (ASKED, "let x $a", "lets x 5"),
@@ -88,8 +109,22 @@ const ROWS: &[(Case, &str, &str)] = &[
     (ASKED, "when $a == 4 6", "skips"),
     (ASKED, "when $a < 6 +a", "returns 6 with 7"),
     (ASKED, "when $a < 5 +most", "skips"),
+    (ASKED, "when .last == 8 6", "returns 6 with 7"),
+    (ASKED, "when .last == $a 6", "skips"),
+    (ASKED, "when .last < 9 6", "returns 6 with 7"),
+    (ASKED, "when .last < .last 6", "skips"),
+    (ASKED, "when self == self 6", "returns 6 with 7"),
+    (ASKED, "when self == $peer 6", "skips"),
+    (ASKED, "when $none == self 6", "skips"),
+    (ASKED, "when $none == $none 6", "returns 6 with 7"),
     (ASKED, "return +a", "returns 6 with 7"),
     (ASKED, "raise t.Refused", "raises t.Refused: 'no' -"),
+    (ASKED, "raise t.Worse", "raises t.Worse: 'no' -"),
+    (
+        ASKED,
+        "raise com.sun.star.lang.DisposedException",
+        "raises com.sun.star.lang.DisposedException: 'no' -",
+    ),
     (
         ASKED,
         "raise com.sun.star.uno.Exception",
@@ -130,14 +165,67 @@ const ROWS: &[(Case, &str, &str)] = &[
         "raises com.sun.star.uno.RuntimeException: 'depth' -",
     ),
     (
+        DEEP,
+        "let x $a",
+        "raises com.sun.star.uno.RuntimeException: 'too deep' -",
+    ),
+    (
+        ASKED,
+        "when $a == +most 6",
+        "raises com.sun.star.uno.RuntimeException: 'range' -",
+    ),
+    (
+        ASKED,
+        "when $a == 5 +most",
+        "raises com.sun.star.uno.RuntimeException: 'range' -",
+    ),
+    (
+        ASKED,
+        "raise t.Refused +most",
+        "raises com.sun.star.uno.RuntimeException: 'range' -",
+    ),
+    (DEEPEST, "let x $a", "lets x <?>"),
+    (DEEPEST, "call $peer $a", "calls C;2 3 to - with <?>"),
+    (
+        DEEP,
+        "call $peer $a",
+        "raises com.sun.star.uno.RuntimeException: 'too deep' -",
+    ),
+    (DEEPEST, "return $a", "returns <?> with 7"),
+    (
+        DEEPEST,
+        "raise t.Refused $a",
+        "raises com.sun.star.uno.RuntimeException: 'too deep' -",
+    ),
+];
+
+/// Rows of large values.
+const LARGE_ROWS: &[(Case, &str, &str)] = &[
+    (
         LARGE,
         "let x $a",
         "raises com.sun.star.uno.RuntimeException: 'too large' -",
     ),
+    (HEAVIEST, "let x $a", "lets x ?"),
     (
-        DEEP,
-        "let x $a",
-        "raises com.sun.star.uno.RuntimeException: 'too deep' -",
+        HEAVIEST,
+        "call $peer $a",
+        "raises com.sun.star.uno.RuntimeException: 'too large' -",
+    ),
+    (
+        FULL_AND_LARGE,
+        "call $peer $a",
+        "raises com.sun.star.uno.RuntimeException: 'depth' -",
+    ),
+    (
+        HEAVIEST,
+        "return $a",
+        "raises com.sun.star.uno.RuntimeException: 'too large' -",
+    ),
+    (
+        HEAVIEST,
+        "raise t.Refused $a",
+        "raises com.sun.star.uno.RuntimeException: 'too large' -",
     ),
 ];
 
@@ -172,18 +260,32 @@ fn see(
     }
 }
 
-fn see_all(rt: &impl Abort, alloc: Global, registry: &Registry)
+fn see_all(
+    rt: &impl Abort,
+    alloc: Global,
+    registry: &Registry,
+    rows: &[(Case, &'static str, &'static str)],
+)
     requires { IsSound registry.now }
 {
-    for row in ROWS {
+    for row in rows {
         see(rt, alloc, registry, row);
+    }
+}
+
+fn see_rows(rt: &impl Abort, alloc: Global, rows: &[(Case, &'static str, &'static str)]) {
+    match sound_registry(alloc) {
+        Ok(registry) => see_all(rt, alloc, &registry, rows),
+        Err(NoMemory) => panic!(rt; "no registry"),
     }
 }
 
 #[test]
 fn statements_ask_what_the_rows_say(rt: HostRuntime) {
-    match sound_registry(rt.alloc()) {
-        Ok(registry) => see_all(&rt, rt.alloc(), &registry),
-        Err(NoMemory) => panic!(&rt; "no registry"),
-    }
+    see_rows(&rt, rt.alloc(), ROWS);
+}
+
+#[test]
+fn large_values_are_no_more_than_a_message_may_weigh(rt: HostRuntime) {
+    see_rows(&rt, rt.alloc(), LARGE_ROWS);
 }

@@ -4,6 +4,8 @@
 #[cfg(test)]
 mod effects;
 #[cfg(test)]
+mod roots;
+#[cfg(test)]
 mod services;
 #[cfg(test)]
 mod stacks;

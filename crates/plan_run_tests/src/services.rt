@@ -163,7 +163,7 @@ fn add_all(alloc: Global, registry: &mut Registry, words: &str) -> Result<(), No
     add(alloc, registry, SINGLETON, singleton(alloc)?)
 }
 
-fn sound_registry(alloc: Global, words: &str) -> Result<Registry, NoMemory>
+pub(crate) fn sound_registry(alloc: Global, words: &str) -> Result<Registry, NoMemory>
     ensures { IfOk result (λ registry. IsSound registry) }
 {
     let mut registry = Registry::new(alloc)?;
@@ -209,7 +209,7 @@ fn fill(alloc: Global, plan: &mut Plan, words: &str) -> Result<(), NoMemory> {
 }
 
 /// A plan whose one behaviour has these fields, with a service and a singleton of it.
-fn plan(alloc: Global, words: &str) -> Result<Plan, NoMemory> {
+pub(crate) fn plan(alloc: Global, words: &str) -> Result<Plan, NoMemory> {
     let mut plan = empty_plan(alloc);
     fill(alloc, &mut plan, words)?;
     Ok(plan)
@@ -236,7 +236,7 @@ fn held(alloc: Global, word: &str) -> Result<AnyValue, NoMemory> {
     })
 }
 
-fn arguments(alloc: Global, words: &str) -> Result<Vec<Value>, NoMemory> {
+pub(crate) fn arguments(alloc: Global, words: &str) -> Result<Vec<Value>, NoMemory> {
     let mut all = Vec::new(alloc);
     for word in words.split(' ') {
         if !word.is_empty() {
@@ -265,7 +265,7 @@ fn show_any(alloc: Global, shown: &mut String, value: &Value) -> Result<(), NoMe
     Ok(())
 }
 
-fn show(alloc: Global, shown: &mut String, value: &Value) -> Result<(), NoMemory> {
+pub(crate) fn show(alloc: Global, shown: &mut String, value: &Value) -> Result<(), NoMemory> {
     let Value::List(_, elements) = value else {
         return show_any(alloc, shown, value)
     };

@@ -1,8 +1,8 @@
 //! Stacks, by scripts: each row has calls, and what they answer.
 //!
 //! `push a b1` (the frame of a root), `push a m2` (of a method), `push a o3` (of a call that went out), `pop a`, `top a`,
-//! `answer a`, `set a b1`, `depth a`, `nth 0`, `ready 0`. A frame is answered as it is written, a TID by its letter, none as `-`, `NobodyWaits`
-//! as `!`; a push and a set answer nothing.
+//! `answer a`, `waits a`, `set a b1`, `depth a`, `nth 0`, `ready 0`. A frame is answered as it is written, a call that waits by its function,
+//! which is 3, a TID by its letter, none as `-`, `NobodyWaits` as `!`; a push and a set answer nothing.
 use call_stacks::{NobodyWaits, Stacks};
 use plan_types::{Body, Frame, Outgoing};
 use std::alloc::Global;
@@ -15,6 +15,10 @@ const ROWS: &[(&str, &str)] = &[
     ("push a b1,top a,answer a,top a", " b1 ! b1"),
     ("push a m2,answer a,depth a", " ! 1"),
     ("push a b1,push a o3,answer a,top a,depth a", " o3 b1 1"),
+    (
+        "waits a,push a b1,waits a,push a o3,waits a,push a m4,waits a",
+        " - - 3 -",
+    ),
     (
         "push a b1,push a m2,set a m4,pop a,pop a,pop a,depth a",
         " m4 b1 - 0",
@@ -106,6 +110,17 @@ fn say(said: &mut String, letter: char, number: u64) -> Result<(), NoMemory> {
     say_digit(said, number)
 }
 
+fn say_function(said: &mut String, call: Option<(&Name, u16)>) -> Result<(), NoMemory> {
+    said.push(' ')?;
+    match call {
+        Some((_, function)) => say_digit(said, u64::from(function)),
+        None => {
+            said.push('-')?;
+            Ok(())
+        }
+    }
+}
+
 fn say_digit(said: &mut String, number: u64) -> Result<(), NoMemory> {
     let digit = char::from(b'0' + (number % 10) as u8);
     said.push(digit)?;
@@ -130,6 +145,7 @@ fn ask(stacks: &mut Stacks, what: &str, tid: &Tid, said: &mut String) -> Result<
             say_frame(said, frame.as_ref())
         }
         "top" => say_frame(said, stacks.top(tid)),
+        "waits" => say_function(said, stacks.waiting_call(tid.as_bytes())),
         "depth" => {
             said.push(' ')?;
             say_digit(said, stacks.depth(tid))

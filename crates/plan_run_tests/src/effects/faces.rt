@@ -1,4 +1,4 @@
-//! An interface with the functions `ask` and `idle`, and the exception that they declare.
+//! An interface with the functions `ask` and `idle`, the exception that they declare, and one that derives from it.
 ghost use Rattle.std.specs.Prelude.{IfOk};
 ghost use Rattle.uno_model.specs.Sound.{IsSound};
 
@@ -69,8 +69,8 @@ fn interface(alloc: Global) -> Result<Body, NoMemory> {
     Ok(Body::Interface { bases, members })
 }
 
-fn exception(alloc: Global) -> Result<Body, NoMemory> {
-    let base = Name::of(alloc, "com.sun.star.uno.Exception")?;
+fn exception(alloc: Global, base: &str) -> Result<Body, NoMemory> {
+    let base = Name::of(alloc, base)?;
     Ok(Body::Exception {
         base: Some(base),
         members: Vec::new(alloc),
@@ -78,7 +78,13 @@ fn exception(alloc: Global) -> Result<Body, NoMemory> {
 }
 
 fn add_all(alloc: Global, registry: &mut Registry) -> Result<(), NoMemory> {
-    add(alloc, registry, REFUSED, exception(alloc)?)?;
+    add(
+        alloc,
+        registry,
+        REFUSED,
+        exception(alloc, "com.sun.star.uno.Exception")?,
+    )?;
+    add(alloc, registry, "t.Worse", exception(alloc, REFUSED)?)?;
     add(alloc, registry, FACE, interface(alloc)?)
 }
 

@@ -8,18 +8,29 @@ use uno_base::NoMemory;
 use uno_types::{Name, Text, Tid, TypeName};
 use uno_values::{AnyValue, Reference, Value};
 
-/// A digit, bytes that weigh more than a value may, or anys in one another to 65 levels.
+/// A digit, bytes that weigh 16,777,216 or more, or anys in one another to 64 or 65 levels.
 fn given(alloc: Global, word: &str) -> Result<Value, NoMemory> {
     match word {
-        "large" => Ok(Value::Bytes(b"x".repeat(alloc, 16_777_216)?)),
-        "deep" => nested(alloc),
+        "heaviest" => bytes(alloc, 11),
+        "large" => bytes(alloc, 12),
+        "deepest" => nested(alloc, 63),
+        "deep" => nested(alloc, 64),
         _ => Ok(Value::Long(number_in(word))),
     }
 }
 
-fn nested(alloc: Global) -> Result<Value, NoMemory> {
+/// So many bytes more than 16,777,200; a length of 5 bytes goes with them.
+fn bytes(alloc: Global, more: usize) -> Result<Value, NoMemory> {
+    let mut bytes = b"0123456789012345".repeat(alloc, 1_048_575)?;
+    for _ in 0..more {
+        bytes.push(b'x')?;
+    }
+    Ok(Value::Bytes(bytes))
+}
+
+fn nested(alloc: Global, anys: u32) -> Result<Value, NoMemory> {
     let mut value = Value::Long(5);
-    for _ in 0..64 {
+    for _ in 0..anys {
         value = any_of(alloc, value)?;
     }
     Ok(value)
@@ -39,7 +50,7 @@ fn peer(alloc: Global) -> Result<Value, NoMemory> {
     Ok(Value::Ref(Reference::Remote { oid, face }))
 }
 
-fn push_variable(
+pub(crate) fn push_variable(
     alloc: Global,
     variables: &mut Vec<Variable>,
     name: &str,

@@ -137,7 +137,15 @@ fn when_of(alloc: Global, text: &str) -> Result<Statement, NoMemory> {
 
 fn raise_of(alloc: Global, text: &str) -> Result<Statement, NoMemory> {
     let name = Name::of(alloc, nth(text, 1))?;
-    Ok(Statement::Raise(name, refusal(alloc, nth(text, 1))?))
+    Ok(Statement::Raise(name, raised(alloc, text)?))
+}
+
+fn raised(alloc: Global, text: &str) -> Result<Expression, NoMemory> {
+    let word = nth(text, 2);
+    if word.is_empty() {
+        return refusal(alloc, nth(text, 1));
+    }
+    expression_of(alloc, word)
 }
 
 /// An exception of this name, with a message and no context.

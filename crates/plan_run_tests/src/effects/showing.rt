@@ -1,5 +1,5 @@
 //! An effect as a text.
-use crate::services::show_plain;
+use crate::services::{show, show_plain};
 use behaviour::{Done, Effect};
 use plan_types::Variable;
 use std::alloc::Global;
@@ -20,7 +20,7 @@ fn show_reference(shown: &mut String, reference: &Reference) -> Result<(), NoMem
 fn show_value(alloc: Global, shown: &mut String, value: &Value) -> Result<(), NoMemory> {
     shown.push(' ')?;
     let Value::Ref(reference) = value else {
-        return show_plain(alloc, shown, value);
+        return show(alloc, shown, value);
     };
     show_reference(shown, reference)
 }
@@ -100,6 +100,18 @@ fn show_back(
     show_values(alloc, shown, outs)
 }
 
+fn show_creation(
+    alloc: Global,
+    shown: &mut String,
+    name: &str,
+    args: &[Value],
+) -> Result<(), NoMemory> {
+    shown.push_str("creates ")?;
+    shown.push_str(name)?;
+    shown.push_str(" with")?;
+    show_values(alloc, shown, args)
+}
+
 /// An exception's name and its members.
 fn show_raised(alloc: Global, shown: &mut String, value: &Value) -> Result<(), NoMemory> {
     shown.push_str("raises ")?;
@@ -120,9 +132,9 @@ fn show_end(alloc: Global, shown: &mut String, effect: &Effect) -> Result<(), No
     match effect {
         Effect::Returns { value, outs } => show_back(alloc, shown, value, outs),
         Effect::Raises(any) => show_raised(alloc, shown, &any.value),
+        Effect::Creates { name, args } => show_creation(alloc, shown, name.as_str(), args),
         Effect::Disposes => show_word(shown, "disposes"),
-        Effect::Skips => show_word(shown, "skips"),
-        _ => show_word(shown, "creates"),
+        _ => show_word(shown, "skips"),
     }
 }
 

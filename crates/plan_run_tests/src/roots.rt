@@ -1,0 +1,17 @@
+//! A root at its beginning.
+use behaviour::RootRun;
+use std::process::Abort;
+use uno_base::NoMemory;
+use uno_types::Text;
+
+#[test]
+fn a_root_begins_with_its_name_and_nothing_else(rt: HostRuntime) -> Result<(), NoMemory> {
+    let root = RootRun::new(rt.alloc(), 2, Text::of(rt.alloc(), "node")?);
+    assert_eq!(rt; root.root, 2);
+    assert_eq!(rt; root.place, 0);
+    assert_eq!(rt; root.instance.as_str(), "node");
+    assert!(rt; root.variables.is_empty());
+    assert!(rt; root.lines.is_empty());
+    assert!(rt; root.loose.is_empty());
+    Ok(())
+}

@@ -1,0 +1,70 @@
+//! Lines of a root.
+use crate::lines::{Place, Row};
+use plan_types::LineReason::{Form, Misfit, Twice, Unknown};
+
+/// A root with a variable; behind 5 lines.
+pub(crate) const PLACE: Place = Place {
+    front: "unoplan 1\nbehaviour Node t.XNode\nend\nthread\nask q t.XNode = \"node\"\n",
+    back: "end\n",
+};
+
+pub(crate) const TAKEN: &[&str] = &[
+    "ask r t.XBase = instance\ncall n long = $r.id()\nsame $q $r\nsame $n $r",
+    "new r t.XNode = Node\nquery s t.XOther = $r\ndrop $r\nnew r t.XBase = Node",
+    "call $q.number(7)\ncall $q.anything((t.Point){1,2})",
+    "call x t.XNode = $q.pass($q,$q,$q)",
+    "drop $q\ndispose",
+];
+
+pub(crate) const WRONG: &[Row] = &[
+    ("ask r t.XNode = node", 6, Form),
+    ("ask r t.Nope = \"node\"", 6, Unknown),
+    ("ask q t.XNode = \"node\"", 6, Twice),
+    ("ask r t.Point = \"node\"", 6, Misfit),
+    ("ask r = instance", 6, Form),
+    ("ask r t.Nope = instance", 6, Unknown),
+    ("ask q t.XNode = instance", 6, Twice),
+    ("ask r t.Point = instance", 6, Misfit),
+    ("call $self.nothing()", 6, Form),
+    ("call $.n.nothing()", 6, Form),
+    ("call $q.number($.n)", 6, Form),
+    ("call $q.number(add(1,2))", 6, Form),
+    ("call $q.pass($self,$q,$q)", 6, Form),
+    ("call $q.anything((t.XNode)$self)", 6, Form),
+    ("call $r.nothing()", 6, Unknown),
+    ("call $q.numbers(1)", 6, Unknown),
+    ("call x t.Nope = $q.number(1)", 6, Unknown),
+    ("call $q.number($r)", 6, Unknown),
+    ("call q long = $q.number(1)", 6, Twice),
+    ("call $q.number(true)", 6, Misfit),
+    ("call x string = $q.number(1)", 6, Misfit),
+    ("query x t.XNode = $self", 6, Form),
+    ("query x t.Nope = $q", 6, Unknown),
+    ("query x t.XNode = $r", 6, Unknown),
+    ("query q t.XNode = $q", 6, Twice),
+    ("query x long = $q", 6, Misfit),
+    ("new x t.XNode = \"Node\"", 6, Form),
+    ("new x t.Nope = Node", 6, Unknown),
+    ("new x t.XNode = Nope", 6, Unknown),
+    ("new q t.XNode = Node", 6, Twice),
+    ("new x t.XOther = Node", 6, Misfit),
+    ("drop $self", 6, Form),
+    ("drop $r", 6, Unknown),
+    ("same $q", 6, Form),
+    ("same $q $r", 6, Unknown),
+    ("same $r $q", 6, Unknown),
+    ("dispose now", 6, Form),
+    ("behaviour Other t.XBase", 6, Form),
+    ("field x long", 6, Form),
+    ("method t.XNode nothing", 6, Form),
+    ("service t.Plain Node", 6, Form),
+    ("singleton t.one Node", 6, Form),
+    ("export \"node\" Node", 6, Form),
+    ("thread", 6, Form),
+    ("let x long = 1", 6, Form),
+    ("set $q = null", 6, Form),
+    ("set $.n = 1", 6, Form),
+    ("when $q == null return", 6, Form),
+    ("return", 6, Form),
+    ("raise t.Refused {\"\",null,7}", 6, Form),
+];
