@@ -31,7 +31,7 @@ fn are_entered(alloc: Global) -> Result<bool, NoMemory> {
         journal.entries(),
         [Entry::Reaped { object: 3 }, Entry::Disposed]
     );
-    Ok(first && second && !third && right && journal.stamps() == [0, 7])
+    Ok(first && second && !third && right && journal.stamps() == [0, 7].as_slice())
 }
 
 #[test]

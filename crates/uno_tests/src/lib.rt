@@ -46,6 +46,8 @@ mod refusing;
 #[cfg(test)]
 mod runs;
 #[cfg(test)]
+mod settings;
+#[cfg(test)]
 mod slots;
 #[cfg(test)]
 mod soundness;
@@ -67,6 +69,8 @@ mod telling;
 mod types;
 #[cfg(test)]
 mod values;
+#[cfg(test)]
+mod variables;
 #[cfg(test)]
 mod waiting;
 #[cfg(test)]
