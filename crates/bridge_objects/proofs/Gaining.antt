@@ -4,7 +4,7 @@ use Rattle.std.proofs.lemmas.List.{map-append, take_more}
 use Rattle.std.proofs.lemmas.Bool.{true≢false}
 use Rattle.std.specs.Result.{is_err}
 use Rattle.uno_model.specs.Values.{Ref, null, own, peer}
-use Rattle.table_model.specs.Holdings.{Holdings, hold}
+use Rattle.table_model.specs.Holdings.{hold}
 use Rattle.table_model.specs.Pair.{pair}
 use Rattle.table_model.specs.declared.holder.Holder.{Holder}
 use Rattle.table_model.proofs.BagLaws.{one_less_one_more}

@@ -1,16 +1,14 @@
 -- What is kept, as a store and its tables are seen.
-use Rattle.std.proofs.Common.{◌≡◌, ℕ, suc, ◌+◌, ◌-◌, ◌≤◌, ◌<◌, ◌^◌, Bool, true, false, List, [], ◌∷◌, ◌++◌, map, Option, None, Some, IsSome, IfSome, IfNone, option_map, refl, sym, ap, ◌∙◌, subst, arith}
+use Rattle.std.proofs.Common.{◌≡◌, ℕ, suc, ◌+◌, ◌-◌, ◌≤◌, ◌<◌, ◌^◌, false, List, ◌++◌, map, Option, None, Some, IsSome, IfSome, IfNone, option_map, refl, sym, ap, ◌∙◌, subst, arith}
 use Rattle.std.specs.Prelude.{T}
 use Rattle.std.specs.Fmt.{decimal}
-use Rattle.std.specs.FinMap.{find, put, is_sorted}
+use Rattle.std.specs.FinMap.{is_sorted}
 use Rattle.std.specs.Option.{unwrap_or}
 use Rattle.std.specs.Ordering.{nat_cmp}
 use Rattle.uno_model.specs.Values.{Plain}
 use Rattle.table_model.specs.Holdings.{Holdings}
 use Rattle.table_model.specs.Objects as model
-use Rattle.table_model.specs.Rows.{without}
 use Rattle.table_model.specs.Stubs.{Stubs}
-use Rattle.bridge_model.specs.Objects.{object_numbered, without_object}
 use Rattle.bridge_objects.specs.Kept.{Kept, numbered, named, lowest, number_of, behaviour_of, fields_of, with_made, unmade, with_object_fields, removed}
 use Rattle.bridge_objects.specs.Marks.{free_at, AreMarked}
 use Rattle.bridge_objects.specs.Objects.{objects_of}

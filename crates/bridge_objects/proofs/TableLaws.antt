@@ -1,5 +1,5 @@
 -- What is kept here of the tables of an end, after each change of these.
-use Rattle.std.proofs.Common.{◌≡◌, ℕ, suc, List, [], ◌∷◌, refl, sym, ap, ◌∙◌}
+use Rattle.std.proofs.Common.{◌≡◌, ℕ, suc, List, [], ◌∷◌, refl, ap, ◌∙◌}
 use Rattle.uno_model.specs.Values.{Plain, Ref, null, own, peer}
 use Rattle.table_model.specs.declared.holder.Holder.{Holder}
 use Rattle.table_model.specs.declared.holder.Holder.TheVariants as holder
@@ -7,7 +7,7 @@ use Rattle.bridge_model.specs.Ends.{tables_at_end}
 use Rattle.bridge_model.specs.Objects as plain
 use Rattle.bridge_model.specs.References.{gains, gains_all, loses, loses_all, refs_of_values}
 use Rattle.bridge_model.specs.Settings.{Setting, own_oid}
-use Rattle.bridge_model.specs.Sides.{Object, Tables}
+use Rattle.bridge_model.specs.Sides.{Tables}
 use Rattle.bridge_model.specs.declared.cause.Cause.{Cause}
 use Rattle.bridge_objects.specs.Kept.{Kept, named, lowest, with_made, ended}
 use Rattle.bridge_objects.specs.Tables.{kept_of, with_kept, gained, gained_all, lost, lost_all}

@@ -1,5 +1,5 @@
 -- What of an end of a bridge is kept here: its objects, who holds which pair, and the stubs.
-use Rattle.std.specs.Prelude.{◌≡◌, ℕ, suc, ◌-◌, Bool, not, ◌&&◌, nat_lt, List, [], ◌∷◌, ◌++◌, Option}
+use Rattle.std.specs.Prelude.{ℕ, suc, ◌-◌, Bool, not, ◌&&◌, nat_lt, List, [], ◌∷◌, ◌++◌, Option}
 use Rattle.std.specs.Fmt.{decimal}
 use Rattle.std.specs.List.{filter, find}
 use Rattle.std.specs.Option.{option_map}

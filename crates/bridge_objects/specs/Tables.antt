@@ -1,7 +1,7 @@
 -- What is kept here of the tables of an end.
 use Rattle.std.specs.Prelude.{length, List, [], ◌∷◌}
 use Rattle.uno_model.specs.Values.{Ref, null, own, peer}
-use Rattle.table_model.specs.Holdings.{hold, held, let_go}
+use Rattle.table_model.specs.Holdings.{hold}
 use Rattle.table_model.specs.Pair.{pair}
 use Rattle.table_model.specs.declared.holder.Holder.{Holder}
 use Rattle.plan_model.specs.Plans.{first_objects}

@@ -40,8 +40,14 @@ impl Objects {
     {
         match reference {
             Reference::Null => Ok(()),
-            Reference::Local { oid, face } => self.hold(holder, oid, face).map(|_| ()),
-            Reference::Remote { oid, face } => self.hold(holder, oid, face).map(|_| ()),
+            Reference::Local { oid, face } => {
+                self.hold(holder, oid, face)?;
+                Ok(())
+            }
+            Reference::Remote { oid, face } => {
+                self.hold(holder, oid, face)?;
+                Ok(())
+            }
         }
     }
 
@@ -52,10 +58,10 @@ impl Objects {
         match reference {
             Reference::Null => {}
             Reference::Local { oid, face } => {
-                self.let_go(holder, oid, face).ok();
+                let _last = self.let_go(holder, oid, face);
             }
             Reference::Remote { oid, face } => {
-                self.let_go(holder, oid, face).ok();
+                let _last = self.let_go(holder, oid, face);
             }
         }
     }

@@ -1,4 +1,4 @@
-use Rattle.std.proofs.Common.{◌∙◌, ap, sym, arith, ◌++◌}
+use Rattle.std.proofs.Common.{◌∙◌, ap, arith, ◌++◌}
 use Rattle.std.specs.Fmt.{decimal}
 use Rattle.table_model.specs.Objects.{object}
 use Rattle.bridge_objects.proofs.Lists.{at_none}

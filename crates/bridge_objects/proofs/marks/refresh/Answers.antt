@@ -1,8 +1,7 @@
-use Rattle.std.proofs.Common.{◌∙◌, ap, sym, cond}
+use Rattle.std.proofs.Common.{◌∙◌, ap, sym}
 use Rattle.std.specs.FinMap.{put}
 use Rattle.std.specs.Ordering.{nat_cmp}
 use Rattle.uno_values.specs.Values.{plain_of}
-use Rattle.bridge_objects.specs.Marks.{free_at}
 use Rattle.bridge_objects.specs.Objects.{objects_of}
 use Rattle.bridge_objects.proofs.Lists.{the_one, marked_same}
 use Rattle.bridge_objects.proofs.Marking.{marked_one}

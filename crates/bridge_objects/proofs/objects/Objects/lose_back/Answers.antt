@@ -1,4 +1,4 @@
-use Rattle.std.proofs.Common.{◌≡◌, ◌∙◌, ◌+◌, ◌-◌, ap, sym, arith, map, take}
+use Rattle.std.proofs.Common.{◌≡◌, ◌∙◌, ◌+◌, ◌-◌, ap, arith, map, take}
 use Rattle.uno_values.specs.References.{ref_of}
 use Rattle.bridge_objects.specs.Tables.{gained_all}
 use Rattle.bridge_objects.proofs.Gaining.{lost_again, none_gained}

@@ -1,4 +1,4 @@
-use Rattle.std.proofs.Common.{◌∙◌, ap, refl, sym, subst, map}
+use Rattle.std.proofs.Common.{◌∙◌, refl, sym, subst}
 use Rattle.uno_values.specs.Values.{plain_of}
 use Rattle.bridge_objects.specs.Marks.{free_at, AreMarked}
 use Rattle.bridge_objects.proofs.Lists.{some_one, no_one}

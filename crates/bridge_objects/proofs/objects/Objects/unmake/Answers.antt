@@ -1,4 +1,4 @@
-use Rattle.std.proofs.Common.{◌∙◌, ap, sym, subst, Some, None, ◌<◌}
+use Rattle.std.proofs.Common.{◌∙◌, ap, sym, subst, ◌<◌}
 use Rattle.uno_values.specs.Values.{plain_of}
 use Rattle.bridge_objects.specs.Kept.{numbered, fields_of}
 use Rattle.bridge_objects.specs.Marks.{free_at, AreMarked}
