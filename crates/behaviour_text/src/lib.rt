@@ -19,8 +19,6 @@ mod read;
 mod scope;
 mod statements;
 mod step;
-#[cfg(test)]
-mod tests;
 mod typing;
 mod variables;
 mod words;

@@ -4,8 +4,6 @@
 mod marks;
 mod naming;
 mod objects;
-#[cfg(test)]
-mod tests;
 mod threads;
 
 pub use env_table::NotHeld;

@@ -18,7 +18,7 @@ use Rattle.uno_model.specs.Values.{Ref, null, own, peer}
 use Rattle.uno_model.specs.Weights.{compressed_weight, text_weight}
 use Rattle.urp_model.specs.Namings.{Naming}
 use Rattle.table_model.specs.Bags.{how_many, one_more, one_less}
-use Rattle.table_model.specs.Holdings.{Hold, hold, hold_cmp, Holdings}
+use Rattle.table_model.specs.Holdings.{Hold, hold, hold_cmp, Holdings, outlasts}
 use Rattle.table_model.specs.Pair.{Pair, pair, pair_cmp}
 use Rattle.table_model.specs.Rows.{without}
 use Rattle.table_model.specs.Stubs.{Stubs, stub, sent_again, sent_one, is_last, released_from, released_one}
@@ -27,7 +27,7 @@ use Rattle.table_model.specs.declared.stub.Stub.{Stub}
 use Rattle.table_model.proofs.BagLaws.{how_many_one_more}
 use Rattle.table_model.proofs.PairLaws.{same_pair}
 use Rattle.std.specs.FinMap as rows
-use Rattle.bridge_model.specs.Ends.{outlasts, tables_at_end}
+use Rattle.bridge_model.specs.Ends.{tables_at_end}
 use Rattle.bridge_model.specs.Objects.{object_supports}
 use Rattle.bridge_model.specs.References.{counts_one, counts_sent, says, releases, gains, gains_all, is_held, takes, takes_all, loses, loses_all, gives_back, holds_ref, lets_go, lets_go_all}
 use Rattle.bridge_model.specs.Saying.{IsSayable, AreSayable}

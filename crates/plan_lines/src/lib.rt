@@ -14,8 +14,6 @@ mod read;
 mod statements;
 mod term;
 mod terms;
-#[cfg(test)]
-mod tests;
 mod types;
 mod unread;
 mod words;

@@ -9,4 +9,6 @@ mod limits;
 #[cfg(test)]
 mod lines;
 #[cfg(test)]
+mod single_lines;
+#[cfg(test)]
 mod texts;

@@ -38,6 +38,8 @@ mod names;
 #[cfg(test)]
 mod nesting;
 #[cfg(test)]
+mod objects;
+#[cfg(test)]
 mod order;
 #[cfg(test)]
 mod passing;

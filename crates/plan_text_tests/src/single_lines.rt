@@ -1,5 +1,5 @@
-//! Which lines are read, in the registry of the built-in entities.
-use crate::{Words, read_line};
+//! Single lines: which are read, in the registry of the built-in entities.
+use plan_lines::{Words, read_line};
 use std::alloc::Global;
 use std::process::Abort;
 use uno_base::NoMemory;

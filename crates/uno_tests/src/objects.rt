@@ -1,7 +1,7 @@
 //! The objects of an end with the tag `S`, of which the first never goes; memory is ample.
-use crate::{Holder, NotHeld, Objects, Unowed};
+use crate::judging::see;
+use bridge_objects::{Holder, NotHeld, Objects, Unowed};
 use std::alloc::Global;
-use std::process::Abort;
 use uno_base::NoMemory;
 use uno_entities::{Name, Tag, Text};
 use uno_values::Value;
@@ -118,12 +118,8 @@ fn some_go(alloc: Global) -> Result<bool, NoMemory> {
 
 #[test]
 fn marks_say_which_objects_may_go(rt: HostRuntime) {
-    see(&rt, two_hold(rt.alloc()) == Ok(true));
-    see(&rt, one_is_sent(rt.alloc()) == Ok(true));
-    see(&rt, all_ends(rt.alloc()) == Ok(true));
-    see(&rt, some_go(rt.alloc()) == Ok(true));
-}
-
-fn see(rt: &impl Abort, right: bool) {
-    assert!(rt; right);
+    see(&rt, two_hold(rt.alloc()) == Ok(true), "held twice");
+    see(&rt, one_is_sent(rt.alloc()) == Ok(true), "sent twice");
+    see(&rt, all_ends(rt.alloc()) == Ok(true), "the end");
+    see(&rt, some_go(rt.alloc()) == Ok(true), "taken back");
 }
