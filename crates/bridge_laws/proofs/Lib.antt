@@ -43,6 +43,7 @@ pub mod PayingLaws
 pub mod PieceLaws
 pub mod PlanConstantLaws
 pub mod ReapingLaws
+pub mod RestLaws
 pub mod Replays
 pub mod RootEntryLaws
 pub mod RootSideLaws

@@ -4,5 +4,6 @@ pub mod Cutting
 pub mod Ended
 pub mod Living
 pub mod OfPlan
+pub mod Resting
 pub mod Rooted
 pub mod Standing

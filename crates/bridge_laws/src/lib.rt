@@ -25,4 +25,7 @@ pub use speaking_laws::{
     what_is_drained_and_waits_is_what_was_said, what_is_drained_is_a_front_of_what_was_said,
 };
 pub use standing_laws::what_was_used_is_held_or_released;
-pub use step_laws::{entries_are_counted, messages_come_by_bytes_alone, what_has_ended_stays_so};
+pub use step_laws::{
+    an_entry_keeps_the_rest, entries_are_counted, messages_come_by_bytes_alone,
+    what_has_ended_stays_so,
+};
