@@ -18,8 +18,6 @@ mod fitting;
 #[cfg(test)]
 mod front_page;
 #[cfg(test)]
-mod journals;
-#[cfg(test)]
 mod judging;
 #[cfg(test)]
 mod limits;
@@ -38,17 +36,11 @@ mod names;
 #[cfg(test)]
 mod nesting;
 #[cfg(test)]
-mod objects;
-#[cfg(test)]
 mod order;
-#[cfg(test)]
-mod passing;
 #[cfg(test)]
 mod refusing;
 #[cfg(test)]
 mod runs;
-#[cfg(test)]
-mod settings;
 #[cfg(test)]
 mod slots;
 #[cfg(test)]
@@ -71,8 +63,6 @@ mod telling;
 mod types;
 #[cfg(test)]
 mod values;
-#[cfg(test)]
-mod variables;
 #[cfg(test)]
 mod waiting;
 #[cfg(test)]

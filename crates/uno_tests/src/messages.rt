@@ -3,7 +3,7 @@ use crate::entities::texts::CALLED;
 use crate::entities::{registry_of, sound};
 use crate::judging::made;
 use crate::waiting::Waiting;
-use crate::{listening, nesting, passing, refusing, speaking, variables};
+use crate::{listening, nesting, refusing, speaking};
 
 #[test]
 fn messages_are_read_or_refused_for_the_first_reason_and_written(rt: HostRuntime) {
@@ -13,8 +13,6 @@ fn messages_are_read_or_refused_for_the_first_reason_and_written(rt: HostRuntime
     refusing::judge(&rt, rt.alloc(), &registry, &expect);
     nesting::judge(&rt, rt.alloc(), &registry, &expect);
     speaking::judge(&rt, rt.alloc(), &registry);
-    passing::judge(&rt, rt.alloc(), &registry);
-    variables::judge(&rt, rt.alloc(), &registry);
     drop(expect);
     drop(registry);
 }

@@ -15,7 +15,7 @@ use urp_message::{Answer, Message, Speaker, may_be_said, weight_of};
 const MANY: &str = "demo.XMany";
 
 /// What is said of the object `S;1`; on the thread `T` where no other is named.
-pub(crate) enum Said {
+enum Said {
     /// A call of the function of the interface, with one argument.
     Calls(&'static str, u16, &'static str),
     /// A release on the thread `U`.
@@ -27,10 +27,10 @@ pub(crate) enum Said {
 }
 
 /// What is said, and its block.
-pub(crate) type Row = (Said, &'static [u8]);
+type Row = (Said, &'static [u8]);
 
 /// What speakers say, each from the start.
-pub(crate) const TALKS: &[&[Row]] = &[
+const TALKS: &[&[Row]] = &[
     &[
         (
             Said::Calls(MANY, 3, "byte=7"),
@@ -90,7 +90,7 @@ pub(crate) const TALKS: &[&[Row]] = &[
 ];
 
 /// The message of a row.
-pub(crate) fn message(rt: &impl Abort, alloc: Global, said: &Said) -> Message {
+fn message(rt: &impl Abort, alloc: Global, said: &Said) -> Message {
     match said {
         Said::Calls(face, function, words) => Message::Request {
             tid: made(rt, Tid::of(alloc, b"T")),
@@ -133,7 +133,7 @@ fn reply(rt: &impl Abort, alloc: Global, function: u16, answer: Answer) -> Messa
 }
 
 /// The most that a message may weigh.
-pub(crate) const MOST: u64 = 16_777_216;
+const MOST: u64 = 16_777_216;
 
 /// Whether a message is written as this block.
 fn is_written(
