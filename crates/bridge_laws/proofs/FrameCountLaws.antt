@@ -9,7 +9,7 @@ use Rattle.plan_model.specs.Holdings.{goes_on, let_go_at_end, refs_under}
 use Rattle.plan_model.specs.Leaving.{leaving_frame}
 use Rattle.bridge_model.specs.Calls.{Unwound, unwound}
 use Rattle.bridge_model.specs.Handing.{statement_at, taken_by, goes_on_with, root_gets, lets_go_frame, answers_peer, holder_of, gains_with, gains_below, takes_with, takes_below, hands_over, hands, hands_down, ends_frame, hands_from_peer}
-use Rattle.bridge_model.specs.References.{says, releases, is_held, takes, takes_all, loses, gives_back, holds_ref, lets_go, lets_go_all, refs_of_values, refs_of_answer}
+use Rattle.bridge_model.specs.References.{says, releases, is_held, takes, takes_all, loses, stays, gives_back, holds_ref, lets_go, lets_go_all, refs_of_values, refs_of_answer}
 use Rattle.bridge_model.specs.Settings.{Setting, own_oid}
 use Rattle.bridge_model.specs.Sides.{Object, RootState, idle, waits_call, waits_query, answered, Tables, state_of}
 use Rattle.bridge_laws.specs.Counting.{total}
@@ -93,7 +93,7 @@ kept_objects g false oid face t = refl
 back_objects : (g : Setting) (who : Holder) (r : Ref) (t : Tables) → (gives_back g r (loses who r t)).objects ≡ t.objects
 back_objects g who null t = refl
 back_objects g who (own oid face) t = refl
-back_objects g who (peer oid face) t = kept_objects g (is_held oid face (loses who (peer oid face) t)) oid face (loses who (peer oid face) t)
+back_objects g who (peer oid face) t = kept_objects g (stays g oid face (loses who (peer oid face) t)) oid face (loses who (peer oid face) t)
 
 one_of : (b : Bool) (u t : Tables) → u.objects ≡ t.objects → (if b then u else t).objects ≡ t.objects
 one_of true u t same = same

@@ -9,7 +9,7 @@ use Rattle.table_model.specs.Stubs.{Stubs}
 use Rattle.table_model.specs.declared.holder.Holder.{Holder}
 use Rattle.table_model.specs.declared.holder.Holder.TheVariants as holder
 use Rattle.bridge_model.specs.Objects.{defaults_of, makes_object, makes_default, makes_all}
-use Rattle.bridge_model.specs.References.{counts_sent, says, releases, gains, gains_all, is_held, takes, takes_all, loses, loses_all, gives_back, holds_ref, lets_go, lets_go_all, refs_of_values}
+use Rattle.bridge_model.specs.References.{counts_sent, says, releases, gains, gains_all, is_held, takes, takes_all, loses, loses_all, stays, gives_back, holds_ref, lets_go, lets_go_all, refs_of_values}
 use Rattle.bridge_model.specs.Settings.{Setting, release_tid}
 use Rattle.bridge_model.specs.Sides.{Tables}
 
@@ -113,7 +113,7 @@ pub grows_gives_back : (g : Setting) (r : Ref) (t : Tables) → Grows g t (gives
 grows_gives_back g null t = grows_same g t
 grows_gives_back g (own oid face) t = grows_same g t
 grows_gives_back g (peer oid face) t =
-    grows_if g (is_held oid face t) t t (releases g oid face t) (grows_same g t) (grows_releases g oid face t)
+    grows_if g (stays g oid face t) t t (releases g oid face t) (grows_same g t) (grows_releases g oid face t)
 
 pub grows_lets_go : (g : Setting) (h : Holder) (r : Ref) (t : Tables) → Grows g t (lets_go g h r t)
 grows_lets_go g h r t =

@@ -12,7 +12,7 @@ use Rattle.table_model.specs.declared.holder.Holder.{Holder}
 use Rattle.table_model.specs.declared.holder.Holder.TheVariants as holder
 use Rattle.bridge_model.specs.Ends.{tables_at_end}
 use Rattle.bridge_model.specs.Objects.{object_named, makes_object, with_fields}
-use Rattle.bridge_model.specs.References.{counts_sent, says, releases, gains, gains_all, is_held, takes, takes_all, loses, loses_all, gives_back, holds_ref, lets_go, lets_go_all, refs_of_values}
+use Rattle.bridge_model.specs.References.{counts_sent, says, releases, gains, gains_all, is_held, takes, takes_all, loses, loses_all, stays, gives_back, holds_ref, lets_go, lets_go_all, refs_of_values}
 use Rattle.bridge_model.specs.Settings.{Setting, own_oid, release_tid}
 use Rattle.bridge_model.specs.Sides.{Object, Tables}
 use Rattle.bridge_model.specs.declared.cause.Cause.{Cause}
@@ -128,7 +128,7 @@ kept_unless g m live false oid face t alive = released_alive g m live oid face t
 gives_back_alive : (g : Setting) (m : ℕ) (live : List ℕ → Bool) (r : Ref) (t : Tables) → AliveIn g m live t → AliveIn g m live (gives_back g r t)
 gives_back_alive g m live null t alive = alive
 gives_back_alive g m live (own oid face) t alive = alive
-gives_back_alive g m live (peer oid face) t alive = kept_unless g m live (is_held oid face t) oid face t alive
+gives_back_alive g m live (peer oid face) t alive = kept_unless g m live (stays g oid face t) oid face t alive
 
 let_go_if : (g : Setting) (m : ℕ) (live : List ℕ → Bool) (b : Bool) (gone t : Tables) → AliveIn g m live gone → AliveIn g m live t → AliveIn g m live (if b then gone else t)
 let_go_if g m live true gone t after alive = after

@@ -12,7 +12,7 @@ use Rattle.table_model.specs.Pair.{pair}
 use Rattle.table_model.specs.declared.holder.Holder.{Holder}
 use Rattle.table_model.proofs.BagLaws.{how_many_one_more}
 use Rattle.table_model.proofs.HoldLaws.{same_hold}
-use Rattle.bridge_model.specs.References.{says, releases, gains, gains_all, is_held, takes, takes_all, loses, loses_all, gives_back, holds_ref, lets_go, lets_go_all}
+use Rattle.bridge_model.specs.References.{says, releases, gains, gains_all, is_held, takes, takes_all, loses, loses_all, stays, gives_back, holds_ref, lets_go, lets_go_all}
 use Rattle.bridge_model.specs.Settings.{Setting}
 use Rattle.bridge_model.specs.Sides.{Object, Tables}
 use Rattle.bridge_laws.specs.Counting.{total, one_if}
@@ -157,7 +157,7 @@ kept_unless g false oid face h n t fine = fine
 gives_back_covers : (g : Setting) (r : Ref) (h : Hold) (n : ℕ) (t : Tables) → Covers h n t → Covers h n (gives_back g r t)
 gives_back_covers g null h n t fine = fine
 gives_back_covers g (own oid face) h n t fine = fine
-gives_back_covers g (peer oid face) h n t fine = kept_unless g (is_held oid face t) oid face h n t fine
+gives_back_covers g (peer oid face) h n t fine = kept_unless g (stays g oid face t) oid face h n t fine
 
 let_go_if : (b : Bool) (h : Hold) (n less : ℕ) (before after : Tables) → Covers h n after → Covers h (n + less) before → Covers h n (if b then after else before)
 let_go_if true h n less before after gone fine = gone

@@ -1,5 +1,5 @@
 -- What is paid while references are gained, taken and let go: a pair of the peer's is held, or is released as often as it came.
-use Rattle.std.proofs.Common.{◌≡◌, ℕ, zero, suc, ◌+◌, ◌≤◌, ◌<◌, Bool, true, false, not, cond, ◌==◌, if◌then◌else◌, List, [], ◌∷◌, ◌++◌, refl, sym, ap, ◌∙◌, arith}
+use Rattle.std.proofs.Common.{◌≡◌, ℕ, zero, suc, ◌+◌, ◌≤◌, ◌<◌, Bool, true, false, not, ◌||◌, cond, ◌==◌, if◌then◌else◌, List, [], ◌∷◌, ◌++◌, refl, sym, ap, ◌∙◌, arith}
 use Rattle.std.proofs.lemmas.Bool.Decides.{nat_tests}
 use Rattle.std.proofs.lemmas.List.{append-nil}
 use Rattle.std.specs.Ordering.{eq_by_cmp}
@@ -15,7 +15,7 @@ use Rattle.table_model.specs.declared.holder.Holder.{Holder}
 use Rattle.table_model.proofs.BagLaws.{how_many_one_more}
 use Rattle.table_model.proofs.HoldLaws.{same_hold}
 use Rattle.table_model.proofs.PairLaws.{same_pair}
-use Rattle.bridge_model.specs.References.{says, releases, gains, gains_all, is_held, takes, takes_all, loses, gives_back, holds_ref, lets_go, lets_go_all}
+use Rattle.bridge_model.specs.References.{says, releases, gains, gains_all, is_held, takes, takes_all, loses, stays, gives_back, holds_ref, lets_go, lets_go_all}
 use Rattle.bridge_model.specs.Settings.{Setting, is_own, release_tid, is_told}
 use Rattle.bridge_model.specs.Sides.{Tables}
 use Rattle.bridge_laws.specs.Counting.{total, one_if, releases_of, is_peers}
@@ -169,6 +169,12 @@ is_held_as : (p : Pair) (oid face : List ℕ) (t : Tables) → is_pair p (pair o
 unfolding some_of
 is_held_as p oid face t is = ap (λ q. one_if (not (holders q t.holdings == 0))) (sym (same_pair p (pair oid face) ((Equal-is _).0 is)))
 
+-- a pair of the peer's stays where it is held
+stays_as : (g : Setting) (p : Pair) → is_own g p.oid ≡ false → (oid face : List ℕ) (t : Tables) → is_pair p (pair oid face) ≡ true → one_if (stays g oid face t) ≡ held_once p t.holdings
+stays_as g p foreign oid face t is =
+    let theirs : is_own g oid ≡ false = ap (λ q. is_own g q.oid) (sym (same_pair p (pair oid face) ((Equal-is _).0 is))) ∙ foreign in
+    ap (λ b. one_if (b || is_held oid face t)) theirs ∙ is_held_as p oid face t is
+
 take_step : (c held : Bool) (n m : ℕ) → m ≡ one_if c + n → (c ≡ true → one_if held ≡ some_of n) → one_if c + some_of n ≡ some_of m + cond held (one_if c) 0
 take_step true true n m is same = let here = same refl in let after = held_some m (omega arith) in omega arith
 take_step true false n m is same = let here = same refl in let after = held_some m (omega arith) in omega arith
@@ -243,7 +249,7 @@ goes g p foreign who (own oid face) t named true there =
     (less_same (one_if (is_pair p (pair oid face))) (holders p t.holdings) (holders p (let_go (hold who (pair oid face)) t.holdings)) (held_less p who (pair oid face) t.holdings there)
     (own_apart g p oid face foreign named))
 goes g p foreign who (peer oid face) t named true there =
-    go_peer g p who oid face t there (is_held oid face (loses who (peer oid face) t)) (is_held_as p oid face (loses who (peer oid face) t))
+    go_peer g p who oid face t there (stays g oid face (loses who (peer oid face) t)) (stays_as g p foreign oid face (loses who (peer oid face) t))
 
 pub pays_lets_go : (g : Setting) (p : Pair) → is_own g p.oid ≡ false → (who : Holder) (r : Ref) (t : Tables) → stray g r ≡ 0 → Pays p 0 t (lets_go g who r t)
 pays_lets_go g p foreign who r t named = goes g p foreign who r t named (holds_ref who r t) refl

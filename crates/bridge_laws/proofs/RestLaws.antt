@@ -18,7 +18,7 @@ use Rattle.bridge_model.specs.Going.{drains, reaps, reaps_object}
 use Rattle.bridge_model.specs.Handing.{root_gets}
 use Rattle.bridge_model.specs.Objects.{makes_object, defaults_of}
 use Rattle.bridge_model.specs.Receiving.{refusal, receives}
-use Rattle.bridge_model.specs.References.{says, releases, gains, gains_all, loses, loses_all, gives_back, lets_go, lets_go_all, holds_ref, is_held}
+use Rattle.bridge_model.specs.References.{says, releases, gains, gains_all, loses, loses_all, stays, gives_back, lets_go, lets_go_all, holds_ref, is_held}
 use Rattle.bridge_model.specs.Roots.{root_calls, root_queries, root_asks, root_makes, root_drops, root_takes, calls_unless, queries_unless, asks_unless, begins_call, begins_query}
 use Rattle.bridge_model.specs.Settings.{Setting, ref_of}
 use Rattle.bridge_model.specs.Sides.{Object, Tables, Side, stands}
@@ -75,7 +75,7 @@ steady_if false t u v a b = b
 steady_gives_back : (g : Setting) (r : Ref) (t : Tables) → Steady t (gives_back g r t)
 steady_gives_back g null t = steady t
 steady_gives_back g (own oid face) t = steady t
-steady_gives_back g (peer oid face) t = steady_if (is_held oid face t) t t (releases g oid face t) (steady t) (steady_says g _ t)
+steady_gives_back g (peer oid face) t = steady_if (stays g oid face t) t t (releases g oid face t) (steady t) (steady_says g _ t)
 
 steady_lets_go : (g : Setting) (h : Holder) (r : Ref) (t : Tables) → Steady t (lets_go g h r t)
 steady_lets_go g h r t =

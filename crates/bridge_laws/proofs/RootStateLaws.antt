@@ -7,7 +7,7 @@ use Rattle.table_model.specs.declared.holder.Holder.{Holder}
 use Rattle.table_model.specs.declared.holder.Holder.TheVariants as holder
 use Rattle.bridge_model.specs.Ends.{state_at_end}
 use Rattle.bridge_model.specs.Objects.{makes_object, defaults_of, makes_default, makes_all}
-use Rattle.bridge_model.specs.References.{says, releases, gains, gains_all, is_held, takes, takes_all, loses, loses_all, gives_back, holds_ref, lets_go, lets_go_all, refs_of_values}
+use Rattle.bridge_model.specs.References.{says, releases, gains, gains_all, is_held, takes, takes_all, loses, loses_all, stays, gives_back, holds_ref, lets_go, lets_go_all, refs_of_values}
 use Rattle.bridge_model.specs.Settings.{Setting}
 use Rattle.bridge_model.specs.Sides.{RootState, idle, waits_call, waits_query, answered, Tables, state_of, states_with}
 use Rattle.bridge_model.specs.declared.cause.Cause.{Cause}
@@ -96,7 +96,7 @@ stay_loses_all h (r ∷ rs) t = stay_loses_all h rs (loses h r t) ∙ stay_loses
 stay_gives_back : (g : Setting) (r : Ref) (t : Tables) → Stay t (gives_back g r t)
 stay_gives_back g null t = refl
 stay_gives_back g (own oid face) t = refl
-stay_gives_back g (peer oid face) t = stay_if (is_held oid face t) t t (releases g oid face t) refl (stay_says g oid face t)
+stay_gives_back g (peer oid face) t = stay_if (stays g oid face t) t t (releases g oid face t) refl (stay_says g oid face t)
 
 pub stay_lets_go : (g : Setting) (h : Holder) (r : Ref) (t : Tables) → Stay t (lets_go g h r t)
 stay_lets_go g h r t = stay_if (holds_ref h r t) t (gives_back g r (loses h r t)) t (stay_gives_back g r (loses h r t) ∙ stay_loses h r t) refl

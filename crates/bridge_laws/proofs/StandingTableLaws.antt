@@ -10,7 +10,7 @@ use Rattle.table_model.specs.declared.holder.Holder.{Holder}
 use Rattle.table_model.specs.declared.holder.Holder.TheVariants as holder
 use Rattle.table_model.proofs.BagLaws.{how_many_one_more}
 use Rattle.bridge_model.specs.Objects.{makes_object, makes_default, defaults_of}
-use Rattle.bridge_model.specs.References.{says, releases, gains, gains_all, is_held, takes, takes_all, loses, gives_back, holds_ref, lets_go, lets_go_all, refs_of_values}
+use Rattle.bridge_model.specs.References.{says, releases, gains, gains_all, is_held, takes, takes_all, loses, stays, gives_back, holds_ref, lets_go, lets_go_all, refs_of_values}
 use Rattle.bridge_model.specs.Settings.{Setting, is_own, release_tid}
 use Rattle.bridge_model.specs.Sides.{Tables}
 use Rattle.bridge_laws.specs.Counting.{total, releases_of}
@@ -139,7 +139,7 @@ unused_back : (p : Pair) (g : Setting) (who : Holder) (r : Ref) (t : Tables) →
 unused_back p g who null t = unused_none p t.unsaid
 unused_back p g who (own oid face) t = unused_none p t.unsaid
 unused_back p g who (peer oid face) t =
-    unused_if p (is_held oid face (loses who (peer oid face) t)) t.unsaid (loses who (peer oid face) t) (releases g oid face (loses who (peer oid face) t))
+    unused_if p (stays g oid face (loses who (peer oid face) t)) t.unsaid (loses who (peer oid face) t) (releases g oid face (loses who (peer oid face) t))
     (unused_none p t.unsaid)
     (unused_release p g oid face (loses who (peer oid face) t))
 

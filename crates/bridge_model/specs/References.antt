@@ -1,5 +1,5 @@
 -- Sending, receiving and letting go: what messages and values do to holdings and stubs (URP specification, releases).
-use Rattle.std.specs.Prelude.{ℕ, Bool, false, not, ◌==◌, List, [], ◌∷◌, ◌++◌, if◌then◌else◌}
+use Rattle.std.specs.Prelude.{ℕ, Bool, false, not, ◌||◌, ◌==◌, List, [], ◌∷◌, ◌++◌, if◌then◌else◌}
 use Rattle.std.specs.List.{flat_map}
 use Rattle.message_model.specs.MessageNamings.{message_namings}
 use Rattle.message_model.specs.Messages.{Answer, returned, raised, Message, release}
@@ -9,7 +9,7 @@ use Rattle.table_model.specs.Holdings.{hold, holders, holds, held, let_go}
 use Rattle.table_model.specs.Pair.{pair}
 use Rattle.table_model.specs.Stubs.{Stubs, sent_one}
 use Rattle.table_model.specs.declared.holder.Holder.{Holder}
-use Rattle.bridge_model.specs.Settings.{Setting, at_home, release_tid}
+use Rattle.bridge_model.specs.Settings.{Setting, is_own, at_home, release_tid}
 use Rattle.bridge_model.specs.Sides.{Tables}
 
 -- ---- sending
@@ -70,9 +70,12 @@ unfoldable pub loses_all : Holder → List Ref → Tables → Tables
 loses_all h [] t = t
 loses_all h (r ∷ rs) t = loses_all h rs (loses h r t)
 
--- a pair of the peer's that nobody holds any more is released
+-- a pair of the peer's that nobody holds any more is released; an object of this end never is
+abbrev pub stays : Setting → (oid face : List ℕ) → Tables → Bool
+stays g oid face t = is_own g oid || is_held oid face t
+
 abbrev pub gives_back : Setting → Ref → Tables → Tables
-gives_back g (peer oid face) t = if is_held oid face t then t else releases g oid face t
+gives_back g (peer oid face) t = if stays g oid face t then t else releases g oid face t
 gives_back g r t = t
 
 abbrev pub holds_ref : Holder → Ref → Tables → Bool

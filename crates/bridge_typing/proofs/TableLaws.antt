@@ -29,7 +29,7 @@ use Rattle.table_model.proofs.PairLaws.{same_pair}
 use Rattle.std.specs.FinMap as rows
 use Rattle.bridge_model.specs.Ends.{tables_at_end}
 use Rattle.bridge_model.specs.Objects.{object_supports}
-use Rattle.bridge_model.specs.References.{counts_one, counts_sent, says, releases, gains, gains_all, is_held, takes, takes_all, loses, loses_all, gives_back, holds_ref, lets_go, lets_go_all}
+use Rattle.bridge_model.specs.References.{counts_one, counts_sent, says, releases, gains, gains_all, is_held, takes, takes_all, loses, loses_all, stays, gives_back, holds_ref, lets_go, lets_go_all}
 use Rattle.bridge_model.specs.Saying.{IsSayable, AreSayable}
 use Rattle.bridge_model.specs.Settings.{Setting, prefix, root_tid, release_tid, own_oid}
 use Rattle.bridge_model.specs.Sides.{Object, Tables}
@@ -232,7 +232,7 @@ module _ (g : Setting) (given : IsGiven g) (os : List Object) (made : ℕ) where
   gives_back_fits : (r : Ref) (t : Tables) → wrong g os r ≡ 0 → TablesFit g os made t → TablesFit g os made (gives_back g r t)
   gives_back_fits null t fine fit = fit
   gives_back_fits (own oid face) t fine fit = fit
-  gives_back_fits (peer oid face) t fine fit = kept_unless (is_held oid face t) oid face t fine fit
+  gives_back_fits (peer oid face) t fine fit = kept_unless (stays g oid face t) oid face t fine fit
 
   let_go_if : (b : Bool) (gone t : Tables) → TablesFit g os made gone → TablesFit g os made t → TablesFit g os made (if b then gone else t)
   let_go_if true gone t after fit = after
