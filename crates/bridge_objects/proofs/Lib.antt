@@ -1,6 +1,7 @@
 mod Gaining
 mod Lists
 mod Marking
+mod NextFace
 mod Numbers
 mod Seen
 pub mod TableLaws

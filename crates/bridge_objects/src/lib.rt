@@ -1,6 +1,7 @@
 //! The objects of an end of a bridge, who holds which pair, the stubs, and which objects may go.
 #![tactic(auto)]
 
+mod calling;
 mod marks;
 mod naming;
 mod objects;

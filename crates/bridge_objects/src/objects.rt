@@ -6,6 +6,8 @@ ghost use Rattle.table_model.specs.Stubs.{stub};
 ghost use Rattle.std.specs.Option.{is_some};
 ghost use Rattle.uno_values.specs.Values.{plain_of};
 ghost use Rattle.bridge_model.specs.Objects.{has_stub, is_held_object};
+ghost use Rattle.bridge_model.specs.Receiving.{is_called_out};
+ghost use Rattle.uno_model.specs.Sound.{IsSound};
 ghost use Rattle.bridge_objects.specs.Kept.{nothing_kept, numbered, named, behaviour_of, fields_of, number_of, lowest};
 
 mod ending;
@@ -14,7 +16,7 @@ mod holding;
 mod making;
 mod sending;
 
-use crate::marks;
+use crate::{calling, marks};
 use env_table::Environment;
 use object_store::ObjectStore;
 use std::alloc::Global;
@@ -23,6 +25,7 @@ use stub_table::StubTable;
 use table_model::Holder;
 use uno_base::NoMemory;
 use uno_entities::{Name, Tag, Text};
+use uno_types::Registry;
 use uno_values::Value;
 
 /// What an end of a bridge has of objects and references.
@@ -142,5 +145,16 @@ impl Objects {
         ensures { result ≡ has_stub oid.now self.now.stubs }
     {
         self.stubs.any_for(oid)
+    }
+
+    /// Whether the peer may call an own object under an interface: whether it was sent out under one that is assignable to it.
+    pub fn is_called_out(&self, registry: &Registry, oid: &Text, face: &Name) -> bool
+        requires { IsSound registry.now }
+        ensures { result ≡ is_called_out registry.now oid.now face.now self.now.stubs }
+    {
+        let Some(faces) = self.stubs.faces(oid) else {
+            return false
+        };
+        calling::is_reached(registry, faces, face.as_str())
     }
 }

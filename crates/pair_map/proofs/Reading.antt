@@ -11,7 +11,7 @@ use Rattle.std.specs.FinMap.{find}
 use Rattle.table_model.specs.Pair.{Pair, pair, pair_cmp}
 use Rattle.table_model.proofs.PairLaws.{is_pair_by_texts}
 use Rattle.pair_map.specs.ByOid.{at_face, face_rows, pair_rows}
-use Rattle.pair_map.specs.Faces.{Rows, value_of}
+use Rattle.pair_map.specs.Faces.{Rows, value_of, any_face}
 
 -- the first of two options that has a value
 abbrev or_else : {X : Type 0} → Option X → Option X → Option X
@@ -65,20 +65,27 @@ no_more : (a b : Bool) → b ≡ ((a && false) || b)
 no_more true b = refl
 no_more false b = refl
 
-one_more : (a h b : Bool) → (a || ((a && h) || b)) ≡ ((a && true) || b)
-one_more true h b = refl
-one_more false h b = refl
+one_more : (a t h b : Bool) → ((a && t) || ((a && h) || b)) ≡ ((a && (t || h)) || b)
+one_more true true h b = refl
+one_more true false h b = refl
+one_more false t h b = refl
 
 or_false : (a : Bool) → (a || false) ≡ a
 or_false true = refl
 or_false false = refl
 
--- of the rows of one OID and others, some have an OID
-any_face : {X Z : Type 0} (oid other : List ℕ) (faces : Rows X Z) (rest : List (Pair × X))
-    → list_any (λ row. bytes_eq oid row.0.oid) (face_rows other faces ++ rest)
-    ≡ ((bytes_eq oid other && has_items faces) || list_any (λ row. bytes_eq oid row.0.oid) rest)
-any_face oid other [] rest = no_more (bytes_eq oid other) _
-any_face oid other (f ∷ faces) rest = ap (λ b. bytes_eq oid other || b) (any_face oid other faces rest) ∙ one_more (bytes_eq oid other) (has_items faces) _
+module _ (oid : List ℕ) (test : List ℕ → Bool) {X : Type 0} where
+  -- whether a row has an OID, and a face that passes a test
+  abbrev any_passes : List (Pair × X) → Bool
+  any_passes rows = list_any (λ row. bytes_eq oid row.0.oid && test row.0.face) rows
+
+  -- of the rows of one OID and others, some do
+  any_face_passes : {Z : Type 0} (other : List ℕ) (faces : Rows X Z) (rest : List (Pair × X))
+      → any_passes (face_rows other faces ++ rest) ≡ ((bytes_eq oid other && any_face test (Some faces)) || any_passes rest)
+  any_face_passes other [] rest = no_more (bytes_eq oid other) _
+  any_face_passes other (f ∷ faces) rest =
+      ap (λ b. (bytes_eq oid other && test (string_bytes f.0)) || b) (any_face_passes other faces rest)
+      ∙ one_more (bytes_eq oid other) (test (string_bytes f.0)) (any_face test (Some faces)) _
 
 module _ {X Y Z : Type 0} where
   -- what is found in the rows is what the maps have
@@ -96,20 +103,37 @@ module _ {X Y Z : Type 0} where
         | false ↦ λ is. rest
       ] refl
 
+  -- a row has an OID and a face that passes a test where a face of the map at the OID does
+  pub any_passing : (oid : List ℕ) (test : List ℕ → Bool) (es : List (String Y × Rows X Z)) → IsDistinct string_eq (keys_of es)
+      → any_passes oid test (pair_rows es) ≡ any_face test (lookup (λ k. bytes_eq oid (string_bytes k)) es)
+  unfolding IsDistinct
+  any_passing oid test [] d = refl
+  any_passing oid test (e ∷ es) d =
+      let rest = any_passing oid test es d.1 in
+      any_face_passes oid test (string_bytes e.0) e.1 (pair_rows es)
+      ∙ elim (bytes_eq oid (string_bytes e.0)) as (λ a. bytes_eq oid (string_bytes e.0) ≡ a
+      → ((a && any_face test (Some e.1)) || any_passes oid test (pair_rows es))
+      ≡ any_face test (cond a (Some e.1) (lookup (λ k. bytes_eq oid (string_bytes k)) es))) [
+        | true ↦ λ is. ap (λ b. any_face test (Some e.1) || b) (rest ∙ ap (any_face test) (absent oid e.0 es is d.0)) ∙ or_false (any_face test (Some e.1))
+        | false ↦ λ is. rest
+      ] refl
+
   -- a row has an OID where the map at the OID has a face
   pub any_row : (oid : List ℕ) (es : List (String Y × Rows X Z)) → IsDistinct string_eq (keys_of es)
       → list_any (λ row. bytes_eq oid row.0.oid) (pair_rows es) ≡ has_faces (lookup (λ k. bytes_eq oid (string_bytes k)) es)
-  unfolding IsDistinct
-  any_row oid [] d = refl
-  any_row oid (e ∷ es) d =
-      let rest = any_row oid es d.1 in
-      any_face oid (string_bytes e.0) e.1 (pair_rows es)
-      ∙ elim (bytes_eq oid (string_bytes e.0)) as (λ a. bytes_eq oid (string_bytes e.0) ≡ a
-      → ((a && has_items e.1) || list_any (λ row. bytes_eq oid row.0.oid) (pair_rows es))
-      ≡ has_faces (cond a (Some e.1) (lookup (λ k. bytes_eq oid (string_bytes k)) es))) [
-        | true ↦ λ is. ap (λ b. has_items e.1 || b) (rest ∙ ap has_faces (absent oid e.0 es is d.0)) ∙ or_false (has_items e.1)
-        | false ↦ λ is. rest
-      ] refl
+  any_row oid es d =
+      (λ i. list_any (λ row. and_true (bytes_eq oid row.0.oid) i) (pair_rows es))
+      ∙ any_passing oid (λ face. true) es d
+      ∙ any_there (lookup (λ k. bytes_eq oid (string_bytes k)) es)
+    where
+      and_true : (a : Bool) → a ≡ (a && true)
+      and_true true = refl
+      and_true false = refl
+
+      any_there : (found : Option (Rows X Z)) → any_face (λ face. true) found ≡ has_faces found
+      any_there None = refl
+      any_there (Some []) = refl
+      any_there (Some (f ∷ faces)) = refl
 
 pub filled : {A : Type 0} (xs : List A) (empty : Bool) → IsTrue empty ↔ (length xs ≡ 0) → not empty ≡ has_items xs
 filled [] empty is = ap not (is.1 refl)

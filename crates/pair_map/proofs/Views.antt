@@ -52,13 +52,13 @@ module _ {X Y Z S : Type 0} (m : HashMap (String Y) (Rows X Z) S) (unique : IsUn
         (λ r. found_rows r n.entries unique_after ∙ change r ∙ sym (found_rows r m.entries unique))
         ∙ is
 
--- whether a row has an OID
-pub any_at : {X Y Z S : Type 0} (m : HashMap (String Y) (Rows X Z) S) (rows : List (Pair × X))
+-- whether a row passes a test of an OID
+pub any_at : (test : List ℕ → Pair → Bool) {X Y Z S : Type 0} (m : HashMap (String Y) (Rows X Z) S) (rows : List (Pair × X))
     → in_order pair_cmp (pair_rows m.entries) ≡ rows → (o oid : List ℕ) → o ≡ oid
-    → list_any (λ row. bytes_eq o row.0.oid) (pair_rows m.entries) ≡ list_any (λ row. bytes_eq oid row.0.oid) rows
-any_at m rows is o oid same =
-    any_in_order same_pair (λ p. bytes_eq o p.oid) (pair_rows m.entries)
-    ∙ (λ i. list_any (λ row. bytes_eq (same i) row.0.oid) (is i))
+    → list_any (λ row. test o row.0) (pair_rows m.entries) ≡ list_any (λ row. test oid row.0) rows
+any_at test m rows is o oid same =
+    any_in_order same_pair (test o) (pair_rows m.entries)
+    ∙ (λ i. list_any (λ row. test (same i) row.0) (is i))
 
 turned : {X : Type 0} (b : Bool) (x y : Option X) → cond (not b) x y ≡ cond b y x
 turned true x y = refl

@@ -1,5 +1,5 @@
 //! The faces of one OID, each with its value: a lone one stands here itself, and several in a map.
-ghost use Rattle.std.specs.Prelude.{◌≡◌, ◌↔◌, ◌+◌, ◌≤◌, ◌<◌, [], ◌∷◌, None, Some, IsSome, IsTrue, IsOk, IfOk, OnOk, OnErr, length, option_copied, string_bytes};
+ghost use Rattle.std.specs.Prelude.{◌≡◌, ◌↔◌, ◌+◌, ◌≤◌, ◌<◌, [], ◌∷◌, None, Some, IsSome, IsTrue, IsOk, IfOk, OnOk, OnErr, length, option_copied, option_map, slice_get, string_bytes};
 ghost use Rattle.indexmap.specs.IndexMap.{spare};
 ghost use Rattle.pair_map.specs.Faces.{value_of, ChangesFace};
 
@@ -35,7 +35,7 @@ impl<V> Model for Faces<V> {
 
 impl<V> Faces<V> {
     /// One face.
-    pub fn lone(face: String, value: V) -> Faces<V>
+    pub(crate) fn lone(face: String, value: V) -> Faces<V>
         ensures { result ≡ (face, value) ∷ [] }
     {
         Faces {
@@ -71,8 +71,39 @@ impl<V> Faces<V> {
         }
     }
 
+    /// How many faces are there.
+    pub fn len(&self) -> usize
+        ensures { result ≡ length self.now }
+    {
+        match &self.layout {
+            Layout::Empty => 0,
+            Layout::Lone(_, _) => 1,
+            Layout::Several(faces) => faces.len(),
+        }
+    }
+
+    /// The face at a place.
+    pub fn face_at(&self, place: usize) -> Option<&str>
+        ensures { option_copied result ≡ option_map (λ row. string_bytes row.0) (slice_get self.now place) }
+    {
+        match &self.layout {
+            Layout::Empty => None,
+            Layout::Lone(only, _) => {
+                if place == 0 {
+                    Some(only.as_str())
+                } else {
+                    None
+                }
+            }
+            Layout::Several(faces) => {
+                let (face, _) = faces.get_index(place)?;
+                Some(face.as_str())
+            }
+        }
+    }
+
     /// Puts a value in the place of that of a face, which is given back.
-    pub fn replace(&mut self, face: &str, value: V) -> V
+    pub(crate) fn replace(&mut self, face: &str, value: V) -> V
         requires { IsSome (value_of face.now self.old) }
         ensures was { Some result ≡ value_of face.now self.old }
         ensures put { ChangesFace face.now (Some value) self.old self.new }
@@ -87,7 +118,7 @@ impl<V> Faces<V> {
 
 impl<V: Drop> Faces<V> {
     /// Puts a value at a face.
-    pub fn insert(&mut self, alloc: Global, face: String, value: V) -> Result<(), NoMemory>
+    pub(crate) fn insert(&mut self, alloc: Global, face: String, value: V) -> Result<(), NoMemory>
         ensures put { OnOk result (ChangesFace (string_bytes face) (Some value) self.old self.new) }
         ensures kept { OnErr result (self.new ≡ self.old) }
     {
@@ -109,7 +140,7 @@ impl<V: Drop> Faces<V> {
     }
 
     /// Takes out the value of a face.
-    pub fn remove(&mut self, face: &str) -> V
+    pub(crate) fn remove(&mut self, face: &str) -> V
         requires { IsSome (value_of face.now self.old) }
         ensures was { Some result ≡ value_of face.now self.old }
         ensures without { ChangesFace face.now None self.old self.new }

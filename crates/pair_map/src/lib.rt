@@ -5,4 +5,5 @@ mod by_oid;
 mod faces;
 mod pair_map;
 
+pub use faces::Faces;
 pub use pair_map::PairMap;

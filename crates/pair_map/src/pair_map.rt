@@ -1,11 +1,13 @@
 //! The map itself, as rows in rising order of their pairs.
-ghost use Rattle.std.specs.Prelude.{◌≡◌, [], true, None, Some, OnOk, OnErr, IsSome, IfSome, IfNone, T, option_copied};
+ghost use Rattle.std.specs.Prelude.{◌≡◌, ℕ, Bool, ◌&&◌, List, [], true, None, Some, OnOk, OnErr, IsSome, IfSome, IfNone, T, option_copied};
 ghost use Rattle.std.specs.FinMap.{find, put, is_sorted};
 ghost use Rattle.std.specs.List.{list_any};
 ghost use Rattle.std.specs.Str.{bytes_eq};
 ghost use Rattle.table_model.specs.Pair.{pair, pair_cmp, without_oid};
 ghost use Rattle.table_model.specs.Rows.{without};
+ghost use Rattle.pair_map.specs.Faces.{any_face};
 
+use crate::Faces;
 use crate::by_oid::{self, ByOid};
 use indexmap::IndexMap;
 use std::alloc::Global;
@@ -60,6 +62,13 @@ impl<V> PairMap<V> {
         ensures rises { T (is_sorted pair_cmp self.now) }
     {
         by_oid::has_oid(&self.by_oid, oid.as_str())
+    }
+
+    /// The faces of the pairs with this OID.
+    pub fn faces(&self, oid: &Text) -> Option<&Faces<V>>
+        ensures { (test : List ℕ → Bool) → list_any (λ row. bytes_eq oid.now row.0.oid && test row.0.face) self.now ≡ any_face test (option_copied result) }
+    {
+        self.by_oid.get(oid.as_str())
     }
 
     /// Puts a value in the place of the one at a pair, which is given back.

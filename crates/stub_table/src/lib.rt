@@ -6,5 +6,6 @@ mod stub_table;
 mod threads;
 
 pub use error::Unowed;
+pub use pair_map::Faces;
 pub use stub_table::StubTable;
 pub use table_model::Stub;

@@ -1,13 +1,14 @@
 //! The table of stubs, which contracts see as rows in rising order of their pairs.
-ghost use Rattle.std.specs.Prelude.{◌≡◌, ℕ, ◌<◌, ◌-◌, ◌^◌, [], length, IsSome, IfSome, IfNone, IsOk, OnOk, OnErr, option_map};
+ghost use Rattle.std.specs.Prelude.{◌≡◌, ℕ, ◌<◌, ◌-◌, ◌^◌, Bool, ◌&&◌, List, [], length, IsSome, IfSome, IfNone, IsOk, OnOk, OnErr, option_copied, option_map};
 ghost use Rattle.std.specs.List.{list_any};
 ghost use Rattle.std.specs.Result.{result_ok};
 ghost use Rattle.std.specs.Str.{bytes_eq};
+ghost use Rattle.pair_map.specs.Faces.{any_face};
 ghost use Rattle.table_model.specs.Pair.{pair, without_oid};
 ghost use Rattle.table_model.specs.Stubs.{stub, sent_one, released_one, sent_count, is_last, IsOwed};
 
 use crate::Unowed;
-use pair_map::PairMap;
+use pair_map::{Faces, PairMap};
 use std::alloc::Global;
 use std::marker::Model;
 use table_model::Stub;
@@ -94,6 +95,13 @@ impl StubTable {
         ensures { result ≡ list_any (λ row. bytes_eq oid.now row.0.oid) self.now }
     {
         self.stubs.has_oid(oid)
+    }
+
+    /// The faces of the pairs with this OID that have a stub.
+    pub fn faces(&self, oid: &Text) -> Option<&Faces<Stub>>
+        ensures { (test : List ℕ → Bool) → list_any (λ row. bytes_eq oid.now row.0.oid && test row.0.face) self.now ≡ any_face test (option_copied result) }
+    {
+        self.stubs.faces(oid)
     }
 
     /// Drops the stubs of some OID, and gives it; nothing where no stub is there.

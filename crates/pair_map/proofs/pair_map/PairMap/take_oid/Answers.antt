@@ -1,6 +1,7 @@
 use Rattle.std.proofs.Common.{◌∙◌, sym, subst}
 use Rattle.std.specs.Prelude.{T}
 use Rattle.std.specs.FinMap.{is_sorted}
+use Rattle.std.specs.Str.{bytes_eq}
 use Rattle.table_model.specs.Pair.{pair_cmp}
 use Rattle.table_model.proofs.PairLaws.{pair_order}
 use Rattle.table_model.proofs.RowLaws.{in_order_rises}
@@ -13,7 +14,7 @@ returns-clause-gone g c =
     taken_at c.self.inside.by_oid c.take_oid.new.by_oid c.args.self.now _ c.from.result c.self.invariant c.take_oid.ensures.unique c.self.view_is (sym c.from.ensures) c.in_ok-oid.ensures.gone
 
 pub returns-clause-some : goal.returns-clause-some
-returns-clause-some g c = sym (any_at c.self.inside.by_oid c.args.self.now c.self.view_is _ _ (sym c.from.ensures)) ∙ c.in_ok-oid.ensures.some
+returns-clause-some g c = sym (any_at (λ oid p. bytes_eq oid p.oid) c.self.inside.by_oid c.args.self.now c.self.view_is _ _ (sym c.from.ensures)) ∙ c.in_ok-oid.ensures.some
 
 pub returns-clause-rises : goal.returns-clause-rises
 returns-clause-rises g c = subst (λ rows. T (is_sorted pair_cmp rows)) c.self.view_is (in_order_rises pair_order (pair_rows c.self.inside.by_oid.entries))
