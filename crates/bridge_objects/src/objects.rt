@@ -157,4 +157,11 @@ impl Objects {
         };
         calling::is_reached(registry, faces, face.as_str())
     }
+
+    /// How many pairs have a stub.
+    pub fn stubs(&self) -> u64
+        ensures { result ≡ length self.now.stubs }
+    {
+        self.stubs.len()
+    }
 }

@@ -1,8 +1,10 @@
 //! One stack, and the stacks by their births.
 ghost use Rattle.std.specs.Prelude.{◌≡◌, ◌<◌, ◌≤◌, ◌++◌, ◌∷◌, [], length, Some, IsSome, IfOk, OnOk, OnErr, option_map};
+ghost use Rattle.std.specs.List.{list_any};
 ghost use Rattle.plan_model.specs.Frames.{first_frame, is_body, nth_tid, ready};
 ghost use Rattle.plan_types.specs.Frames.{frame_of};
 ghost use Rattle.call_stacks.specs.Rows.{Rise, rows_of, stacks_of, stack_of, begun, stack_at, frames_at, changed_at, without_at, one_more, one_less, topped};
+ghost use Rattle.call_stacks.specs.WaitingCalls.{is_waiting};
 
 use plan_types::Frame;
 use std::alloc::Global;
@@ -149,6 +151,28 @@ fn can_go_on(stack: &Stack) -> bool
     ensures { result ≡ is_body (first_frame (stack_of stack.now).frames) }
 {
     let Some(Frame::Body(_)) = stack.frames.front() else {
+        return false
+    };
+    true
+}
+
+/// Whether a call waits for an answer at the top of some stack.
+pub fn any_waits(stacks: &ByBirth) -> bool
+    ensures { result ≡ list_any is_waiting (stacks_of (rows_of stacks.now.entries)) }
+{
+    for stack in stacks.values() {
+        if waits(stack) {
+            return true;
+        }
+    }
+    false
+}
+
+/// Whether the top frame is a call that waits for an answer.
+fn waits(stack: &Stack) -> bool
+    ensures { result ≡ is_waiting (stack_of stack.now) }
+{
+    let Some(Frame::Out(_)) = stack.frames.front() else {
         return false
     };
     true

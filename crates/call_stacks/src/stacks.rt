@@ -4,7 +4,7 @@ ghost use Rattle.std.specs.List.{list_any};
 ghost use Rattle.std.specs.Result.{result_ok};
 ghost use Rattle.plan_model.specs.Frames.{outgoing, outgoing_in, is_of, top, depth_of, nth_tid, ready, pushed, popped, with_top, answerable};
 ghost use Rattle.plan_types.specs.Frames.{frame_of};
-ghost use Rattle.call_stacks.specs.WaitingCalls.{call_of, HaveOwnTids};
+ghost use Rattle.call_stacks.specs.WaitingCalls.{call_of, is_waiting, HaveOwnTids};
 
 use crate::births::Births;
 use crate::stack::ByBirth;
@@ -161,6 +161,13 @@ impl Stacks {
         ensures { option_map (λ tid. tid.now) result ≡ nth_tid (ready self.now) nth }
     {
         stack::ready(&self.stacks, nth)
+    }
+
+    /// Whether a call waits for an answer at the top of some stack.
+    pub fn any_waits(&self) -> bool
+        ensures { result ≡ list_any is_waiting self.now }
+    {
+        stack::any_waits(&self.stacks)
     }
 
     /// Begins a stack behind all others.

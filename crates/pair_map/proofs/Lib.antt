@@ -1,4 +1,5 @@
 mod Changes
+mod Counting
 mod Reading
 mod Taking
 mod Updates

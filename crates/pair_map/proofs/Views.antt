@@ -1,5 +1,6 @@
 -- The map of pairs as rows in order, before and after a change.
-use Rattle.std.proofs.Common.{◌≡◌, ℕ, Bool, true, false, cond, not, List, [], Option, None, Some, refl, sym, ap, ◌∙◌}
+use Rattle.std.proofs.Common.{◌≡◌, ℕ, Bool, true, false, ◌+◌, cond, not, List, [], length, Option, None, Some, refl, sym, ap, ◌∙◌, arith}
+use Rattle.std.proofs.lemmas.List.Filters.{length-filter_both}
 use Rattle.std.specs.HashMap.{HashMap, IsUnique}
 use Rattle.std.specs.List.{list_any}
 use Rattle.std.specs.Str.{bytes_eq}
@@ -11,7 +12,7 @@ use Rattle.table_model.specs.Pair.{Pair, pair, pair_cmp, is_pair, without_oid}
 use Rattle.table_model.specs.Rows.{in_order, without}
 use Rattle.table_model.proofs.PairLaws.{pair_order, same_pair}
 use Rattle.table_model.proofs.RowLaws.{found_in_order, in_order_rises, in_order_put, in_order_without, in_order_same, any_in_order}
-use Rattle.pair_map.specs.ByOid.{at_pair, pair_rows}
+use Rattle.pair_map.specs.ByOid.{at_pair, pair_rows, how_many_of}
 use Rattle.pair_map.specs.Faces.{Rows}
 use Rattle.pair_map.proofs.Reading.{found_rows}
 
@@ -77,6 +78,18 @@ taken_at m n rows o oid unique unique_after is same change =
     ∙ sym (turned (bytes_eq o q.oid) _ _)
     ∙ sym (find-where_key pair_cmp (λ p. not (bytes_eq o p.oid)) q (λ x tied. ap (λ p. not (bytes_eq o p.oid)) (sym (same_pair q x tied))) (in_order pair_cmp (pair_rows m.entries))))
     ∙ (λ i. without_oid (same i) (is i))
+
+-- and with as many as go those that stay are all
+pub number_taken : {X Y Z S : Type 0} (m n : HashMap (String Y) (Rows X Z) S) (rows : List (Pair × X)) (o : List ℕ)
+    → IsUnique string_eq m → IsUnique string_eq n → in_order pair_cmp (pair_rows m.entries) ≡ rows
+    → ((r : Pair) → at_pair n r ≡ cond (bytes_eq o r.oid) None (at_pair m r))
+    → (number : ℕ) → how_many_of o (pair_rows m.entries) ≡ number
+    → length (in_order pair_cmp (pair_rows n.entries)) + number ≡ length rows
+number_taken m n rows o unique unique_after is change number many =
+    let all = length-filter_both (λ row. bytes_eq o row.0.oid) (λ row. not (bytes_eq o row.0.oid)) (λ row. refl) (in_order pair_cmp (pair_rows m.entries)) in
+    let stay = ap length (taken_at m n _ o o unique unique_after refl refl change) in
+    let long = ap length is in
+    omega (arith, all, stay, long, many)
 
 -- a list in order without items has none
 pub none_in_order : {X : Type 0} (xs rows : List (Pair × X)) → in_order pair_cmp xs ≡ rows → xs ≡ [] → rows ≡ []

@@ -1,9 +1,12 @@
 -- What a map from OIDs to rows of faces has at pairs.
-use Rattle.std.specs.Prelude.{ℕ, List, map, Option, None, Some, string_bytes}
+use Rattle.std.specs.Prelude.{ℕ, List, length, map, Option, None, Some, string_bytes}
+use Rattle.std.specs.FinMap.Entries.{where_key}
 use Rattle.std.specs.List.{flat_map}
 use Rattle.std.specs.HashMap.{HashMap, get_by_text}
+use Rattle.std.specs.Str.{bytes_eq}
 use Rattle.std.specs.declared.string.String.{String}
-use Rattle.table_model.specs.Pair.{Pair, pair}
+use Rattle.table_model.specs.Pair.{Pair, pair, pair_cmp}
+use Rattle.table_model.specs.Rows.{in_order}
 use Rattle.pair_map.specs.Faces.{Rows, value_of}
 
 module _ {X Z : Type 0} where
@@ -23,3 +26,7 @@ module _ {X Z : Type 0} where
   -- the rows of all pairs, in the order of the entries
   abbrev pub pair_rows : {Y : Type 0} → List (String Y × Rows X Z) → List (Pair × X)
   pair_rows oids = flat_map (λ o. face_rows (string_bytes o.0) o.1) oids
+
+-- how many pairs of some rows, each once, have an OID
+abbrev pub how_many_of : {X : Type 0} → List ℕ → List (Pair × X) → ℕ
+how_many_of oid rows = length (where_key pair_cmp (λ p. bytes_eq oid p.oid) (in_order pair_cmp rows))

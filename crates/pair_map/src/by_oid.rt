@@ -6,7 +6,7 @@ ghost use Rattle.std.specs.List.{list_any};
 ghost use Rattle.std.specs.Str.{bytes_eq};
 ghost use Rattle.std.specs.String.{string_eq};
 ghost use Rattle.table_model.specs.Pair.{Pair, pair, is_pair};
-ghost use Rattle.pair_map.specs.ByOid.{at_pair, pair_rows};
+ghost use Rattle.pair_map.specs.ByOid.{at_pair, pair_rows, how_many_of};
 
 use crate::faces::Faces;
 use indexmap::IndexMap;
@@ -108,34 +108,36 @@ fn drop_bare<V: Drop>(by_oid: &mut ByOid<V>, oid: &str)
     by_oid.swap_remove(oid);
 }
 
-/// Takes out some OID with all its faces, and gives it.
-pub fn take_oid<V: Drop>(by_oid: &mut ByOid<V>) -> Option<String>
+/// Takes out some OID with all its faces, and gives it with their number.
+pub fn take_oid<V: Drop>(by_oid: &mut ByOid<V>) -> Option<(String, usize)>
     requires { IsUnique string_eq by_oid.old }
-    ensures gone { IfSome result (λ oid. (q : Pair) → at_pair by_oid.new q ≡ cond (bytes_eq (string_bytes oid) q.oid) None (at_pair by_oid.old q)) }
-    ensures some { IfSome result (λ oid. list_any (λ row. bytes_eq (string_bytes oid) row.0.oid) (pair_rows by_oid.old.entries) ≡ true) }
+    ensures gone { IfSome result (λ r. (q : Pair) → at_pair by_oid.new q ≡ cond (bytes_eq (string_bytes r.0) q.oid) None (at_pair by_oid.old q)) }
+    ensures some { IfSome result (λ r. list_any (λ row. bytes_eq (string_bytes r.0) row.0.oid) (pair_rows by_oid.old.entries) ≡ true) }
+    ensures number { IfSome result (λ r. how_many_of (string_bytes r.0) (pair_rows by_oid.old.entries) ≡ r.1) }
     ensures none { IfNone result (pair_rows by_oid.old.entries ≡ []) }
     ensures kept { IfNone result (pair_rows by_oid.new.entries ≡ []) }
     ensures unique { IsUnique string_eq by_oid.new }
 {
-    while let Some((oid, bare)) = take_last(by_oid) {
-        if !bare {
-            return Some(oid);
+    while let Some((oid, number)) = take_last(by_oid) {
+        if number > 0 {
+            return Some((oid, number));
         }
     }
     None
 }
 
-/// Takes out an OID with its faces, and tells whether it has none.
-fn take_last<V: Drop>(by_oid: &mut ByOid<V>) -> Option<(String, bool)>
+/// Takes out an OID with its faces, and tells how many it has.
+fn take_last<V: Drop>(by_oid: &mut ByOid<V>) -> Option<(String, usize)>
     ensures gone { IfSome result (λ r. (q : Pair) → at_pair by_oid.new q ≡ cond (bytes_eq (string_bytes r.0) q.oid) None (at_pair by_oid.old q)) }
-    ensures bare { IfSome result (λ r. r.1 ≡ true → pair_rows by_oid.new.entries ≡ pair_rows by_oid.old.entries) }
-    ensures some { IfSome result (λ r. r.1 ≡ false → list_any (λ row. bytes_eq (string_bytes r.0) row.0.oid) (pair_rows by_oid.old.entries) ≡ true) }
+    ensures bare { IfSome result (λ r. r.1 ≡ 0 → pair_rows by_oid.new.entries ≡ pair_rows by_oid.old.entries) }
+    ensures some { IfSome result (λ r. 0 < r.1 → list_any (λ row. bytes_eq (string_bytes r.0) row.0.oid) (pair_rows by_oid.old.entries) ≡ true) }
+    ensures number { IfSome result (λ r. how_many_of (string_bytes r.0) (pair_rows by_oid.old.entries) ≡ r.1) }
     ensures fewer { IfSome result (λ r. length by_oid.new.entries < length by_oid.old.entries) }
     ensures none { IfNone result (by_oid.old.entries ≡ []) }
     ensures kept { IfNone result (by_oid.new.entries ≡ []) }
     ensures unique { IsUnique string_eq by_oid.new }
 {
     let (oid, faces) = by_oid.pop()?;
-    let bare = faces.is_empty();
-    Some((oid, bare))
+    let number = faces.len();
+    Some((oid, number))
 }

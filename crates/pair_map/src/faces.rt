@@ -1,6 +1,9 @@
 //! The faces of one OID, each with its value: a lone one stands here itself, and several in a map.
 ghost use Rattle.std.specs.Prelude.{◌≡◌, ◌↔◌, ◌+◌, ◌≤◌, ◌<◌, [], ◌∷◌, None, Some, IsSome, IsTrue, IsOk, IfOk, OnOk, OnErr, length, option_copied, option_map, slice_get, string_bytes};
 ghost use Rattle.indexmap.specs.IndexMap.{spare};
+ghost use Rattle.std.specs.List.{IsDistinct};
+ghost use Rattle.std.specs.Map.{keys_of};
+ghost use Rattle.std.specs.String.{string_eq};
 ghost use Rattle.pair_map.specs.Faces.{value_of, ChangesFace};
 
 use indexmap::IndexMap;
@@ -71,9 +74,10 @@ impl<V> Faces<V> {
         }
     }
 
-    /// How many faces are there.
+    /// How many faces are there, no two of one name.
     pub fn len(&self) -> usize
-        ensures { result ≡ length self.now }
+        ensures number { result ≡ length self.now }
+        ensures distinct { IsDistinct string_eq (keys_of self.now) }
     {
         match &self.layout {
             Layout::Empty => 0,

@@ -1,5 +1,5 @@
 //! The map itself, as rows in rising order of their pairs.
-ghost use Rattle.std.specs.Prelude.{◌≡◌, ℕ, Bool, ◌&&◌, List, [], true, None, Some, OnOk, OnErr, IsSome, IfSome, IfNone, T, option_copied};
+ghost use Rattle.std.specs.Prelude.{◌≡◌, ℕ, ◌+◌, Bool, ◌&&◌, List, [], length, true, None, Some, OnOk, OnErr, IsSome, IfSome, IfNone, T, option_copied};
 ghost use Rattle.std.specs.FinMap.{find, put, is_sorted};
 ghost use Rattle.std.specs.List.{list_any};
 ghost use Rattle.std.specs.Str.{bytes_eq};
@@ -113,7 +113,20 @@ impl<V: Drop> PairMap<V> {
         ensures kept { IfNone result (self.new ≡ []) }
         ensures rises { T (is_sorted pair_cmp self.old) }
     {
-        let oid = by_oid::take_oid(&mut self.by_oid)?;
-        Some(Text::from(oid))
+        let (oid, _) = self.take_counted()?;
+        Some(oid)
+    }
+
+    /// Takes out some OID with all its faces, and gives it and how many pairs it had; nothing where no pair is there.
+    pub fn take_counted(&mut self) -> Option<(Text, usize)>
+        ensures gone { IfSome result (λ r. self.new ≡ without_oid r.0 self.old) }
+        ensures some { IfSome result (λ r. list_any (λ row. bytes_eq r.0 row.0.oid) self.old ≡ true) }
+        ensures number { IfSome result (λ r. length self.new + r.1 ≡ length self.old) }
+        ensures none { IfNone result (self.old ≡ []) }
+        ensures kept { IfNone result (self.new ≡ []) }
+        ensures rises { T (is_sorted pair_cmp self.old) }
+    {
+        let (oid, number) = by_oid::take_oid(&mut self.by_oid)?;
+        Some((Text::from(oid), number))
     }
 }

@@ -1,10 +1,11 @@
 //! The table of stubs, which contracts see as rows in rising order of their pairs.
-ghost use Rattle.std.specs.Prelude.{◌≡◌, ℕ, ◌<◌, ◌-◌, ◌^◌, Bool, ◌&&◌, List, [], length, IsSome, IfSome, IfNone, IsOk, OnOk, OnErr, option_copied, option_map};
+ghost use Rattle.std.specs.Prelude.{◌≡◌, ℕ, ◌<◌, ◌-◌, ◌^◌, Bool, ◌&&◌, List, [], length, T, None, IsSome, IfSome, IfNone, IsOk, OnOk, OnErr, option_copied, option_map};
+ghost use Rattle.std.specs.FinMap.{is_sorted};
 ghost use Rattle.std.specs.List.{list_any};
 ghost use Rattle.std.specs.Result.{result_ok};
 ghost use Rattle.std.specs.Str.{bytes_eq};
 ghost use Rattle.pair_map.specs.Faces.{any_face};
-ghost use Rattle.table_model.specs.Pair.{pair, without_oid};
+ghost use Rattle.table_model.specs.Pair.{pair, pair_cmp, without_oid};
 ghost use Rattle.table_model.specs.Stubs.{stub, sent_one, released_one, sent_count, is_last, IsOwed};
 
 use crate::Unowed;
@@ -15,14 +16,18 @@ use table_model::Stub;
 use uno_base::NoMemory;
 use uno_entities::{Name, Text};
 
-/// The stubs of an endpoint.
+/// The most stubs that there are.
+const MOST: u64 = 0x7FFF_FFFF_FFFF_FFFF;
+
+/// The stubs of an endpoint, and how many there are.
 #[derive(Drop)]
 pub struct StubTable {
     stubs: PairMap<Stub>,
+    number: u64,
 }
 
 impl Model for StubTable {
-    ghost use Rattle.std.specs.Prelude.{IfSome};
+    ghost use Rattle.std.specs.Prelude.{◌≡◌, ◌<◌, ◌^◌, IfSome, length};
     ghost use Rattle.table_model.specs.Pair.{Pair};
     ghost use Rattle.table_model.specs.Stubs.{Stubs, stub, IsOwed};
 
@@ -30,7 +35,7 @@ impl Model for StubTable {
 
     ghost view = { λ t. t.stubs };
 
-    ghost invariant = { λ t. (p : Pair) → IfSome (stub p t.stubs) IsOwed };
+    ghost invariant = { λ t. ((p : Pair) → IfSome (stub p t.stubs) IsOwed) × (t.number ≡ length t.stubs) × (t.number < 2 ^ 63) };
 }
 
 impl StubTable {
@@ -40,6 +45,7 @@ impl StubTable {
     {
         StubTable {
             stubs: PairMap::new(alloc),
+            number: 0,
         }
     }
 
@@ -51,14 +57,7 @@ impl StubTable {
         ensures again { IsSome (stub (pair oid.now face.now) self.old) → IsOk result }
     {
         let Some(stub) = self.stub(oid, face) else {
-            return self.stubs.insert(
-                oid,
-                face,
-                Stub {
-                    sent: 1,
-                    released: 0,
-                },
-            );
+            return self.add(oid, face);
         };
         let sent = stub.sent + 1;
         self.stubs.replace(oid, face, Stub { sent, ..stub });
@@ -76,6 +75,7 @@ impl StubTable {
         let released = stub.released + 1;
         if released == stub.sent {
             self.stubs.remove(oid, face);
+            self.number -= 1;
             return Ok(true);
         }
         self.stubs.replace(oid, face, Stub { released, ..stub });
@@ -86,6 +86,7 @@ impl StubTable {
     pub fn stub(&self, oid: &Text, face: &Name) -> Option<Stub>
         ensures same { result ≡ stub (pair oid.now face.now) self.now }
         ensures owed { IfSome result IsOwed }
+        ensures rises { T (is_sorted pair_cmp self.now) }
     {
         self.stubs.get(oid, face).copied()
     }
@@ -104,6 +105,13 @@ impl StubTable {
         self.stubs.faces(oid)
     }
 
+    /// How many stubs there are.
+    pub fn len(&self) -> u64
+        ensures { result ≡ length self.now }
+    {
+        self.number
+    }
+
     /// Drops the stubs of some OID, and gives it; nothing where no stub is there.
     pub fn take_oid(&mut self) -> Option<Text>
         ensures gone { IfSome result (λ oid. self.new ≡ without_oid oid self.old) }
@@ -111,6 +119,30 @@ impl StubTable {
         ensures none { IfNone result (self.old ≡ []) }
         ensures kept { IfNone result (self.new ≡ []) }
     {
-        self.stubs.take_oid()
+        let (oid, number) = self.stubs.take_counted()?;
+        self.number -= number as u64;
+        Some(oid)
+    }
+
+    /// Makes a stub of a pair that has none.
+    fn add(&mut self, oid: &Text, face: &Name) -> Result<(), NoMemory>
+        requires none { stub (pair oid.now face.now) self.old ≡ None }
+        requires rises { T (is_sorted pair_cmp self.old) }
+        ensures added { OnOk result (self.new ≡ sent_one (pair oid.now face.now) self.old) }
+        ensures kept { OnErr result (self.new ≡ self.old) }
+    {
+        if self.number >= MOST {
+            return Err(NoMemory);
+        }
+        self.stubs.insert(
+            oid,
+            face,
+            Stub {
+                sent: 1,
+                released: 0,
+            },
+        )?;
+        self.number += 1;
+        Ok(())
     }
 }

@@ -1,13 +1,9 @@
-use Rattle.std.proofs.Common.{◌∙◌, sym, ap, string_bytes, cond, None}
-use Rattle.std.specs.List.{list_any}
+use Rattle.std.proofs.Common.{◌∙◌, ap, string_bytes, cond, None}
 use Rattle.std.specs.Str.{bytes_eq}
 use Rattle.pair_map.proofs.Taking.{same_in_rows}
 use Rattle.pair_map.proofs.by_oid.take_oid.Goals as goal
 
-pub returns-then-not-bare-clause-gone : goal.returns-then-not-bare-clause-gone
-returns-then-not-bare-clause-gone g c q =
+pub returns-then-number-gt0-clause-gone : goal.returns-then-number-gt0-clause-gone
+returns-then-number-gt0-clause-gone g c q =
     c.in-Some.ensures.gone q
     ∙ ap (cond (bytes_eq (string_bytes c.in-Some.oid) q.oid) None) (same_in_rows c.args.by_oid.now c.loop-oid.by_oid c.requires c.loop-oid.invariant.unique c.loop-oid.invariant.rows q)
-
-pub returns-then-not-bare-clause-some : goal.returns-then-not-bare-clause-some
-returns-then-not-bare-clause-some g c = ap (list_any _) (sym c.loop-oid.invariant.rows) ∙ c.in-Some.ensures.some c.if-not-bare.true
