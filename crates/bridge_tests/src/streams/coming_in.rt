@@ -339,7 +339,7 @@ fn waits_are_right(alloc: Global) -> Result<bool, NoMemory> {
         Some((face, function)) => face.as_str() == NODE && function == 3,
         None => false,
     };
-    Ok(nobody && called)
+    Ok(nobody && called && stacks.any_waits() && !Stacks::new(alloc).any_waits())
 }
 
 #[test]
