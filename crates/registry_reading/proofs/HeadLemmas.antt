@@ -1,5 +1,5 @@
 -- What a binary search over headers says of a name.
-use Rattle.std.proofs.Common.{◌≡◌, ℕ, zero, suc, ◌+◌, ◌-◌, ◌<◌, if◌then◌else◌, ◌≤◌, Bool, true, false, ◌==◌, ◌||◌, List, [], ◌∷◌, ◌++◌, codes, length, length-append, map, get_or, None, Some, Option, Ok, Err, refl, sym, ap, subst, ◌∙◌, inl, inr, arith, slice_get}
+use Rattle.std.proofs.Common.{◌≡◌, ℕ, zero, suc, ◌+◌, ◌-◌, ◌<◌, if◌then◌else◌, ◌≤◌, Bool, true, false, ◌==◌, ◌||◌, List, [], ◌∷◌, ◌++◌, codes, length, length-append, map, take, get_or, None, Some, Option, option_map, IfSome, IfOk, Result, Bor, Ok, Err, refl, sym, ap, subst, ◌∙◌, inl, inr, arith, slice_get}
 use Rattle.std.proofs.lemmas.Bool.{cases_lt}
 use Rattle.std.specs.List.{AllByRecursion}
 use Rattle.std.specs.List.Sorted.{IsBinarySearchResult, IsSearchInRange, IsSortedBy, IsStrictlySortedBy}
@@ -13,7 +13,8 @@ use Rattle.std.specs.Str.{bytes_eq}
 use Rattle.std.proofs.lemmas.Slice.Eq.{bytes_eq-Decides}
 use Rattle.uno_model.proofs.FindLaws.{name_cmp, equal_names, same_equal}
 use Rattle.registry_reading_model.specs.Heads as plain
-use Rattle.registry_reading_model.specs.Heads.{head_named, heads_on, heads_in, one_line_on, head_added, is_above_last, last_marked, beyond_long}
+use Rattle.registry_reading_model.specs.Heads.{head_named, head_of, heads_on, heads_in, one_line_on, head_added, is_above_last, last_marked, beyond_long}
+use Rattle.registry_reading_model.specs.Words.{behind}
 use Rattle.registry_reading_model.proofs.HeadLaws.{head_added_rises, marked_rise, last_is_marked}
 use Rattle.registry_reading_model.specs.TextLines.{lines_in, all_plain, is_plain}
 use Rattle.registry_reading_model.proofs.TextLinesLaws.{one_more_line, no_line}
@@ -104,6 +105,47 @@ parted hs name i rising holds =
     absent name hs (λ k d within. elim (cases_lt k i)
     [ inl low ↦ below_differs (get_or hs k d).name.now name (parts.0 k d (omega arith) low) | inr high ↦ above_differs (get_or hs k d).name.now name (parts.1 k d high within) ])
 
+-- ---- what is tried
+
+name_or : List ℕ → Option plain.Head → List ℕ
+name_or name None = name
+name_or name (Some h) = h.name
+
+-- what stands at a place is found by its name
+at_its_name : (hs : List plain.Head) (i : ℕ) (h : plain.Head) → NamesRise hs → Some h ≡ slice_get hs i → head_named h.name hs ≡ Some h
+unfolding head_named IsStrictlySortedBy name_or
+at_its_name [] i h rising is = absurd cc
+at_its_name (g ∷ gs) zero h rising is =
+    let same : bytes_eq h.name g.name ≡ true = ap (λ n. bytes_eq n g.name) (ap (name_or []) is) ∙ same_equal g.name in rw same (sym is)
+at_its_name (g ∷ gs) (suc i) h rising is = rw (below_differs g.name h.name (above gs i rising.0 is)) (at_its_name gs i h rising.1 is)
+  where
+    above : (xs : List plain.Head) (k : ℕ) → AllByRecursion (λ y. name_cmp g.name y ≡ Less) (map (λ x. x.name) xs) → Some h ≡ slice_get xs k → name_cmp g.name h.name ≡ Less
+    above [] k all at = absurd cc
+    above (x ∷ xs) zero all at = ap (name_cmp g.name) (ap (name_or []) at) ∙ all.0
+    above (x ∷ xs) (suc k) all at = above xs k all.1 at
+
+pub tried_is : (hs : List Head) (name : List ℕ) (place : ℕ) (r : Option (Bor Head)) (h : Bor Head) → NamesRise (plain_heads hs)
+    → option_map (λ x. plain_head x.now) r ≡ slice_get (plain_heads hs) place → r ≡ Some h → h.now.name.now ≡ name → Some (plain_head h.now) ≡ head_named name (plain_heads hs)
+tried_is hs name place r h rising at is same =
+    sym (ap (λ n. head_named n (plain_heads hs)) (sym same)
+    ∙ at_its_name (plain_heads hs) place (plain_head h.now) rising (ap (option_map (λ x. plain_head x.now)) (sym is) ∙ at))
+
+-- what is found has the name
+found_has : (name : List ℕ) (hs : List plain.Head) (h : plain.Head) → Some h ≡ head_named name hs → h.name ≡ name
+unfolding head_named name_or
+found_has name [] h is = absurd cc
+found_has name (g ∷ gs) h is = by_test (bytes_eq name g.name) refl (λ behind. found_has name gs h behind)
+  where
+    by_test : (b : Bool) → bytes_eq name g.name ≡ b → (Some h ≡ head_named name gs → h.name ≡ name) → h.name ≡ name
+    by_test true same behind =
+        ap (name_or name) (is ∙ ap (λ t. if t then Some g else head_named name gs) same) ∙ sym ((bytes_eq-Decides name g.name).0 same)
+    by_test false other behind = behind (is ∙ ap (λ t. if t then Some g else head_named name gs) other)
+
+pub found_named : (name : List ℕ) (hs : List plain.Head) (r : Option (Bor Head)) → option_map (λ h. plain_head h.now) r ≡ head_named name hs
+    → IfSome r (λ h. h.now.name.now ≡ name)
+found_named name hs None is = tt
+found_named name hs (Some h) is = found_has name hs (plain_head h.now) is
+
 pub none_rise : NamesRise []
 unfolding IsStrictlySortedBy
 none_rise = tt
@@ -118,11 +160,11 @@ pub record LookedAt (bytes rest : List ℕ) (number : ℕ) (is_header : Bool) (h
 pub begins : (bytes : List ℕ) → LookedAt bytes bytes 1 false []
 begins bytes = record { plain = λ all. (all, refl); room = omega arith }
 
-pub goes_on : (bytes rest here behind line : List ℕ) (number : ℕ) (is_header next : Bool) (heads more : List plain.Head) → LookedAt bytes rest number is_header heads
-    → rest ≡ here ++ 10 ∷ behind → is_one_line here ≡ true → (is_plain here ≡ true → line ≡ here) → more ≡ one_line_on number is_header heads line
-    → next ≡ ((number == 1) || bytes_eq line (codes "end")) → LookedAt bytes behind (number + 1) next more
+pub goes_on : (bytes rest here behind : List ℕ) (number : ℕ) (is_header next : Bool) (heads more : List plain.Head) → LookedAt bytes rest number is_header heads
+    → rest ≡ here ++ 10 ∷ behind → is_one_line here ≡ true → (is_plain here ≡ true → more ≡ one_line_on number is_header heads here)
+    → next ≡ ((number == 1) || bytes_eq here (codes "end")) → LookedAt bytes behind (number + 1) next more
 unfolding heads_on
-goes_on bytes rest here behind line number is_header next heads more at split one alike made now =
+goes_on bytes rest here behind number is_header next heads more at split one made now =
     record {
       plain = λ all. on (at.plain all);
       room = omega (arith, at.room, ap length split, length-append here (10 ∷ behind));
@@ -135,16 +177,21 @@ goes_on bytes rest here behind line number is_header next heads more at split on
         → (all_plain (lines_in behind) ≡ true) × (heads_on (number + 1) next more (lines_in behind) ≡ heads_in (lines_in bytes))
     on both =
         let parts = and_parts (is_plain here) (all_plain (lines_in behind)) (sym (ap all_plain lines) ∙ both.0) in
-        let same : line ≡ here = alike parts.0 in
         let up : number + 1 ≡ suc number = omega arith in
         let step : heads_on (number + 1) next more (lines_in behind) ≡ heads_on number is_header heads (here ∷ lines_in behind) =
-        λ i. heads_on (up i) ((now ∙ ap (λ l. (number == 1) || bytes_eq l (codes "end")) same) i) ((made ∙ ap (one_line_on number is_header heads) same) i) (lines_in behind) in
+        λ i. heads_on (up i) (now i) (made parts.0 i) (lines_in behind) in
         (parts.1, step ∙ sym (ap (heads_on number is_header heads) lines) ∙ both.1)
 
 pub ends : (bytes rest : List ℕ) (number : ℕ) (is_header : Bool) (heads : List plain.Head) → LookedAt bytes rest number is_header heads → is_one_line rest ≡ true
     → all_plain (lines_in bytes) ≡ true → heads ≡ heads_in (lines_in bytes)
 unfolding heads_on
 ends bytes rest number is_header heads at one all = ap (heads_on number is_header heads) (sym (no_line rest one)) ∙ (at.plain all).1
+
+-- they are told by what tells the same
+pub all_looked : {E : Type 0} (bytes rest : List ℕ) (number : ℕ) (is_header : Bool) (heads : List plain.Head) (r : Result (List plain.Head) E) → LookedAt bytes rest number is_header heads
+    → is_one_line rest ≡ true → IfOk r (λ hs. hs ≡ heads) → IfOk r (λ hs. all_plain (lines_in bytes) ≡ true → hs ≡ heads_in (lines_in bytes))
+all_looked bytes rest number is_header heads (Ok hs) at one same = λ all. same ∙ ends bytes rest number is_header heads at one all
+all_looked bytes rest number is_header heads (Err e) at one same = tt
 
 -- ---- the last of them
 
@@ -177,25 +224,37 @@ added_rise hs more h rise above is = subst NamesRise (sym (ap plain_heads is ∙
 pub added_heads : (hs more : List Head) (h : Head) → is_above_last (plain_heads hs) h.name.now ≡ true → more ≡ hs ++ h ∷ [] → plain_heads more ≡ head_added (plain_heads hs) (plain_head h)
 added_heads hs more h above is = ap plain_heads is ∙ map-append plain_head hs (h ∷ []) ∙ sym (ap (λ b. if b then plain_heads hs ++ plain_head h ∷ [] else plain_heads hs) above)
 
+-- ---- one line more
+
+pub header_on : (hs before more : List plain.Head) (h : plain.Head) (number : ℕ) (text line : List ℕ) → before ≡ hs → more ≡ head_added before h → h ≡ head_of number text
+    → (is_plain line ≡ true → text ≡ line) → is_plain line ≡ true → more ≡ one_line_on number true hs line
+header_on hs before more h number text line was made is read plain_line =
+    made ∙ ap (λ xs. head_added xs h) was ∙ ap (head_added hs) (is ∙ ap (head_of number) (read plain_line))
+
+pub stays_on : (hs : List plain.Head) (line : List ℕ) (b : Bool) → (is_plain line ≡ true → b ≡ beyond_long line) → b ≡ false → is_plain line ≡ true
+    → hs ≡ one_line_on 0 false hs line
+stays_on hs line b tells is plain_line = ap (λ t. if t then last_marked hs else hs) (sym is ∙ tells plain_line)
+
+pub marked_on : (hs before more : List plain.Head) (line : List ℕ) (b : Bool) → before ≡ hs → (is_plain line ≡ true → b ≡ beyond_long line) → b ≡ true
+    → more ≡ last_marked before → is_plain line ≡ true → more ≡ one_line_on 0 false hs line
+marked_on hs before more line b was tells is made plain_line =
+    made ∙ ap last_marked was ∙ ap (λ t. if t then last_marked hs else hs) (sym is ∙ tells plain_line)
+
+-- what does not begin as an item is none
+pub no_item : (line : List ℕ) → bytes_eq (take 6 line) (codes "value ") ≡ false → false ≡ beyond_long line
+unfolding beyond_long behind
+no_item line other = rw other refl
+
 -- the last one marked
-pub marked_heads : (hs front more : List Head) (h g : Head) (line : List ℕ) → beyond_long line ≡ true → hs ≡ front ++ h ∷ [] → more ≡ front ++ g ∷ []
-    → plain_head g ≡ record { name = h.name.now; class = h.class; line = h.line; beyond = true } → plain_heads more ≡ one_line_on 0 false (plain_heads hs) line
-marked_heads hs front more h g line beyond was is marks =
+pub marked_heads : (hs front more : List Head) (h g : Head) → hs ≡ front ++ h ∷ [] → more ≡ front ++ g ∷ []
+    → plain_head g ≡ record { name = h.name.now; class = h.class; line = h.line; beyond = true } → plain_heads more ≡ last_marked (plain_heads hs)
+marked_heads hs front more h g was is marks =
     ap plain_heads is ∙ map-append plain_head front (g ∷ []) ∙ ap (λ x. plain_heads front ++ x ∷ []) marks
-    ∙ sym (ap (λ b. if b then last_marked (plain_heads hs) else plain_heads hs) beyond
-    ∙ ap (λ xs. last_marked (plain_heads xs)) was ∙ ap last_marked (map-append plain_head front (h ∷ [])) ∙ last_is_marked (plain_heads front) (plain_head h))
+    ∙ sym (ap (λ xs. last_marked (plain_heads xs)) was ∙ ap last_marked (map-append plain_head front (h ∷ [])) ∙ last_is_marked (plain_heads front) (plain_head h))
 
-pub marked_names_rise : (hs more : List Head) (line : List ℕ) → NamesRise (plain_heads hs) → plain_heads more ≡ one_line_on 0 false (plain_heads hs) line → NamesRise (plain_heads more)
-marked_names_rise hs more line rise is = subst NamesRise (sym is) (by_test (beyond_long line))
-  where
-    by_test : (b : Bool) → NamesRise (if b then last_marked (plain_heads hs) else plain_heads hs)
-    by_test false = rise
-    by_test true = marked_rise (plain_heads hs) rise
+pub marked_names_rise : (hs more : List Head) → NamesRise (plain_heads hs) → plain_heads more ≡ last_marked (plain_heads hs) → NamesRise (plain_heads more)
+marked_names_rise hs more rise is = subst NamesRise (sym is) (marked_rise (plain_heads hs) rise)
 
-pub none_marked : (hs more : List Head) (line : List ℕ) → hs ≡ [] → more ≡ hs → plain_heads more ≡ one_line_on 0 false (plain_heads hs) line
+pub none_marked : (hs more : List Head) → hs ≡ [] → more ≡ hs → plain_heads more ≡ last_marked (plain_heads hs)
 unfolding last_marked
-none_marked hs more line empty is = ap plain_heads (is ∙ empty) ∙ sym (ap (λ xs. one_line_on 0 false (plain_heads xs) line) empty ∙ by_test (beyond_long line))
-  where
-    by_test : (b : Bool) → (if b then last_marked [] else []) ≡ []
-    by_test true = refl
-    by_test false = refl
+none_marked hs more empty is = ap plain_heads (is ∙ empty) ∙ sym (ap (λ xs. last_marked (plain_heads xs)) empty)

@@ -1,6 +1,7 @@
 -- Types with sequences round them.
-use Rattle.std.proofs.Common.{◌≡◌, ℕ, zero, suc, ◌+◌, ◌≤◌, min, Bool, true, false, ◌==◌, ◌&&◌, List, [], ◌∷◌, ◌++◌, Option, None, Some, refl, sym, ap, ◌∙◌, arith, codes, if◌then◌else◌, ◌||◌}
-use Rattle.std.proofs.lemmas.Bool.{and_parts, eqb-true}
+use Rattle.std.proofs.Common.{◌≡◌, ℕ, zero, suc, ◌+◌, ◌<◌, ◌≤◌, min, length, Bool, true, false, ◌==◌, ◌&&◌, List, [], ◌∷◌, ◌++◌, Option, None, Some, refl, sym, ap, ◌∙◌, arith, codes, if◌then◌else◌, ◌||◌}
+use Rattle.std.proofs.lemmas.Bool.{and_parts, eqb-true, false_from_ne_true}
+use Rattle.std.proofs.lemmas.Slice.Eq.{bytes_eq-Decides}
 use Rattle.std.specs.Str.{bytes_eq}
 use Rattle.uno_model.specs.BuiltIn.{x_interface_name, exception_name, runtime_exception_name, disposed_exception_name, factory_name}
 use Rattle.uno_model.specs.Kinds.{Kind, nesting}
@@ -14,6 +15,7 @@ use Rattle.registry_reading_model.specs.Heads.{Head, named_in, head_named, kind_
 use Rattle.registry_reading_model.specs.Kept.{kept, resolved, cut, innermost}
 use Rattle.registry_reading_model.specs.Kinds.{brackets, behind_brackets, sequences, word_kind_of, kind_of_text, or_named}
 use Rattle.registry_reading_model.specs.Words.{on_some, where_}
+use Rattle.registry_reading.specs.Heads.{named_by}
 
 of_some : {X : Type 0} (x y : X) → Some x ≡ Some y → x ≡ y
 of_some {X} x y e = ap out e
@@ -193,3 +195,34 @@ at_most n next is = omega (arith, is)
 
 pub kept_levels : (text rest : List ℕ) (levels : ℕ) → min 65 (levels + brackets rest) ≡ min 65 (brackets text) → levels ≤ 65 → brackets rest ≡ 0 → levels ≡ min 65 (brackets text)
 kept_levels text rest levels at few none = omega (arith, at, few, none)
+
+-- ---- what is no simple type
+
+none_of_test : (b : Bool) (k : Kind) (o : Option Kind) → b ≡ false → o ≡ None → (if b then Some k else o) ≡ None
+none_of_test false k o other none = none
+none_of_test true k o other none = let bad : true ≡ false = other in cc
+
+shorter_word : (text word : List ℕ) → length word < length text → bytes_eq text word ≡ false
+shorter_word text word less = false_from_ne_true (bytes_eq text word) (λ same. omega (arith, less, ap length ((bytes_eq-Decides text word).0 same)))
+
+pub no_simple : (text : List ℕ) → 14 < length text → None ≡ simple_of text
+unfolding simple_of
+no_simple text long =
+    let other : (word : List ℕ) → length word ≤ 14 → bytes_eq text word ≡ false = λ word few. shorter_word text word (omega (arith, long, few)) in
+    sym (none_of_test _ kd.void _ (other (codes "void") (omega arith)) (none_of_test _ kd.char _ (other (codes "char") (omega arith))
+    (none_of_test _ kd.boolean _ (other (codes "boolean") (omega arith)) (none_of_test _ kd.byte _ (other (codes "byte") (omega arith))
+    (none_of_test _ kd.short _ (other (codes "short") (omega arith)) (none_of_test _ kd.unsigned_short _ (other (codes "unsigned short") (omega arith))
+    (none_of_test _ kd.long _ (other (codes "long") (omega arith)) (none_of_test _ kd.unsigned_long _ (other (codes "unsigned long") (omega arith))
+    (none_of_test _ kd.hyper _ (other (codes "hyper") (omega arith)) (none_of_test _ kd.unsigned_hyper _ (other (codes "unsigned hyper") (omega arith))
+    (none_of_test _ kd.str _ (other (codes "string") (omega arith)) (none_of_test _ kd.kind _ (other (codes "type") (omega arith))
+    (none_of_test _ kd.any None (other (codes "any") (omega arith)) refl)))))))))))))
+
+-- the name of an entity stands for what its header says
+pub name_read : (heads : List Head) (text name : List ℕ) (found : Option Head) (named_class : Option TypeClass) (b : Bool) (k : Kind) → None ≡ simple_of text → b ≡ is_entity_name text
+    → b ≡ true → found ≡ head_named text heads → k ≡ kind_of_class name named_class → name ≡ text → kind_of_class text named_class ≡ named_by found text
+    → Some k ≡ on_some (word_kind_of text) (λ w. Some (resolved (named_in heads) w))
+unfolding word_kind_of resolved named_in named_by
+name_read heads text name found named_class b k none is entity at made same by =
+    ap Some (made ∙ ap (λ n. kind_of_class n named_class) same ∙ by ∙ ap (λ h. named_by h text) at)
+    ∙ ap (λ t. on_some (where_ t (Some (kd.struct text))) (λ w. Some (resolved (named_in heads) w))) (sym entity ∙ is)
+    ∙ ap (λ o. on_some (or_named text o) (λ w. Some (resolved (named_in heads) w))) none

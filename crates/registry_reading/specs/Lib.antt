@@ -1,3 +1,4 @@
+pub mod Feeds
 pub mod Heads
 pub mod Judging
 pub mod Members

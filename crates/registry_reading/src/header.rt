@@ -16,7 +16,7 @@ use crate::words::{behind, word};
 use reg_text::is_built_in_name;
 use std::alloc::Global;
 use uno_base::NoMemory;
-use uno_types::{Body, Entity, Name, Service, Singleton, is_entity_name};
+use uno_types::{Body, Entity, Name, Service, Singleton};
 
 /// The entity that a header opens, perhaps behind `published`.
 #[tactic(auto, unfolding(registry_reading_model::specs::Headers::header_of))]
@@ -47,27 +47,28 @@ fn opened(
     };
     match word(behind) {
         Some((name, rest)) => with_rest(alloc, heads, published, first, name, rest),
-        None => alone(alloc, published, first, behind),
+        None => alone(alloc, heads, published, first, behind),
     }
 }
 
 /// Whether an entity of a text may have this name.
-fn is_free_name(name: &str) -> bool
+fn is_free_name(heads: &Heads<'_>, name: &str) -> bool
     ensures { result ≡ model.is_free_name name.now }
 {
-    is_entity_name(name) && !is_built_in_name(name)
+    heads.is_entity_name(name) && !is_built_in_name(name)
 }
 
 /// A header with nothing behind its name.
 fn alone(
     alloc: Global,
+    heads: &Heads<'_>,
     published: bool,
     first: &str,
     name: &str,
 ) -> Result<Option<Entity>, NoMemory>
     ensures { IfOk result (λ e. option_map entity_of e ≡ where_ (model.is_free_name name.now) (on_some (model.opened_alone first.now) (λ body. Some (record { name = name.now; published = published; body = body })))) }
 {
-    if !is_free_name(name) {
+    if !is_free_name(heads, name) {
         return Ok(None);
     }
     let Some(body) = opened_alone(alloc, first) else {
@@ -119,7 +120,7 @@ fn with_rest(
 ) -> Result<Option<Entity>, NoMemory>
     ensures { IfOk result (λ e. option_map entity_of e ≡ where_ (model.is_free_name name.now) (on_some (model.opened_with (kept (named_in heads.now)) first.now rest.now) (λ body. Some (record { name = name.now; published = published; body = body })))) }
 {
-    if !is_free_name(name) {
+    if !is_free_name(heads, name) {
         return Ok(None);
     }
     let Some(body) = opened_with(alloc, heads, first, rest)? else {
@@ -143,19 +144,19 @@ fn opened_with(
     ensures { IfOk result (λ body. option_map body_of body ≡ model.opened_with (kept (named_in heads.now)) first.now rest.now) }
 {
     match first {
-        "struct" => struct_over(alloc, rest),
-        "exception" => exception_over(alloc, rest),
+        "struct" => struct_over(alloc, heads, rest),
+        "exception" => exception_over(alloc, heads, rest),
         "typedef" => typedef(alloc, heads, rest),
-        "service" => service(alloc, rest),
-        "singleton" => singleton(alloc, rest),
+        "service" => service(alloc, heads, rest),
+        "singleton" => singleton(alloc, heads, rest),
         _ => Ok(None),
     }
 }
 
-fn struct_over(alloc: Global, base: &str) -> Result<Option<Body>, NoMemory>
+fn struct_over(alloc: Global, heads: &Heads<'_>, base: &str) -> Result<Option<Body>, NoMemory>
     ensures { IfOk result (λ body. option_map body_of body ≡ on_some (entity_name_of base.now) (λ name. Some (plain.struct (Some name) []))) }
 {
-    let Some(base) = entity_name(alloc, base)? else {
+    let Some(base) = entity_name(alloc, heads, base)? else {
         return Ok(None);
     };
     Ok(Some(Body::Struct {
@@ -164,10 +165,10 @@ fn struct_over(alloc: Global, base: &str) -> Result<Option<Body>, NoMemory>
     }))
 }
 
-fn exception_over(alloc: Global, base: &str) -> Result<Option<Body>, NoMemory>
+fn exception_over(alloc: Global, heads: &Heads<'_>, base: &str) -> Result<Option<Body>, NoMemory>
     ensures { IfOk result (λ body. option_map body_of body ≡ on_some (entity_name_of base.now) (λ name. Some (plain.exception (Some name) []))) }
 {
-    let Some(base) = entity_name(alloc, base)? else {
+    let Some(base) = entity_name(alloc, heads, base)? else {
         return Ok(None);
     };
     Ok(Some(Body::Exception {
@@ -185,7 +186,7 @@ fn typedef(alloc: Global, heads: &Heads<'_>, text: &str) -> Result<Option<Body>,
     }
 }
 
-fn service(alloc: Global, rest: &str) -> Result<Option<Body>, NoMemory>
+fn service(alloc: Global, heads: &Heads<'_>, rest: &str) -> Result<Option<Body>, NoMemory>
     ensures { IfOk result (λ body. option_map body_of body ≡ model.service_opened rest.now) }
 {
     if rest == "old" {
@@ -196,7 +197,7 @@ fn service(alloc: Global, rest: &str) -> Result<Option<Body>, NoMemory>
     let Some(base) = behind(rest, "new ") else {
         return Ok(None);
     };
-    let Some(base) = entity_name(alloc, base)? else {
+    let Some(base) = entity_name(alloc, heads, base)? else {
         return Ok(None);
     };
     Ok(Some(Body::Service(Service::New {
@@ -205,13 +206,13 @@ fn service(alloc: Global, rest: &str) -> Result<Option<Body>, NoMemory>
     })))
 }
 
-fn singleton(alloc: Global, rest: &str) -> Result<Option<Body>, NoMemory>
+fn singleton(alloc: Global, heads: &Heads<'_>, rest: &str) -> Result<Option<Body>, NoMemory>
     ensures { IfOk result (λ body. option_map body_of body ≡ on_some (word_of rest.now) (λ x. on_some (entity_name_of x.1) (model.singleton_of x.0))) }
 {
     let Some((form, of)) = word(rest) else {
         return Ok(None);
     };
-    let Some(name) = entity_name(alloc, of)? else {
+    let Some(name) = entity_name(alloc, heads, of)? else {
         return Ok(None);
     };
     Ok(singleton_of_form(form, name))

@@ -5,10 +5,12 @@ ghost use Rattle.std.specs.List.{position};
 ghost use Rattle.std.specs.Str.{bytes_eq};
 ghost use Rattle.registry_text_model.specs.EnumValues.{is_long};
 ghost use Rattle.registry_reading_model.specs.Numbers.{number_of};
-ghost use Rattle.registry_reading_model.specs.TextLines.{lines_in, all_plain};
+ghost use Rattle.registry_reading_model.specs.TextLines.{lines_in, all_plain, is_plain};
+ghost use Rattle.uno_model.specs.Names.{is_entity_name};
 ghost use Rattle.registry_reading.specs.Heads.{plain_head, plain_heads, NamesRise};
 ghost use Rattle.registry_reading.specs.Judging.{line_of_head};
 
+use crate::guesses::Guesses;
 use crate::head::Head;
 use crate::last::take_last;
 use crate::lines::{first_line, text_or_empty};
@@ -17,11 +19,12 @@ use crate::words::{behind, identifier, word};
 use std::alloc::Global;
 use std::marker::Model;
 use uno_base::NoMemory;
-use uno_types::TypeClass;
+use uno_types::{TypeClass, is_entity_name};
 
 #[derive(Drop)]
 pub(crate) struct Heads<'a> {
     heads: Vec<Head<'a>>,
+    guesses: Guesses,
 }
 
 impl<'a> Model for Heads<'a> {
@@ -43,6 +46,7 @@ impl<'a> Heads<'a> {
     {
         Heads {
             heads: Vec::new(alloc),
+            guesses: Guesses::none(alloc),
         }
     }
 
@@ -51,17 +55,43 @@ impl<'a> Heads<'a> {
         self,
         number: u32,
         is_header: bool,
-        line: &'a str,
+        line: &'a [u8],
     ) -> Result<Heads<'a>, NoMemory>
-        ensures { IfOk result (λ heads. heads ≡ model.one_line_on number is_header self.entry line.now) }
+        ensures { IfOk result (λ heads. is_plain line.now ≡ true → heads ≡ model.one_line_on number is_header self.entry line.now) }
     {
-        let Heads { heads } = self;
         if is_header {
-            let heads = added(heads, head(number, line))?;
-            return Ok(Heads { heads });
+            return self.with_header(number, line);
         }
-        let heads = marked(heads, line)?;
-        Ok(Heads { heads })
+        self.with_line(line)
+    }
+
+    fn with_header(self, number: u32, line: &'a [u8]) -> Result<Heads<'a>, NoMemory>
+        ensures { IfOk result (λ heads. is_plain line.now ≡ true → heads ≡ model.one_line_on number true self.entry line.now) }
+    {
+        let Heads { heads, guesses } = self;
+        let heads = added(heads, head(number, text_or_empty(line)))?;
+        Ok(Heads { heads, guesses })
+    }
+
+    /// With a line that is no header.
+    fn with_line(self, line: &[u8]) -> Result<Heads<'a>, NoMemory>
+        ensures { IfOk result (λ heads. is_plain line.now ≡ true → heads ≡ model.one_line_on 0 false self.entry line.now) }
+    {
+        if !is_item_beyond(line) {
+            return Ok(self);
+        }
+        let Heads { heads, guesses } = self;
+        let heads = marked(heads)?;
+        Ok(Heads { heads, guesses })
+    }
+
+    /// The same headers, whose names are found faster.
+    fn guessed(self, alloc: Global) -> Result<Heads<'a>, NoMemory>
+        ensures { IfOk result (λ heads. heads ≡ self.entry) }
+    {
+        let Heads { heads, guesses: _ } = self;
+        let guesses = Guesses::of(alloc, heads.as_slice())?;
+        Ok(Heads { heads, guesses })
     }
 
     /// The line of the first header under which a value is beyond those of `long`.
@@ -74,10 +104,45 @@ impl<'a> Heads<'a> {
 
     /// The header of this name.
     pub(crate) fn named(&self, name: &str) -> Option<&Head<'a>>
-        ensures { option_map (λ h. plain_head h.now) result ≡ model.head_named name.now self.now }
+        ensures head { option_map (λ h. plain_head h.now) result ≡ model.head_named name.now self.now }
+        ensures name { IfSome result (λ h. h.now.name.now ≡ name.now) }
     {
-        find(self.heads.as_slice(), name)
+        match tried(self.heads.as_slice(), self.guesses.place(name), name) {
+            Some(head) => Some(head),
+            None => find(self.heads.as_slice(), name),
+        }
     }
+
+    /// Whether it is a name that an entity may have, which is known of one that stands in a header.
+    pub(crate) fn is_entity_name(&self, name: &str) -> bool
+        ensures { result ≡ is_entity_name name.now }
+    {
+        is_name(self.named(name), name)
+    }
+}
+
+/// Whether an entity may have this name, perhaps that of a header.
+pub(crate) fn is_name(head: Option<&Head<'_>>, name: &str) -> bool
+    requires { IfSome head (λ h. h.now.name.now ≡ name.now) }
+    ensures { result ≡ is_entity_name name.now }
+{
+    match head {
+        Some(head) => head.is_name,
+        None => is_entity_name(name),
+    }
+}
+
+/// The header at this place, if it is that of the name.
+fn tried<'b, 'a>(heads: &'b [Head<'a>], place: Option<usize>, name: &str) -> Option<&'b Head<'a>>
+    requires { NamesRise (plain_heads heads.now) }
+    ensures head { IfSome result (λ h. Some (plain_head h.now) ≡ model.head_named name.now (plain_heads heads.now)) }
+    ensures name { IfSome result (λ h. h.now.name.now ≡ name.now) }
+{
+    let head = at(heads, place?)?;
+    if head.name != name {
+        return None;
+    }
+    Some(head)
 }
 
 /// The header of this name among some whose names rise.
@@ -110,6 +175,7 @@ fn head(number: u32, line: &str) -> Head<'_>
         class: class_of_word(first),
         line: number,
         beyond: false,
+        is_name: is_entity_name(name),
     }
 }
 
@@ -136,7 +202,19 @@ fn class_of_word(word: &str) -> Option<TypeClass>
     }
 }
 
-/// Whether a line is that of an item whose value is beyond those of `long`.
+/// The first word of the line of an item.
+const ITEM: &[u8] = b"value ";
+
+/// Whether a line is that of an item whose value is beyond those of `long`. Only the line of an item is read as a text.
+fn is_item_beyond(line: &[u8]) -> bool
+    ensures { is_plain line.now ≡ true → result ≡ model.beyond_long line.now }
+{
+    match line.strip_prefix(ITEM) {
+        Some(_) => is_beyond_long(text_or_empty(line)),
+        None => false,
+    }
+}
+
 #[tactic(auto, unfolding(registry_reading_model::specs::Heads::beyond_long))]
 fn is_beyond_long(line: &str) -> bool
     ensures { result ≡ model.beyond_long line.now }
@@ -190,15 +268,12 @@ fn is_above_last(heads: &[Head<'_>], name: &str) -> bool
     }
 }
 
-/// The last of them is marked, where a line under it has a value beyond those of `long`.
-fn marked<'a>(heads: Vec<Head<'a>>, line: &str) -> Result<Vec<Head<'a>>, NoMemory>
+/// The last of them is marked.
+fn marked(heads: Vec<Head<'_>>) -> Result<Vec<Head<'_>>, NoMemory>
     requires { NamesRise (plain_heads heads.items) }
-    ensures heads { IfOk result (λ hs. plain_heads hs.items ≡ model.one_line_on 0 false (plain_heads heads.entry.items) line.now) }
+    ensures heads { IfOk result (λ hs. plain_heads hs.items ≡ model.last_marked (plain_heads heads.entry.items)) }
     ensures rise { IfOk result (λ hs. NamesRise (plain_heads hs.items)) }
 {
-    if !is_beyond_long(line) {
-        return Ok(heads);
-    }
     let mut heads = heads;
     let Some(mut last) = take_last(&mut heads) else {
         return Ok(heads);
@@ -208,11 +283,13 @@ fn marked<'a>(heads: Vec<Head<'a>>, line: &str) -> Result<Vec<Head<'a>>, NoMemor
     Ok(heads)
 }
 
+const END: &[u8] = b"end";
+
 /// Whether a header stands behind this line: it is the first of a text, or an `end`.
-fn precedes_header(number: u32, line: &str) -> bool
+fn precedes_header(number: u32, line: &[u8]) -> bool
     ensures { result ≡ ((number == 1) || bytes_eq line.now (codes "end")) }
 {
-    number == 1 || line == "end"
+    number == 1 || line == END
 }
 
 /// All headers of a text of lines.
@@ -225,13 +302,12 @@ pub(crate) fn heads_of(alloc: Global, bytes: &[u8]) -> Result<Heads<'_>, NoMemor
     let mut number = 1u32;
     let mut is_header = false;
     while let Some((line, behind)) = first_line(rest) {
-        let line = text_or_empty(line);
         heads = heads.look(number, is_header, line)?;
         is_header = precedes_header(number, line);
         number += 1;
         rest = behind;
     }
-    Ok(heads)
+    heads.guessed(alloc)
 }
 
 fn first_beyond(heads: &[Head<'_>]) -> Option<u32>

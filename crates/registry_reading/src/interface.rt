@@ -110,14 +110,19 @@ fn param(alloc: Global, heads: &Heads<'_>, text: &str) -> Result<Option<Param>, 
 
 /// What reading an attribute raises, before what writing it raises.
 #[tactic(auto, unfolding(registry_reading_model::specs::Bodies::get_raises_added))]
-fn with_get_raises(alloc: Global, member: Member, text: &str) -> Result<Option<Member>, NoMemory>
+fn with_get_raises(
+    alloc: Global,
+    heads: &Heads<'_>,
+    member: Member,
+    text: &str,
+) -> Result<Option<Member>, NoMemory>
     ensures { IfOk result (λ m. option_map member_of m ≡ model.get_raises_added text.now (member_of member)) }
 {
     let Member::Attribute(mut attribute) = member else {
         return Ok(None);
     };
     if !attribute.set_raises.is_empty()
-        || !push_entity_name(alloc, &mut attribute.get_raises, text)?
+        || !push_entity_name(alloc, heads, &mut attribute.get_raises, text)?
     {
         return Ok(None);
     }
@@ -125,13 +130,18 @@ fn with_get_raises(alloc: Global, member: Member, text: &str) -> Result<Option<M
 }
 
 #[tactic(auto, unfolding(registry_reading_model::specs::Bodies::set_raises_added))]
-fn with_set_raises(alloc: Global, member: Member, text: &str) -> Result<Option<Member>, NoMemory>
+fn with_set_raises(
+    alloc: Global,
+    heads: &Heads<'_>,
+    member: Member,
+    text: &str,
+) -> Result<Option<Member>, NoMemory>
     ensures { IfOk result (λ m. option_map member_of m ≡ model.set_raises_added text.now (member_of member)) }
 {
     let Member::Attribute(mut attribute) = member else {
         return Ok(None);
     };
-    if !push_entity_name(alloc, &mut attribute.set_raises, text)? {
+    if !push_entity_name(alloc, heads, &mut attribute.set_raises, text)? {
         return Ok(None);
     }
     Ok(Some(Member::Attribute(attribute)))
@@ -161,13 +171,18 @@ fn with_param(
 }
 
 #[tactic(auto, unfolding(registry_reading_model::specs::Bodies::raises_added))]
-fn with_raises(alloc: Global, member: Member, text: &str) -> Result<Option<Member>, NoMemory>
+fn with_raises(
+    alloc: Global,
+    heads: &Heads<'_>,
+    member: Member,
+    text: &str,
+) -> Result<Option<Member>, NoMemory>
     ensures { IfOk result (λ m. option_map member_of m ≡ model.raises_added text.now (member_of member)) }
 {
     let Member::Method(mut method) = member else {
         return Ok(None);
     };
-    if !push_entity_name(alloc, &mut method.raises, text)? {
+    if !push_entity_name(alloc, heads, &mut method.raises, text)? {
         return Ok(None);
     }
     Ok(Some(Member::Method(method)))
@@ -178,6 +193,7 @@ fn with_raises(alloc: Global, member: Member, text: &str) -> Result<Option<Membe
 /// A base, before all members.
 fn push_base(
     alloc: Global,
+    heads: &Heads<'_>,
     bases: &mut Vec<Base>,
     members: &[Member],
     optional: bool,
@@ -188,7 +204,7 @@ fn push_base(
     if !members.is_empty() {
         return Ok(false);
     }
-    let Some(name) = entity_name(alloc, text)? else {
+    let Some(name) = entity_name(alloc, heads, text)? else {
         return Ok(false);
     };
     bases.push(Base { optional, name })?;
@@ -208,8 +224,8 @@ pub(crate) fn interface_line(
     ensures { IfOk result (λ taken. IsTaken taken (plain.interface (map base_of bases.new.items) (map member_of members.new.items)) (model.interface_line (kept (named_in heads.now)) (map base_of bases.old.items) (map member_of members.old.items) word.now text.now)) }
 {
     match word {
-        "base" => push_base(alloc, bases, members, false, text),
-        "optional" => push_base(alloc, bases, members, true, text),
+        "base" => push_base(alloc, heads, bases, members, false, text),
+        "optional" => push_base(alloc, heads, bases, members, true, text),
         _ => member_line(alloc, heads, members, word, text),
     }
 }
@@ -311,10 +327,10 @@ fn with_line(
     ensures { IfOk result (λ m. option_map member_of m ≡ added_under (kept (named_in heads.now)) word.now text.now (member_of member)) }
 {
     match word {
-        "getraises" => with_get_raises(alloc, member, text),
-        "setraises" => with_set_raises(alloc, member, text),
+        "getraises" => with_get_raises(alloc, heads, member, text),
+        "setraises" => with_set_raises(alloc, heads, member, text),
         "param" => with_param(alloc, heads, member, text),
-        "raises" => with_raises(alloc, member, text),
+        "raises" => with_raises(alloc, heads, member, text),
         _ => Ok(None),
     }
 }

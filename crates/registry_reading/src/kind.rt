@@ -3,18 +3,19 @@ ghost use Rattle.std.specs.Prelude.{◌≡◌, ◌+◌, ◌≤◌, IfOk, min, op
 ghost use Rattle.uno_model.specs.NamedTypes.{simple_of};
 ghost use Rattle.uno_entities.specs.TypeNames.{kind_of};
 ghost use Rattle.registry_reading_model.specs.Bodies.{changed_kind};
-ghost use Rattle.registry_reading_model.specs.Heads as heads_model;
 ghost use Rattle.registry_reading_model.specs.Heads.{named_in, kind_of_class};
 ghost use Rattle.registry_reading_model.specs.Kept.{kept, resolved};
 ghost use Rattle.registry_reading_model.specs.Kinds as model;
 ghost use Rattle.registry_reading_model.specs.Words.{on_some};
+ghost use Rattle.registry_reading.specs.Heads.{plain_head, named_by};
 
-use crate::heads::Heads;
+use crate::head::Head;
+use crate::heads::{Heads, is_name};
 use crate::words::stripped;
 use std::alloc::Global;
 use uno_base::NoMemory;
 use uno_entities::MOST_LEVELS;
-use uno_types::{Name, TypeClass, TypeName, is_entity_name};
+use uno_types::{Name, TypeClass, TypeName};
 
 /// The type that a text spells, if it has the form of one. A name that is no type stands as a struct's, of which there is none. Of more
 /// `[]` than a type may have one too many is kept.
@@ -86,17 +87,24 @@ fn word_kind(alloc: Global, heads: &Heads<'_>, text: &str) -> Result<Option<Type
     if let Some(kind) = simple(text) {
         return Ok(Some(kind));
     }
-    if !is_entity_name(text) {
+    let head = heads.named(text);
+    if !is_name(head, text) {
         return Ok(None);
     }
     let name = Name::of(alloc, text)?;
-    Ok(Some(of_class(class_named(heads, text), name)))
+    Ok(Some(of_class(class_named(head, text), name)))
 }
+
+/// No simple type's name has more bytes.
+const LONGEST: usize = 14;
 
 #[tactic(auto, unfolding(uno_model::specs::NamedTypes::simple_of))]
 fn simple(text: &str) -> Option<TypeName>
     ensures { option_map kind_of result ≡ simple_of text.now }
 {
+    if text.len() > LONGEST {
+        return None;
+    }
     match text {
         "void" => Some(TypeName::Void),
         "char" => Some(TypeName::Char),
@@ -115,10 +123,10 @@ fn simple(text: &str) -> Option<TypeName>
     }
 }
 
-/// The class of the type that a name stands for, built-in entities among them.
-#[tactic(auto, unfolding(registry_reading_model::specs::Heads::named_in))]
-fn class_named(heads: &Heads<'_>, name: &str) -> Option<TypeClass>
-    ensures { kind_of_class name.now result ≡ named_in heads.now name.now }
+/// The class of the type that a name stands for, by its header; built-in entities have none.
+#[tactic(auto, unfolding(crate::specs::Heads::named_by))]
+fn class_named(head: Option<&Head<'_>>, name: &str) -> Option<TypeClass>
+    ensures { kind_of_class name.now result ≡ named_by (option_map (λ h. plain_head h.now) head.entry) name.now }
 {
     match name {
         "com.sun.star.uno.XInterface" | "com.sun.star.lang.XMultiServiceFactory" => {
@@ -129,7 +137,7 @@ fn class_named(heads: &Heads<'_>, name: &str) -> Option<TypeClass>
         | "com.sun.star.lang.DisposedException" => return Some(TypeClass::Exception),
         _ => {}
     }
-    heads.named(name)?.class
+    head?.class
 }
 
 /// The type of a name that stands for one of this class, or for none.

@@ -4,6 +4,7 @@
 mod body;
 mod error;
 mod fields;
+mod guesses;
 mod head;
 mod header;
 mod heads;

@@ -4,15 +4,20 @@ ghost use Rattle.registry_reading_model.specs.Bodies.{pushed};
 ghost use Rattle.registry_reading_model.specs.Words.{entity_name_of, identifier_alone};
 ghost use Rattle.registry_reading.specs.Taken.{IsTaken};
 
+use crate::heads::Heads;
 use std::alloc::Global;
 use uno_base::NoMemory;
-use uno_types::{Name, is_entity_name, is_identifier};
+use uno_types::{Name, is_identifier};
 
 /// The name of an entity, alone.
-pub(crate) fn entity_name(alloc: Global, text: &str) -> Result<Option<Name>, NoMemory>
+pub(crate) fn entity_name(
+    alloc: Global,
+    heads: &Heads<'_>,
+    text: &str,
+) -> Result<Option<Name>, NoMemory>
     ensures { IfOk result (λ name. name ≡ entity_name_of text.now) }
 {
-    if !is_entity_name(text) {
+    if !heads.is_entity_name(text) {
         return Ok(None);
     }
     Ok(Some(Name::of(alloc, text)?))
@@ -31,12 +36,13 @@ pub(crate) fn identifier_alone(alloc: Global, text: &str) -> Result<Option<Name>
 /// The name of an entity behind others.
 pub(crate) fn push_entity_name(
     alloc: Global,
+    heads: &Heads<'_>,
     names: &mut Vec<Name>,
     text: &str,
 ) -> Result<bool, NoMemory>
     ensures { IfOk result (λ taken. IsTaken taken names.new.items (pushed names.old.items (entity_name_of text.now))) }
 {
-    let Some(name) = entity_name(alloc, text)? else {
+    let Some(name) = entity_name(alloc, heads, text)? else {
         return Ok(false);
     };
     names.push(name)?;

@@ -89,13 +89,14 @@ fn with_rest(
 #[tactic(auto, unfolding(registry_reading_model::specs::Bodies::raised_added))]
 fn with_raises(
     alloc: Global,
+    heads: &Heads<'_>,
     constructor: Constructor,
     text: &str,
 ) -> Result<Option<Constructor>, NoMemory>
     ensures { IfOk result (λ k. option_map constructor_of k ≡ model.raised_added text.now (constructor_of constructor)) }
 {
     let mut constructor = constructor;
-    if !push_entity_name(alloc, &mut constructor.raises, text)? {
+    if !push_entity_name(alloc, heads, &mut constructor.raises, text)? {
         return Ok(None);
     }
     Ok(Some(constructor))
@@ -115,7 +116,7 @@ fn with_line(
     match word {
         "param" => with_param(alloc, heads, constructor, text),
         "rest" => with_rest(alloc, constructor, text),
-        "raises" => with_raises(alloc, constructor, text),
+        "raises" => with_raises(alloc, heads, constructor, text),
         _ => Ok(None),
     }
 }
@@ -194,19 +195,29 @@ fn property(alloc: Global, heads: &Heads<'_>, text: &str) -> Result<Option<Part>
     Ok(Some(Part::Property { name, flags, kind }))
 }
 
-fn interface_part(alloc: Global, optional: bool, text: &str) -> Result<Option<Part>, NoMemory>
+fn interface_part(
+    alloc: Global,
+    heads: &Heads<'_>,
+    optional: bool,
+    text: &str,
+) -> Result<Option<Part>, NoMemory>
     ensures { IfOk result (λ p. option_map part_of p ≡ on_some (entity_name_of text.now) (λ name. Some (plain.face optional name))) }
 {
-    match entity_name(alloc, text)? {
+    match entity_name(alloc, heads, text)? {
         Some(name) => Ok(Some(Part::Interface { optional, name })),
         None => Ok(None),
     }
 }
 
-fn service_part(alloc: Global, optional: bool, text: &str) -> Result<Option<Part>, NoMemory>
+fn service_part(
+    alloc: Global,
+    heads: &Heads<'_>,
+    optional: bool,
+    text: &str,
+) -> Result<Option<Part>, NoMemory>
     ensures { IfOk result (λ p. option_map part_of p ≡ on_some (entity_name_of text.now) (λ name. Some (plain.subservice optional name))) }
 {
-    match entity_name(alloc, text)? {
+    match entity_name(alloc, heads, text)? {
         Some(name) => Ok(Some(Part::Service { optional, name })),
         None => Ok(None),
     }
@@ -223,10 +234,10 @@ pub(crate) fn part(
     ensures { IfOk result (λ p. option_map part_of p ≡ model.part_of (kept (named_in heads.now)) word.now text.now) }
 {
     match word {
-        "interface" => interface_part(alloc, false, text),
-        "optinterface" => interface_part(alloc, true, text),
-        "service" => service_part(alloc, false, text),
-        "optservice" => service_part(alloc, true, text),
+        "interface" => interface_part(alloc, heads, false, text),
+        "optinterface" => interface_part(alloc, heads, true, text),
+        "service" => service_part(alloc, heads, false, text),
+        "optservice" => service_part(alloc, heads, true, text),
         "property" => property(alloc, heads, text),
         _ => Ok(None),
     }

@@ -1,4 +1,5 @@
 pub mod ClimbLemmas
+pub mod FewLemmas
 pub mod FirstLemmas
 pub mod KindLaws
 pub mod KnownLemmas

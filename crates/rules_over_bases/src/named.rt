@@ -1,5 +1,7 @@
 //! What has a name, and that the names in a list differ.
 ghost use Rattle.std.specs.Prelude.{◌≡◌, ℕ, List, map, IfOk};
+ghost use Rattle.std.specs.List.{list_any};
+ghost use Rattle.std.specs.Str.{bytes_eq};
 ghost use Rattle.uno_model.specs.Sound.{all_differ};
 ghost use Rattle.rules_over_bases.specs.Seen.{Sees};
 
@@ -7,6 +9,9 @@ use crate::seen::Seen;
 use std::alloc::Global;
 use uno_base::NoMemory;
 use uno_entities::{Constant, Constructor, Field, Item, Member, Param};
+
+/// So many names are compared with each other, which takes less time than a set of them.
+const FEW: usize = 16;
 
 /// What is declared under a name.
 pub(crate) trait Named {
@@ -86,6 +91,34 @@ pub(crate) fn add_all<'a, T: Named>(seen: &mut Seen<'a>, things: &'a [T]) -> Res
 pub(crate) fn names_differ<T: Named>(alloc: Global, things: &[T]) -> Result<bool, NoMemory>
     ensures { IfOk result (λ b. b ≡ all_differ (map T.named things.now)) }
 {
+    if things.len() <= FEW {
+        return Ok(few_differ(things));
+    }
     let mut seen = Seen::new(alloc);
     add_all(&mut seen, things)
+}
+
+/// The same of few: each is compared with those behind it.
+fn few_differ<T: Named>(things: &[T]) -> bool
+    ensures { result ≡ all_differ (map T.named things.now) }
+{
+    let mut rest = things;
+    while let Some((first, behind)) = rest.split_first() {
+        if is_among(first.name(), behind) {
+            return false;
+        }
+        rest = behind;
+    }
+    true
+}
+
+fn is_among<T: Named>(name: &str, things: &[T]) -> bool
+    ensures { result ≡ list_any (bytes_eq name.now) (map T.named things.now) }
+{
+    for thing in things {
+        if name == thing.name() {
+            return true;
+        }
+    }
+    false
 }
