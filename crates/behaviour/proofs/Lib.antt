@@ -3,6 +3,7 @@ pub mod EndingLemmas
 pub mod EvaluationLemmas
 pub mod FunctionLemmas
 pub mod GivingLemmas
+pub mod LeavingLemmas
 pub mod LimitLemmas
 pub mod ManagerLemmas
 pub mod MethodLemmas

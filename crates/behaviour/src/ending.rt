@@ -1,28 +1,26 @@
 //! How a frame ends: what leaves it, is returned or raised.
-ghost use Rattle.std.specs.Prelude.{◌≡◌, ◌+◌, ◌-◌, ◌^◌, ℕ, List, min, IfOk, map};
+ghost use Rattle.std.specs.Prelude.{◌≡◌, ℕ, List, IfOk, map};
 ghost use Rattle.message_model.specs.Messages.{returned, raised};
-ghost use Rattle.message_model.specs.Sayable.{name_weight};
 ghost use Rattle.plan_model.specs.Asking.{ending, ends_with, fails};
 ghost use Rattle.plan_model.specs.Evaluation.{is_deep};
 ghost use Rattle.plan_model.specs.Leaving.{caused, sendable, answer_depth};
 ghost use Rattle.uno_model.specs.Kinds as kd;
 ghost use Rattle.uno_model.specs.Sound.{IsSound};
 ghost use Rattle.uno_values.specs.Values.{plain_of};
-ghost use Rattle.behaviour.specs.Answers.{raised_of, unless_caused};
+ghost use Rattle.behaviour.specs.Answers.{unless_caused};
 ghost use Rattle.behaviour.specs.Effects.{effect_of};
 ghost use Rattle.behaviour.specs.Running.{running_of};
 
 use crate::Effect;
-use crate::exceptions::{
-    RUNTIME_EXCEPTION, caused, caused_value, exception_of, may_raise, undeclared_value,
-};
-use crate::limits::{has_deep, is_deep, is_heavy, name_weight};
+use crate::exceptions::{RUNTIME_EXCEPTION, caused, caused_value, exception_of};
+use crate::leaving::leaving;
+use crate::limits::{has_deep, is_deep, is_heavy, reply_weight};
 use crate::running::Running;
 use plan_types::RuntimeCause;
 use std::alloc::Global;
 use uno_base::NoMemory;
 use uno_types::{Registry, Tid};
-use uno_values::{AnyValue, Value, any_weight, depth_of, weight, weights};
+use uno_values::{Value, depth_of, weight, weights};
 
 /// The frame ends with the exception of a cause.
 pub(crate) fn fails(
@@ -44,7 +42,6 @@ pub(crate) fn fails(
 }
 
 /// The frame ends with an exception of this name, or the one that leaves it in its place.
-#[tactic(auto, unfolding(plan_model::specs::Leaving::leaving))]
 pub(crate) fn raises(
     alloc: Global,
     registry: &Registry,
@@ -55,30 +52,9 @@ pub(crate) fn raises(
     requires { IsSound registry.now }
     ensures { IfOk result (λ e. effect_of e ≡ ends_with registry.now (running_of running.entry) (raised (kd.exception name.now) (plain_of value))) }
 {
-    if may_raise(registry, &running.function, name) {
-        return raises_as_it_is(alloc, running.tid, name, value);
-    }
-    drop(value);
-    raises_as_it_is(
-        alloc,
-        running.tid,
-        RUNTIME_EXCEPTION,
-        undeclared_value(alloc, name)?,
-    )
-}
-
-/// The same of an exception that the function may raise.
-fn raises_as_it_is(alloc: Global, tid: &Tid, name: &str, value: Value) -> Result<Effect, NoMemory>
-    ensures { IfOk result (λ e. (face : List ℕ) (number : ℕ) → effect_of e ≡ ending (sendable tid.now face number (raised (kd.exception name.now) (plain_of value)))) }
-{
     let exception = exception_of(alloc, name, value)?;
-    match exception_excess(tid, &exception) {
-        None => Ok(Effect::Raises(exception)),
-        Some(cause) => {
-            drop(exception);
-            raises_cause(alloc, cause)
-        }
-    }
+    let leaves = leaving(alloc, registry, running.tid, &running.function, exception)?;
+    Ok(Effect::Raises(leaves))
 }
 
 /// The frame ends with the exception of a cause, whatever it weighs.
@@ -86,19 +62,6 @@ fn raises_cause(alloc: Global, cause: RuntimeCause) -> Result<Effect, NoMemory>
     ensures { IfOk result (λ e. effect_of e ≡ ending (caused cause)) }
 {
     Ok(Effect::Raises(caused(alloc, cause)?))
-}
-
-/// Why an exception does not leave a frame as it is.
-fn exception_excess(tid: &Tid, exception: &AnyValue) -> Option<RuntimeCause>
-    ensures { (face : List ℕ) (number : ℕ) → sendable tid.now face number (raised_of exception.now) ≡ unless_caused result (raised_of exception.now) }
-{
-    if is_heavy(reply_weight(tid, any_weight(exception))) {
-        return Some(RuntimeCause::TooLarge);
-    }
-    if is_deep(depth_of(&exception.value).saturating_add(1)) {
-        return Some(RuntimeCause::TooDeep);
-    }
-    None
 }
 
 /// The frame ends with a result and the values of the parameters that come out, or with the exception that leaves it in their place.
@@ -150,14 +113,3 @@ fn has_deep_answer(value: &Value, outs: &[Value]) -> bool
     }
     has_deep(outs)
 }
-
-/// A reply: its flags, its thread, and an answer of this weight.
-fn reply_weight(tid: &Tid, answer: u64) -> u64
-    ensures { result ≡ min (1 + (name_weight tid.now + answer)) (2 ^ 64 - 1) }
-{
-    name_weight(tid.as_bytes())
-        .saturating_add(answer)
-        .saturating_add(FLAGS)
-}
-
-const FLAGS: u64 = 1;

@@ -5,6 +5,7 @@ ghost use Rattle.message_model.specs.Calls.{may_raise};
 ghost use Rattle.message_model.specs.Messages.{raised};
 ghost use Rattle.plan_model.specs.Leaving.{message_of, caused};
 ghost use Rattle.type_registry.specs.Functions.{lent_function};
+ghost use Rattle.uno_entities.specs.TypeNames.{kind_of};
 ghost use Rattle.uno_model.specs.Kinds as kd;
 ghost use Rattle.uno_model.specs.Reaches.{is_base_of};
 ghost use Rattle.uno_model.specs.Sound.{IsSound};
@@ -96,10 +97,38 @@ pub(crate) fn exception_of(alloc: Global, name: &str, value: Value) -> Result<An
     }
 }
 
-/// Whether a function may raise an exception of this name: it declares it or a base of it, or the exception derives from the one that
-/// every function may raise.
+/// Whether a function may raise an exception of a type: it declares it or a base of it, or the exception derives from the one that every
+/// function may raise.
 #[tactic(auto, unfolding(message_model::specs::Calls::may_raise))]
-pub(crate) fn may_raise(registry: &Registry, function: &FunctionRef, name: &str) -> bool
+pub(crate) fn may_raise(registry: &Registry, function: &FunctionRef, kind: &TypeName) -> bool
+    requires { IsSound registry.now }
+    ensures { result ≡ may_raise registry.now (lent_function function.now) (kind_of kind.now) }
+{
+    match kind {
+        TypeName::Exception(name) => may_raise_named(registry, function, name.as_str()),
+        TypeName::Void
+        | TypeName::Char
+        | TypeName::Boolean
+        | TypeName::Byte
+        | TypeName::Short
+        | TypeName::UnsignedShort
+        | TypeName::Long
+        | TypeName::UnsignedLong
+        | TypeName::Hyper
+        | TypeName::UnsignedHyper
+        | TypeName::Str
+        | TypeName::Kind
+        | TypeName::Any
+        | TypeName::Enum(_)
+        | TypeName::Struct(_)
+        | TypeName::Interface(_)
+        | TypeName::Sequence(_) => false,
+    }
+}
+
+/// The same of an exception by its name.
+#[tactic(auto, unfolding(message_model::specs::Calls::may_raise))]
+fn may_raise_named(registry: &Registry, function: &FunctionRef, name: &str) -> bool
     requires { IsSound registry.now }
     ensures { result ≡ may_raise registry.now (lent_function function.now) (kd.exception name.now) }
 {

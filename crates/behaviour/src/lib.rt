@@ -9,6 +9,7 @@ mod evaluation;
 mod exceptions;
 mod functions;
 mod jobs;
+mod leaving;
 mod limits;
 mod manager;
 mod names;
@@ -22,4 +23,5 @@ mod words;
 
 pub use effect::{Done, Effect};
 pub use jobs::next;
+pub use leaving::leaving_exception;
 pub use root::RootRun;

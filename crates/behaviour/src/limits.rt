@@ -69,6 +69,9 @@ const LONG_LENGTH: u64 = 5;
 
 const SHORT_LENGTH: u64 = 1;
 
+/// The flags of a reply.
+const FLAGS: u64 = 1;
+
 /// The longest header of a request.
 pub(crate) fn heading_weight(tid: &Tid, oid: &str, face: &str) -> u64
     ensures { result ≡ min (heading_weight tid.now oid.now face.now) (2 ^ 64 - 1) }
@@ -83,6 +86,15 @@ pub(crate) fn name_weight(name: &[u8]) -> u64
     ensures { result ≡ min (name_weight name.now) (2 ^ 64 - 1) }
 {
     text_weight(name).saturating_add(SLOT)
+}
+
+/// A reply: its flags, its thread, and an answer of this weight.
+pub(crate) fn reply_weight(tid: &Tid, answer: u64) -> u64
+    ensures { result ≡ min (1 + (name_weight tid.now + answer)) (2 ^ 64 - 1) }
+{
+    name_weight(tid.as_bytes())
+        .saturating_add(answer)
+        .saturating_add(FLAGS)
 }
 
 /// A length, and that many bytes.

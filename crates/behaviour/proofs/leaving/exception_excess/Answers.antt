@@ -1,7 +1,7 @@
-use Rattle.behaviour.proofs.EndingLemmas.{any_counted, any_deep}
+use Rattle.behaviour.proofs.LeavingLemmas.{any_counted, any_deep}
 use Rattle.behaviour.proofs.LimitLemmas.{answer_too_large, answer_too_deep, answer_within, reply_counted}
 use Rattle.behaviour.specs.Answers.{raised_of}
-use Rattle.behaviour.proofs.ending.exception_excess.Goals as goal
+use Rattle.behaviour.proofs.leaving.exception_excess.Goals as goal
 
 pub returns-then-is_heavy : goal.returns-then-is_heavy
 returns-then-is_heavy c face number =
