@@ -70,10 +70,11 @@ unfoldable pub loses_all : Holder → List Ref → Tables → Tables
 loses_all h [] t = t
 loses_all h (r ∷ rs) t = loses_all h rs (loses h r t)
 
--- a pair of the peer's that nobody holds any more is released; an object of this end never is
+-- an object of this end stays, and so does a pair that somebody holds
 abbrev pub stays : Setting → (oid face : List ℕ) → Tables → Bool
 stays g oid face t = is_own g oid || is_held oid face t
 
+-- a pair of the peer's that does not stay is released
 abbrev pub gives_back : Setting → Ref → Tables → Tables
 gives_back g (peer oid face) t = if stays g oid face t then t else releases g oid face t
 gives_back g r t = t
