@@ -25,7 +25,7 @@ use uno_values::{AnyValue, Reference, Value};
 pub(crate) const RUNTIME_EXCEPTION: &str = "com.sun.star.uno.RuntimeException";
 
 /// The exception of a cause.
-pub(crate) fn caused(alloc: Global, cause: RuntimeCause) -> Result<AnyValue, NoMemory>
+pub fn caused(alloc: Global, cause: RuntimeCause) -> Result<AnyValue, NoMemory>
     ensures { IfOk result (λ x. raised_of x ≡ caused cause) }
 {
     exception_of(alloc, RUNTIME_EXCEPTION, caused_value(alloc, cause)?)

@@ -99,10 +99,21 @@ fn body_effect(
     if behaviour == MANAGER {
         return manager_effect(alloc, registry, plan, running);
     }
-    match method_for(&running.function, methods_of(plan, behaviour)) {
+    match method_of(plan, behaviour, &running.function) {
         Some(method) => place_effect(alloc, registry, running, method, place),
         None => default_effect(alloc, registry, running),
     }
+}
+
+/// The method that a behaviour has for a function, where it is written.
+pub fn method_of<'a>(
+    plan: &'a Plan,
+    behaviour: u32,
+    function: &FunctionRef,
+) -> Option<&'a Method>
+    ensures { method_there result ≡ method_for (lent_function function.now) (methods_of (slice_get (plan_of plan.now).behaviours behaviour)) }
+{
+    method_for(function, methods_of(plan, behaviour))
 }
 
 /// The methods of a behaviour by its number.

@@ -22,6 +22,7 @@ mod threads;
 mod words;
 
 pub use effect::{Done, Effect};
-pub use jobs::next;
+pub use exceptions::caused;
+pub use jobs::{method_of, next};
 pub use leaving::leaving_exception;
 pub use root::RootRun;

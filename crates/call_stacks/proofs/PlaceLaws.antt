@@ -1,6 +1,7 @@
 -- The row of a TID is that of its birth.
-use Rattle.std.proofs.Common.{◌≡◌, ℕ, suc, ◌<◌, ◌≤◌, true, false, cond, List, [], ◌∷◌, ◌++◌, length, Option, None, Some, option_map, IsSome, refl, ap, ◌∙◌, inl, inr, arith}
-use Rattle.std.specs.Prelude.{nat_eq, drop, ◌⊎◌, ◌||◌}
+use Rattle.std.proofs.Common.{◌≡◌, ℕ, suc, ◌<◌, ◌≤◌, true, false, cond, List, [], ◌∷◌, ◌++◌, length, Option, None, Some, option_map, IsSome, refl, ap, subst, ◌∙◌, inl, inr, arith}
+use Rattle.std.specs.Prelude.{nat_eq, drop, if◌then◌else◌, ◌⊎◌, ◌||◌}
+use Rattle.std.specs.Cmp.Lexicographic.{bytes_decides}
 use Rattle.std.specs.List.{list_any}
 use Rattle.std.proofs.lemmas.Bool.Decides.{nat_tests}
 use Rattle.plan_model.specs.Frames as plain
@@ -145,3 +146,25 @@ some_frames (f ∷ fs) some = omega arith
 
 pub no_top : (fs gs : List plain.Frame) → fs ≡ gs → gs ≡ [] → ¬ (IsSome (first_frame fs))
 no_top fs gs same none some = let more = some_frames fs some in let size = ap length (same ∙ none) in omega (arith, more, size)
+
+-- ---- what is below a top frame
+
+below_one : (tid : List ℕ) (s : plain.Stack) (fs : List plain.Frame) (ss : List plain.Stack) → is_of tid s ≡ true → frames_of tid ss ≡ [] → frames_of tid (less_one s.tid fs ss) ≡ drop 1 fs
+unfolding frames_of
+below_one tid s [] ss here none = none
+below_one tid s (f ∷ []) ss here none = none
+below_one tid s (f ∷ (g ∷ gs)) ss here none = rw here refl
+
+-- no other stack of the TID comes in the place of one that is gone
+pub frames_popped : (tid : List ℕ) (rows : Rows) → AreAlone rows → frames_of tid (popped tid (stacks_of rows)) ≡ drop 1 (frames_of tid (stacks_of rows))
+unfolding popped frames_of
+frames_popped tid [] alone = refl
+frames_popped tid (r ∷ rs) alone =
+    elim (is_of tid r.1) as (λ b. is_of tid r.1 ≡ b → frames_of tid (if b then less_one r.1.tid r.1.frames (stacks_of rs) else r.1 ∷ popped tid (stacks_of rs)) ≡ drop 1 (if b then r.1.frames else frames_of tid (stacks_of rs))) [
+      | true ↦ λ here. below_one tid r.1 r.1.frames (stacks_of rs) here (no_frames tid rs (ap (λ q. birth_in q rs) ((bytes_decides tid r.1.tid).0 here) ∙ alone.0))
+      | false ↦ λ other. rw other (frames_popped tid rs alone.1)
+    ] refl
+
+pub below_popped : (tid : List ℕ) (rows : Rows) (ss now : List plain.Stack) → stacks_of rows ≡ ss → AreAlone rows → now ≡ popped tid ss → frames_of tid now ≡ drop 1 (frames_of tid ss)
+below_popped tid rows ss now view alone is =
+    ap (frames_of tid) is ∙ subst (λ ss. frames_of tid (popped tid ss) ≡ drop 1 (frames_of tid ss)) view (frames_popped tid rows alone)

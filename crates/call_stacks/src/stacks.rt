@@ -1,8 +1,8 @@
 //! The stacks of an endpoint, which contracts see as a list, oldest first.
-ghost use Rattle.std.specs.Prelude.{◌≡◌, [], IsSome, OnOk, OnErr, Some, is_some, false, option_map};
+ghost use Rattle.std.specs.Prelude.{◌≡◌, [], IsSome, OnOk, OnErr, Some, is_some, false, drop, option_map};
 ghost use Rattle.std.specs.List.{list_any};
 ghost use Rattle.std.specs.Result.{result_ok};
-ghost use Rattle.plan_model.specs.Frames.{outgoing, outgoing_in, is_of, top, depth_of, nth_tid, ready, pushed, popped, with_top, answerable};
+ghost use Rattle.plan_model.specs.Frames.{outgoing, outgoing_in, is_of, frames_of, top, depth_of, nth_tid, ready, pushed, popped, with_top, answerable};
 ghost use Rattle.plan_types.specs.Frames.{frame_of};
 ghost use Rattle.call_stacks.specs.WaitingCalls.{call_of, is_waiting, HaveOwnTids};
 
@@ -80,6 +80,7 @@ impl Stacks {
     pub fn pop(&mut self, tid: &Tid) -> Option<Frame>
         ensures top { option_map frame_of result ≡ top tid.now self.old }
         ensures popped { self.new ≡ popped tid.now self.old }
+        ensures below { frames_of tid.now self.new ≡ drop 1 (frames_of tid.now self.old) }
     {
         let Some(birth) = births::birth(&self.births, tid) else {
             return None

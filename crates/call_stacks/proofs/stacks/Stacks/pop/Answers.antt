@@ -1,7 +1,7 @@
 use Rattle.std.proofs.Common.{◌∙◌, ap, sym, refl, length, subst, ◌<◌, ◌≤◌}
 use Rattle.plan_model.specs.Frames.{top, first_frame, popped, frames_of}
 use Rattle.call_stacks.specs.Rows.{rows_of, stacks_of, one_less}
-use Rattle.call_stacks.proofs.PlaceLaws.{has_stack, place_frames, no_frames, place_popped, place_ended, none_popped}
+use Rattle.call_stacks.proofs.PlaceLaws.{has_stack, place_frames, no_frames, place_popped, place_ended, none_popped, below_popped}
 use Rattle.call_stacks.proofs.StackLaws.{at_place, nowhere, kept_changed, kept_without}
 use Rattle.call_stacks.proofs.stacks.Stacks.pop.Goals as goal
 
@@ -64,3 +64,15 @@ returns-clause-popped c =
     let at = at_place c.args.tid.now c.in-Some.birth rows c.self.inside.births c.self.inside.next c.self.invariant c.in-Some.ensures in
     let few : length (frames_of c.args.tid.now (stacks_of rows)) ≤ 1 = subst (λ n. n ≤ 1) (c.depth.ensures ∙ ap length (place_frames c.args.tid.now c.in-Some.birth rows at)) c.if-depth-gt1.false in
     ap stacks_of c.end.ensures.ended ∙ place_ended c.args.tid.now c.in-Some.birth rows at few ∙ ap (popped c.args.tid.now) c.self.view_is
+
+pub returns-in_default-clause-below : goal.returns-in_default-clause-below
+returns-in_default-clause-below c =
+    below_popped c.args.tid.now (rows_of c.self.inside.stacks.entries) _ _ c.self.view_is c.self.invariant.alone (returns-in_default-clause-popped c)
+
+pub returns-then-depth-gt1-clause-below : goal.returns-then-depth-gt1-clause-below
+returns-then-depth-gt1-clause-below c =
+    below_popped c.args.tid.now (rows_of c.self.inside.stacks.entries) _ _ c.self.view_is c.self.invariant.alone (returns-then-depth-gt1-clause-popped c)
+
+pub returns-clause-below : goal.returns-clause-below
+returns-clause-below c =
+    below_popped c.args.tid.now (rows_of c.self.inside.stacks.entries) _ _ c.self.view_is c.self.invariant.alone (returns-clause-popped c)
