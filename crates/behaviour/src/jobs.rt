@@ -106,11 +106,7 @@ fn body_effect(
 }
 
 /// The method that a behaviour has for a function, where it is written.
-pub fn method_of<'a>(
-    plan: &'a Plan,
-    behaviour: u32,
-    function: &FunctionRef,
-) -> Option<&'a Method>
+pub fn method_of<'a>(plan: &'a Plan, behaviour: u32, function: &FunctionRef) -> Option<&'a Method>
     ensures { method_there result ≡ method_for (lent_function function.now) (methods_of (slice_get (plan_of plan.now).behaviours behaviour)) }
 {
     method_for(function, methods_of(plan, behaviour))

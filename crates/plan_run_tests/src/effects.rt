@@ -8,6 +8,7 @@ ghost use Rattle.uno_model.specs.Sound.{IsSound};
 
 mod faces;
 mod jobs;
+mod leaving;
 mod manager;
 mod plans;
 mod showing;

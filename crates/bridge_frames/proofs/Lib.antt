@@ -1,0 +1,9 @@
+mod CallLemmas
+mod CreatingLemmas
+mod EffectLemmas
+mod EndingLemmas
+mod GoingLemmas
+mod HandingLemmas
+mod LastingLemmas
+mod OwnLemmas
+mod StackLemmas

@@ -1,0 +1,28 @@
+use Rattle.uno_model.specs.Values.{refs}
+use Rattle.uno_values.specs.Values.{plain_of}
+use Rattle.plan_types.specs.Frames.{body_of, variables_of}
+use Rattle.bridge_setting.specs.Settings.{setting_of}
+use Rattle.bridge_frames.proofs.CallLemmas.{at_any, at_err, at_ok, lasting_all_gone}
+use Rattle.bridge_frames.proofs.OwnLemmas.{drop_held, drop_on, still_top}
+use Rattle.bridge_frames.proofs.own.apply_drop.Goals as goal
+
+pub go_on-requires : goal.go_on-requires
+go_on-requires c = still_top c.args.tid.now c.args.stacks.now c.take_method-body.new.stacks c.requires.method c.take_method-body.ensures.taken
+
+pub returns-clause-stacks : goal.returns-clause-stacks
+returns-clause-stacks c = λ b fs these.
+    at_ok c.go_on.result
+    (drop_on c.args.tid.now c.args.stacks.now c.take_method-body.new.stacks c.go_on.new.stacks b (body_of c.take_method-body.result) fs these c.take_method-body.ensures.top c.take_method-body.ensures.taken
+    c.args.name.now (variables_of c.take_out-was.new.variables.items) (setting_of c.args.setting.now) c.args.tables.now.tables c.take_out-was.ensures.without)
+    c.go_on.ensures
+
+pub returns-clause-tables : goal.returns-clause-tables
+returns-clause-tables c = λ b fs these.
+    at_any c.go_on.result
+    (drop_held c.args.tid.now c.args.stacks.now b (body_of c.take_method-body.result) fs these c.take_method-body.ensures.top (setting_of c.args.setting.now) c.args.tables.now c.let_value_go.new.self
+    c.args.name.now (plain_of c.take_out-was.result) c.take_out-was.ensures.was c.let_value_go.ensures)
+
+pub returns-clause-lost : goal.returns-clause-lost
+returns-clause-lost c =
+    at_err c.go_on.result
+    (lasting_all_gone c.take_method-body.result.number (setting_of c.args.setting.now) (refs (plain_of c.take_out-was.result)) c.args.tables.now c.let_value_go.new.self c.let_value_go.ensures)

@@ -1,0 +1,32 @@
+use Rattle.std.proofs.Common.{ap, map, ◌∙◌}
+use Rattle.uno_model.specs.Values.{refs}
+use Rattle.uno_values.specs.References.{ref_of}
+use Rattle.uno_values.specs.Values.{plain_of}
+use Rattle.plan_types.specs.Frames.{body_of, variables_of}
+use Rattle.bridge_setting.specs.Settings.{setting_of}
+use Rattle.bridge_frames.proofs.CallLemmas.{at_any, at_err, at_ok, lasting_all_gained, lasting_all_gone}
+use Rattle.bridge_frames.proofs.OwnLemmas.{set_held, set_on, still_top}
+use Rattle.bridge_frames.proofs.own.apply_set.Goals as goal
+
+pub go_on-requires : goal.go_on-requires
+go_on-requires c = still_top c.args.tid.now c.args.stacks.now c.take_method-body.new.stacks c.requires.method c.take_method-body.ensures.taken
+
+pub returns-clause-stacks : goal.returns-clause-stacks
+returns-clause-stacks c = λ b fs these.
+    at_ok c.go_on.result
+    (set_on c.args.tid.now c.args.stacks.now c.take_method-body.new.stacks c.go_on.new.stacks b (body_of c.take_method-body.result) fs these c.take_method-body.ensures.top c.take_method-body.ensures.taken
+    c.args.variable.name (plain_of c.args.variable.value) (variables_of c.put-was.new.variables.items) (setting_of c.args.setting.now) c.args.tables.now.tables c.put-was.ensures.put)
+    c.go_on.ensures
+
+pub returns-clause-tables : goal.returns-clause-tables
+returns-clause-tables c = λ b fs these.
+    at_any c.go_on.result
+    (set_held c.args.tid.now c.args.stacks.now b (body_of c.take_method-body.result) fs these c.take_method-body.ensures.top (setting_of c.args.setting.now) c.args.tables.now c.let_value_go.new.self
+    c.args.variable.name (plain_of c.args.variable.value) (plain_of c.put-was.result) (map ref_of c.deref.result.now) c.gain_all.new.self (ap (map ref_of) c.deref.ensures.value ∙ c.in_ok-references.ensures)
+    c.put-was.ensures.was c.in_ok-gain_all.ensures.gained c.let_value_go.ensures)
+
+pub returns-clause-lost : goal.returns-clause-lost
+returns-clause-lost c =
+    at_err c.go_on.result
+    (lasting_all_gone c.take_method-body.result.number (setting_of c.args.setting.now) (refs (plain_of c.put-was.result)) c.gain_all.new.self c.let_value_go.new.self c.let_value_go.ensures
+    ∙ lasting_all_gained c.take_method-body.result.number (map ref_of c.deref.result.now) c.args.tables.now c.gain_all.new.self c.in_ok-gain_all.ensures.gained)

@@ -1,0 +1,208 @@
+//! Answers: how one is handed to the frame below, and how an exception goes through frames.
+ghost use Rattle.std.specs.Prelude.{◌≡◌, ◌∷◌, true, false, [], drop, List, OnOk, OnErr};
+ghost use Rattle.behaviour.specs.Answers.{raised_of};
+ghost use Rattle.bridge_model.specs.Handing.{hands, hands_from_peer, ends_frame};
+ghost use Rattle.bridge_setting.specs.Settings.{setting_of};
+ghost use Rattle.bridge_tables.specs.EndTables.{IsOf, lasting};
+ghost use Rattle.plan_model.specs.Frames as plain;
+ghost use Rattle.plan_model.specs.Frames.{Frame, frames_of, is_body, popped, top};
+ghost use Rattle.plan_types.specs.Frames.{body_of};
+ghost use Rattle.uno_model.specs.Sound.{IsSound};
+ghost use Rattle.urp_message.specs.Messages.{answer_of};
+ghost use Rattle.bridge_frames.specs.Raising.{GoesThrough, handed_down};
+ghost use Rattle.bridge_frames.specs.Unwinding.{is_root, stacks_by, tables_by};
+
+use crate::ending::{answer_peer, gain_below, hand_over, let_frame_go, own_reference, take_below};
+use crate::going_on::go_on_with;
+use crate::roots::root_gets;
+use crate::tops::{end_thread, is_method, pop_method, root_on_top};
+use behaviour::leaving_exception;
+use bridge_setting::Setting;
+use bridge_tables::{Tables, refs_of_answer};
+use call_stacks::Stacks;
+use plan_types::Body;
+use std::alloc::Global;
+use uno_base::NoMemory;
+use uno_types::Tid;
+use uno_values::{AnyValue, refs_of};
+use urp_message::Answer;
+
+/// An answer to the top frame of a thread, which holds what is in it. A root is answered, and its stack ends; a method goes on, or ends with the
+/// exception, which goes to the frame below. A root is answered without memory.
+pub fn hand(
+    alloc: Global,
+    setting: &Setting,
+    tid: &Tid,
+    answer: Answer,
+    stacks: &mut Stacks,
+    tables: &mut Tables,
+) -> Result<(), NoMemory>
+    requires of { IsOf (setting_of setting.now) tables.old }
+    requires stands { tables.old.stands ≡ true }
+    requires sound { IsSound setting.now.registry }
+    ensures stacks { (f : Frame) → (fs : List Frame) → frames_of tid.now stacks.old ≡ f ∷ fs → OnOk result (stacks.new ≡ stacks_by tid.now (hands (setting_of setting.now) tid.now (answer_of answer) (f ∷ fs) tables.old.tables) stacks.old) }
+    ensures none { frames_of tid.now stacks.old ≡ [] → OnOk result (stacks.new ≡ stacks.old) }
+    ensures tables { OnOk result (tables.new ≡ tables_by (hands (setting_of setting.now) tid.now (answer_of answer) (frames_of tid.now stacks.old) tables.old.tables) tables.old) }
+    ensures below { OnErr result (is_root (frames_of tid.now stacks.old) ≡ false) }
+    ensures lost { OnErr result (lasting tables.new ≡ lasting tables.old) }
+{
+    if let Some(root) = root_on_top(stacks, tid) {
+        end_thread(stacks, tid);
+        root_gets(setting, root, answer, tables);
+        return Ok(());
+    }
+    if !is_method(stacks, tid) {
+        drop(answer);
+        return Ok(());
+    }
+    match answer {
+        Answer::Returned { value, outs } => {
+            go_on_with(alloc, setting, tid, value, outs, stacks, tables)
+        }
+        Answer::Raised(exception) => {
+            let Some(left) = raise_through(alloc, setting, tid, exception, stacks, tables)? else {
+                return Ok(());
+            };
+            hand(alloc, setting, tid, Answer::Raised(left), stacks, tables)
+        }
+    }
+}
+
+/// The answer of the peer, behind the call that went out.
+pub fn hand_from_peer(
+    alloc: Global,
+    setting: &Setting,
+    tid: &Tid,
+    answer: Answer,
+    stacks: &mut Stacks,
+    tables: &mut Tables,
+) -> Result<(), NoMemory>
+    requires of { IsOf (setting_of setting.now) tables.old }
+    requires stands { tables.old.stands ≡ true }
+    requires sound { IsSound setting.now.registry }
+    ensures stacks { (f : Frame) → (fs : List Frame) → frames_of tid.now stacks.old ≡ f ∷ fs → OnOk result (stacks.new ≡ stacks_by tid.now (hands_from_peer (setting_of setting.now) tid.now (answer_of answer) (f ∷ fs) tables.old.tables) stacks.old) }
+    ensures none { frames_of tid.now stacks.old ≡ [] → OnOk result (stacks.new ≡ stacks.old) }
+    ensures tables { OnOk result (tables.new ≡ tables_by (hands_from_peer (setting_of setting.now) tid.now (answer_of answer) (frames_of tid.now stacks.old) tables.old.tables) tables.old) }
+    ensures lost { OnErr result (lasting tables.new ≡ lasting tables.old) }
+{
+    let references = refs_of_answer(alloc, &answer)?;
+    take_below(setting, tid, &references, stacks, tables)?;
+    hand(alloc, setting, tid, answer, stacks, tables)
+}
+
+/// The method at the top ends with an exception, which it holds: what leaves it is sent, or given for the frame below.
+fn raise_through(
+    alloc: Global,
+    setting: &Setting,
+    tid: &Tid,
+    exception: AnyValue,
+    stacks: &mut Stacks,
+    tables: &mut Tables,
+) -> Result<Option<AnyValue>, NoMemory>
+    requires of { IsOf (setting_of setting.now) tables.old }
+    requires stands { tables.old.stands ≡ true }
+    requires sound { IsSound setting.now.registry }
+    requires method { is_body (top tid.now stacks.old) ≡ true }
+    ensures goes { (b : plain.Body) → (fs : List Frame) → frames_of tid.now stacks.old ≡ plain.body b ∷ fs → GoesThrough (setting_of setting.now) tid.now b fs (raised_of exception) tables.old tables.new result }
+    ensures stacks { stacks.new ≡ popped tid.now stacks.old }
+    ensures below { frames_of tid.now stacks.new ≡ drop 1 (frames_of tid.now stacks.old) }
+    ensures lost { OnErr result (lasting tables.new ≡ lasting tables.old) }
+{
+    let body = pop_method(stacks, tid);
+    let held = refs_of(alloc, &exception.value)?;
+    let left = leaving_exception(
+        alloc,
+        &setting.registry,
+        tid,
+        &body.face,
+        body.function,
+        exception,
+    )?;
+    if body.from_peer {
+        answer_peer(
+            alloc,
+            setting,
+            tid,
+            body,
+            &held,
+            Answer::Raised(left),
+            tables,
+        )?;
+        return Ok(None);
+    }
+    hand_over(alloc, setting, tid, body, &held, &left, stacks, tables)?;
+    Ok(Some(left))
+}
+
+/// A result is handed down whole before the method lets go what it holds.
+fn hand_result(
+    alloc: Global,
+    setting: &Setting,
+    tid: &Tid,
+    body: Body,
+    answer: Answer,
+    stacks: &mut Stacks,
+    tables: &mut Tables,
+) -> Result<(), NoMemory>
+    requires of { IsOf (setting_of setting.now) tables.old }
+    requires stands { tables.old.stands ≡ true }
+    requires sound { IsSound setting.now.registry }
+    ensures stacks { (f : Frame) → (fs : List Frame) → frames_of tid.now stacks.old ≡ f ∷ fs → OnOk result (stacks.new ≡ stacks_by tid.now (handed_down (setting_of setting.now) tid.now (body_of body) (answer_of answer) (f ∷ fs) tables.old.tables) stacks.old) }
+    ensures none { frames_of tid.now stacks.old ≡ [] → OnOk result (stacks.new ≡ stacks.old) }
+    ensures tables { OnOk result (tables.new ≡ tables_by (handed_down (setting_of setting.now) tid.now (body_of body) (answer_of answer) (frames_of tid.now stacks.old) tables.old.tables) tables.old) }
+    ensures lost { OnErr result (lasting tables.new ≡ lasting tables.old) }
+{
+    let own = own_reference(alloc, setting, &body)?;
+    let references = refs_of_answer(alloc, &answer)?;
+    gain_below(setting, tid, &references, stacks, tables)?;
+    hand(alloc, setting, tid, answer, stacks, tables)?;
+    let_frame_go(setting, body, &own, &[], tables);
+    Ok(())
+}
+
+/// The method at the top ends with what leaves it.
+pub fn end_frame(
+    alloc: Global,
+    setting: &Setting,
+    tid: &Tid,
+    answer: Answer,
+    stacks: &mut Stacks,
+    tables: &mut Tables,
+) -> Result<(), NoMemory>
+    requires of { IsOf (setting_of setting.now) tables.old }
+    requires stands { tables.old.stands ≡ true }
+    requires sound { IsSound setting.now.registry }
+    requires method { is_body (top tid.now stacks.old) ≡ true }
+    ensures stacks { (b : plain.Body) → (fs : List Frame) → frames_of tid.now stacks.old ≡ plain.body b ∷ fs → OnOk result (stacks.new ≡ stacks_by tid.now (ends_frame (setting_of setting.now) tid.now b (answer_of answer) fs tables.old.tables) stacks.old) }
+    ensures tables { (b : plain.Body) → (fs : List Frame) → frames_of tid.now stacks.old ≡ plain.body b ∷ fs → OnOk result (tables.new ≡ tables_by (ends_frame (setting_of setting.now) tid.now b (answer_of answer) fs tables.old.tables) tables.old) }
+    ensures lost { OnErr result (lasting tables.new ≡ lasting tables.old) }
+{
+    let body = pop_method(stacks, tid);
+    if body.from_peer {
+        return answer_peer(alloc, setting, tid, body, &[], answer, tables);
+    }
+    match answer {
+        Answer::Returned { value, outs } => {
+            hand_result(
+                alloc,
+                setting,
+                tid,
+                body,
+                Answer::Returned { value, outs },
+                stacks,
+                tables,
+            )
+        }
+        Answer::Raised(exception) => {
+            hand_over(alloc, setting, tid, body, &[], &exception, stacks, tables)?;
+            hand(
+                alloc,
+                setting,
+                tid,
+                Answer::Raised(exception),
+                stacks,
+                tables,
+            )
+        }
+    }
+}

@@ -1,0 +1,11 @@
+mod AnsweringLemmas
+mod CountLemmas
+mod Counts
+mod CoverSteps
+mod FieldLemmas
+pub mod LastingLemmas
+mod LettingLemmas
+mod MakingLemmas
+mod ProxyCounts
+mod ReferringLemmas
+mod RootLemmas
