@@ -153,7 +153,7 @@ unfolding says
 requested_rooted g tid oid face args s u true all later = all
 requested_rooted g tid oid face args s u false all later = later
 
-receives_rooted : (g : Setting) (m : Message) (s : Side) → length g.plan.threads < 2 ^ 64 → refusal g s m ≡ None → HasRoots g s → HasRoots g (receives g m s)
+pub receives_rooted : (g : Setting) (m : Message) (s : Side) → length g.plan.threads < 2 ^ 64 → refusal g s m ≡ None → HasRoots g s → HasRoots g (receives g m s)
 unfolding receives
 receives_rooted g (release tid oid face) s few may all = all
 receives_rooted g (request tid oid face function args) s few may all =
@@ -174,7 +174,7 @@ abbrev KeepsRoots : Setting → Next → Type 0
 KeepsRoots g more = (place : ℕ) (bytes : List ℕ) (x : Hearing) → HasRoots g x.side → HasRoots g (more place bytes x).side
 
 -- what is remembered of headers does not matter to the tests
-same_refusal : (g : Setting) (heard : Heard) (m : Message) (s : Side) → refusal g (remembers heard s) m ≡ refusal g s m
+pub same_refusal : (g : Setting) (heard : Heard) (m : Message) (s : Side) → refusal g (remembers heard s) m ≡ refusal g s m
 unfolding refusal
 same_refusal g heard (release tid oid face) s = refl
 same_refusal g heard (request tid oid face function args) s = refl

@@ -79,7 +79,7 @@ roots_kept g few x disposed kind all ok = ends_rooted g cause.Disposed x.side al
 roots_kept g few x full kind all ok = ends_rooted g cause.Full x.side all
 roots_kept g few x no_memory kind all ok = runs_out_rooted g x.side.cause x.side all
 
-has_roots : (g : Setting) (es : List Entry) (x : Told) → AreOfPlan g es → Leads g es x → HasRoots g x.side
+pub has_roots : (g : Setting) (es : List Entry) (x : Told) → AreOfPlan g es → Leads g es x → HasRoots g x.side
 has_roots g es x plan leads = along_replay_where g (IsOfPlan g) (λ y. HasRoots g y.side) (opening_rooted g) (roots_kept g plan.few) es plan.roots x leads
 
 -- ---- roots and their stacks
