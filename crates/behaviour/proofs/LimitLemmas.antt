@@ -1,19 +1,20 @@
 -- Limits, told of numbers that are counted up to 2^64 - 1.
-use Rattle.std.proofs.Common.{◌≡◌, ℕ, ◌+◌, ◌-◌, ◌^◌, ◌<◌, ◌≤◌, min, max, ◌||◌, Bool, true, false, List, length, None, Some, drop, get_or, refl, sym, ap, ◌∙◌, arith}
+use Rattle.std.proofs.Common.{◌≡◌, ℕ, ◌+◌, ◌-◌, ◌^◌, ◌<◌, ◌≤◌, min, max, ◌||◌, Bool, true, false, List, length, Option, None, Some, drop, get_or, refl, sym, ap, ◌∙◌, arith, if◌then◌else◌}
 use Rattle.std.proofs.lemmas.List.{drop_all}
 use Rattle.plan_model.specs.Evaluation.{is_heavy, is_deep}
 use Rattle.message_model.specs.Messages.{Answer, request, reply}
 use Rattle.message_model.specs.Sayable.{message_weight, answer_weight, name_weight}
-use Rattle.plan_model.specs.Asking.{Effect, Running}
+use Rattle.plan_model.specs.Asking.{Effect, Running, fails}
 use Rattle.plan_model.specs.Calling.{is_full, sent}
 use Rattle.plan_model.specs.Evaluation.{bounded}
 use Rattle.plan_model.specs.Leaving.{sendable, answer_depth}
+use Rattle.plan_model.specs.declared.runtime_cause.RuntimeCause.{RuntimeCause}
 use Rattle.plan_model.specs.declared.runtime_cause.RuntimeCause.TheVariants.{Depth, TooLarge, TooDeep}
 use Rattle.uno_model.specs.Entities.{Entity}
 use Rattle.uno_model.specs.Values.{Plain, plains, depth, depth_in}
 use Rattle.uno_model.specs.Weights.{weight}
 use Rattle.behaviour.specs.Answers.{unless_caused, value_unless}
-use Rattle.behaviour.specs.Calling.{unless}
+use Rattle.behaviour.specs.Calling.{unless, too_much}
 use Rattle.uno_values.proofs.Parts.{part_at}
 use Rattle.uno_values.specs.Values.{plain_of, plains_of}
 use Rattle.uno_values.specs.declared.value.Value.{Value}
@@ -111,22 +112,29 @@ module _ (reg : List Entity) (r : Running) (oid face : List ℕ) (number : ℕ) 
   pub call_too_far : (b : Bool) → b ≡ is_full r.depth → b ≡ true → sent reg r oid face number args e ≡ unless reg r (Some Depth) e
   call_too_far b asked is = let full : is_full r.depth ≡ true = sym asked ∙ is in rw full refl
 
-  pub call_too_large : (b c : Bool) (m : ℕ) → b ≡ is_full r.depth → b ≡ false → m ≡ min (message_weight (request r.tid oid face number args)) (2 ^ 64 - 1) → c ≡ is_heavy m → c ≡ true
-      → sent reg r oid face number args e ≡ unless reg r (Some TooLarge) e
-  call_too_large b c m asked is told asked' is' =
-      let room : is_full r.depth ≡ false = sym asked ∙ is in
-      rw (room, heavy_is (message_weight (request r.tid oid face number args)) m c true told asked' is') refl
+  by_tests : (heavy deep : Bool) → (if heavy then fails reg r TooLarge else (if deep then fails reg r TooDeep else e)) ≡ unless reg r (if heavy then Some TooLarge else (if deep then Some TooDeep else None)) e
+  by_tests true deep = refl
+  by_tests false true = refl
+  by_tests false false = refl
 
-  pub call_too_deep : (b c d : Bool) (m : ℕ) → b ≡ is_full r.depth → b ≡ false → m ≡ min (message_weight (request r.tid oid face number args)) (2 ^ 64 - 1) → c ≡ is_heavy m → c ≡ false
-      → d ≡ is_deep (depth_in (plains args)) → d ≡ true → sent reg r oid face number args e ≡ unless reg r (Some TooDeep) e
-  call_too_deep b c d m asked is told asked' is' asked'' is'' =
+  pub call_unless : (b : Bool) (o : Option RuntimeCause) → b ≡ is_full r.depth → b ≡ false → o ≡ too_much r.tid oid face number args → sent reg r oid face number args e ≡ unless reg r o e
+  call_unless b o asked is why =
       let room : is_full r.depth ≡ false = sym asked ∙ is in
-      let deep : is_deep (depth_in (plains args)) ≡ true = sym asked'' ∙ is'' in
-      rw (room, heavy_is (message_weight (request r.tid oid face number args)) m c false told asked' is', deep) refl
+      rw (room, why) (by_tests (is_heavy (message_weight (request r.tid oid face number args))) (is_deep (depth_in (plains args))))
 
-  pub call_within : (b c d : Bool) (m : ℕ) → b ≡ is_full r.depth → b ≡ false → m ≡ min (message_weight (request r.tid oid face number args)) (2 ^ 64 - 1) → c ≡ is_heavy m → c ≡ false
-      → d ≡ is_deep (depth_in (plains args)) → d ≡ false → sent reg r oid face number args e ≡ unless reg r None e
-  call_within b c d m asked is told asked' is' asked'' is'' =
-      let room : is_full r.depth ≡ false = sym asked ∙ is in
-      let flat : is_deep (depth_in (plains args)) ≡ false = sym asked'' ∙ is'' in
-      rw (room, heavy_is (message_weight (request r.tid oid face number args)) m c false told asked' is', flat) refl
+-- a request is too much where it weighs too much, or else where a value is nested too deep
+module _ (tid oid face : List ℕ) (number : ℕ) (args : List Plain) where
+  pub request_too_large : (c : Bool) (m : ℕ) → m ≡ min (message_weight (request tid oid face number args)) (2 ^ 64 - 1) → c ≡ is_heavy m → c ≡ true → Some TooLarge ≡ too_much tid oid face number args
+  request_too_large c m told asked is = rw (heavy_is (message_weight (request tid oid face number args)) m c true told asked is) refl
+
+  pub request_too_deep : (c d : Bool) (m : ℕ) → m ≡ min (message_weight (request tid oid face number args)) (2 ^ 64 - 1) → c ≡ is_heavy m → c ≡ false
+      → d ≡ is_deep (depth_in (plains args)) → d ≡ true → Some TooDeep ≡ too_much tid oid face number args
+  request_too_deep c d m told asked is asked' is' =
+      let deep : is_deep (depth_in (plains args)) ≡ true = sym asked' ∙ is' in
+      rw (heavy_is (message_weight (request tid oid face number args)) m c false told asked is, deep) refl
+
+  pub request_within : (c d : Bool) (m : ℕ) → m ≡ min (message_weight (request tid oid face number args)) (2 ^ 64 - 1) → c ≡ is_heavy m → c ≡ false
+      → d ≡ is_deep (depth_in (plains args)) → d ≡ false → None ≡ too_much tid oid face number args
+  request_within c d m told asked is asked' is' =
+      let flat : is_deep (depth_in (plains args)) ≡ false = sym asked' ∙ is' in
+      rw (heavy_is (message_weight (request tid oid face number args)) m c false told asked is, flat) refl

@@ -16,7 +16,7 @@ ghost use Rattle.uno_model.specs.Values.{null};
 ghost use Rattle.uno_model.specs.Values as plain;
 ghost use Rattle.uno_entities.specs.Entities.{field_of};
 ghost use Rattle.uno_values.specs.Values.{plain_of};
-ghost use Rattle.behaviour.specs.Calling.{face_of, behind_all, target_of, unless};
+ghost use Rattle.behaviour.specs.Calling.{face_of, behind_all, target_of, too_much, unless};
 ghost use Rattle.behaviour.specs.Effects.{effect_of};
 ghost use Rattle.behaviour.specs.Running.{scene_of, running_of};
 
@@ -120,7 +120,14 @@ fn why_unsent(running: Running, target: Target, args: &[Value]) -> Option<Runtim
     if is_full(running.depth) {
         return Some(RuntimeCause::Depth);
     }
-    if is_heavy(request_weight(running.tid, target, args)) {
+    why_too_much(running.tid, target.oid(), target.face(), args)
+}
+
+/// Why a request with these arguments is not made: it weighs too much, or one of them is nested too deep.
+pub fn why_too_much(tid: &Tid, oid: &str, face: &str, args: &[Value]) -> Option<RuntimeCause>
+    ensures { (number : ℕ) → result ≡ too_much tid.now oid.now face.now number (map plain_of args.now) }
+{
+    if is_heavy(request_weight(tid, oid, face, args)) {
         return Some(RuntimeCause::TooLarge);
     }
     if has_deep(args) {
@@ -130,10 +137,10 @@ fn why_unsent(running: Running, target: Target, args: &[Value]) -> Option<Runtim
 }
 
 /// The weight of a request.
-fn request_weight(tid: &Tid, target: Target, args: &[Value]) -> u64
-    ensures { (number : ℕ) → result ≡ min (message_weight (request tid.now (identity_of (target_of target.entry)) (face_of (target_of target.entry)) number (map plain_of args.now))) (2 ^ 64 - 1) }
+fn request_weight(tid: &Tid, oid: &str, face: &str, args: &[Value]) -> u64
+    ensures { (number : ℕ) → result ≡ min (message_weight (request tid.now oid.now face.now number (map plain_of args.now))) (2 ^ 64 - 1) }
 {
-    heading_weight(tid, target.oid(), target.face()).saturating_add(weights(args))
+    heading_weight(tid, oid, face).saturating_add(weights(args))
 }
 
 /// The name of the variable that a result becomes.

@@ -21,6 +21,7 @@ mod target;
 mod threads;
 mod words;
 
+pub use calling::why_too_much;
 pub use effect::{Done, Effect};
 pub use exceptions::caused;
 pub use jobs::{method_of, next};

@@ -1,5 +1,5 @@
 //! The entries, and room for those to come.
-ghost use Rattle.std.specs.Prelude.{◌≡◌, ◌+◌, ◌<◌, ◌≤◌, ◌^◌, OnErr, OnOk, map};
+ghost use Rattle.std.specs.Prelude.{◌≡◌, ◌+◌, ◌-◌, ◌<◌, ◌≤◌, ◌^◌, OnErr, OnOk, length, map};
 ghost use Rattle.std.specs.Vec.{vec_capacity, vec_len};
 ghost use Rattle.bridge_journal.specs.Logs.{Log, empty_log, entered, entry_of, less_room, more_room, stamped};
 
@@ -51,6 +51,7 @@ impl Journal {
     /// Takes room for an entry more.
     pub fn reserve(&mut self) -> Result<(), NoMemory>
         ensures room { OnOk result (self.new ≡ more_room self.old) }
+        ensures within { OnOk result (length self.new.entries + self.new.room < 2 ^ 64 - 1) }
         ensures kept { OnErr result (self.new ≡ self.old) }
     {
         make_room(&mut self.entries, self.room)?;
