@@ -14,7 +14,7 @@ use Rattle.call_stacks.proofs.PlaceLaws.{IsPlace, place}
 -- ---- after a stack that stays has changed
 
 module _ (n : ℕ) (change : plain.Stack → plain.Stack) (same : (s : plain.Stack) → (change s).tid ≡ s.tid) where
-  rise_changed : (least next : ℕ) (rows : Rows) → Rise least rows next → Rise least (changed_at n change rows) next
+  pub rise_changed : (least next : ℕ) (rows : Rows) → Rise least rows next → Rise least (changed_at n change rows) next
   rise_changed least next [] rise = rise
   rise_changed least next (r ∷ rs) rise =
       elim (nat_eq n r.0) as (λ b. Rise least (cond b ((r.0, change r.1) ∷ rs) (r ∷ changed_at n change rs)) next) [
@@ -52,7 +52,7 @@ lower : (least more next : ℕ) (rows : Rows) → least ≤ more → Rise more r
 lower least more next [] below rise = omega (arith, below, rise)
 lower least more next (r ∷ rs) below rise = let first = rise.0 in (omega (arith, below, first), rise.1)
 
-rise_without : (n least next : ℕ) (rows : Rows) → Rise least rows next → Rise least (without_at n rows) next
+pub rise_without : (n least next : ℕ) (rows : Rows) → Rise least rows next → Rise least (without_at n rows) next
 rise_without n least next [] rise = rise
 rise_without n least next (r ∷ rs) rise =
     elim (nat_eq n r.0) as (λ b. Rise least (cond b rs (r ∷ without_at n rs)) next) [
@@ -101,7 +101,7 @@ kept_without tid n rows births after next at kept forgotten =
 
 -- ---- after a stack has begun
 
-rise_added : (least next : ℕ) (s : plain.Stack) (rows : Rows) → Rise least rows next → Rise least (rows ++ ((next, s) ∷ [])) (next + 1)
+pub rise_added : (least next : ℕ) (s : plain.Stack) (rows : Rows) → Rise least rows next → Rise least (rows ++ ((next, s) ∷ [])) (next + 1)
 rise_added least next s [] rise = (rise, omega arith)
 rise_added least next s (r ∷ rs) rise = (rise.0, rise_added (suc r.0) next s rs rise.1)
 
@@ -134,16 +134,20 @@ kept_added tid f rows births after next none kept noted =
       born = λ q. noted q ∙ ap (cond (bytes_eq tid q) (Some next)) (kept.born q) ∙ sym (birth_added tid next f rows none q);
     }
 
+-- births below the next are below another one that is behind them
+pub kept_below : (rows : Rows) (births : BTreeMap (Vec ℕ) ℕ) (next birth : ℕ) → Rise 0 rows birth → IsKept rows births next → IsKept rows births birth
+kept_below rows births next birth rise kept = record { rise = rise; alone = kept.alone; born = kept.born }
+
 -- ---- after a stack could not begin
 
 -- a birth that was noted and forgotten was never there
-pub kept_same : (tid : List ℕ) (rows : Rows) (births noted after : BTreeMap (Vec ℕ) ℕ) (next : ℕ) → birth_in tid rows ≡ None → IsKept rows births next → ((q : List ℕ) → birth_at q noted ≡ cond (bytes_eq tid q) (Some next) (birth_at q births)) → ((q : List ℕ) → birth_at q after ≡ cond (bytes_eq tid q) None (birth_at q noted)) → IsKept rows after next
-kept_same tid rows births noted after next none kept was is =
+pub kept_same : (tid : List ℕ) (rows : Rows) (births noted after : BTreeMap (Vec ℕ) ℕ) (birth next : ℕ) → birth_in tid rows ≡ None → IsKept rows births next → ((q : List ℕ) → birth_at q noted ≡ cond (bytes_eq tid q) (Some birth) (birth_at q births)) → ((q : List ℕ) → birth_at q after ≡ cond (bytes_eq tid q) None (birth_at q noted)) → IsKept rows after next
+kept_same tid rows births noted after birth next none kept was is =
     record {
       rise = kept.rise;
       alone = kept.alone;
       born = λ q. is q ∙ ap (cond (bytes_eq tid q) None) (was q)
-          ∙ elim (bytes_eq tid q) as (λ b. bytes_eq tid q ≡ b → cond b None (cond b (Some next) (birth_at q births)) ≡ birth_in q rows) [ true ↦ λ same. sym (ap (λ tid. birth_in tid rows) (sym ((bytes_decides tid q).0 same)) ∙ none) | false ↦ λ _. kept.born q ] refl;
+          ∙ elim (bytes_eq tid q) as (λ b. bytes_eq tid q ≡ b → cond b None (cond b (Some birth) (birth_at q births)) ≡ birth_in q rows) [ true ↦ λ same. sym (ap (λ tid. birth_in tid rows) (sym ((bytes_decides tid q).0 same)) ∙ none) | false ↦ λ _. kept.born q ] refl;
     }
 
 -- ---- where a TID stands

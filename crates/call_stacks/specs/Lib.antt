@@ -1,4 +1,5 @@
 pub mod Births
 pub mod Rows
+pub mod Tops
 pub mod ValueCodes
 pub mod WaitingCalls

@@ -2,10 +2,12 @@
 #![tactic(auto)]
 
 mod births;
+mod by_birth;
 mod error;
 mod stack;
 mod stacks;
 mod threads;
+mod tops;
 
 pub use error::NobodyWaits;
 pub use stacks::Stacks;

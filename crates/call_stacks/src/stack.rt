@@ -1,10 +1,8 @@
 //! One stack, and the stacks by their births.
 ghost use Rattle.std.specs.Prelude.{◌≡◌, ◌<◌, ◌≤◌, ◌++◌, ◌∷◌, [], length, Some, IsSome, IfOk, OnOk, OnErr, option_map};
-ghost use Rattle.std.specs.List.{list_any};
-ghost use Rattle.plan_model.specs.Frames.{first_frame, is_body, nth_tid, ready};
+ghost use Rattle.plan_model.specs.Frames.{first_frame, nth_tid};
 ghost use Rattle.plan_types.specs.Frames.{frame_of};
 ghost use Rattle.call_stacks.specs.Rows.{Rise, rows_of, stacks_of, stack_of, begun, stack_at, frames_at, changed_at, without_at, one_more, one_less, topped};
-ghost use Rattle.call_stacks.specs.WaitingCalls.{is_waiting};
 
 use plan_types::Frame;
 use std::alloc::Global;
@@ -21,7 +19,7 @@ pub struct Stack {
 }
 
 /// The stacks, each under the number of its birth.
-pub type ByBirth = BTreeMap<u64, Stack>;
+pub type Entries = BTreeMap<u64, Stack>;
 
 /// A stack of one frame.
 pub fn stack_with(alloc: Global, tid: &Tid, frame: Frame) -> Result<Stack, NoMemory>
@@ -34,7 +32,7 @@ pub fn stack_with(alloc: Global, tid: &Tid, frame: Frame) -> Result<Stack, NoMem
 }
 
 /// Puts a stack behind all others.
-pub fn add(stacks: &mut ByBirth, birth: u64, stack: Stack) -> Result<(), NoMemory>
+pub fn add(stacks: &mut Entries, birth: u64, stack: Stack) -> Result<(), NoMemory>
     requires { Rise 0 (rows_of stacks.old.entries) birth }
     ensures added { OnOk result (rows_of stacks.new.entries ≡ rows_of stacks.old.entries ++ ((birth, stack_of stack) ∷ [])) }
     ensures kept { OnErr result (rows_of stacks.new.entries ≡ rows_of stacks.old.entries) }
@@ -44,7 +42,7 @@ pub fn add(stacks: &mut ByBirth, birth: u64, stack: Stack) -> Result<(), NoMemor
 }
 
 /// The number of frames of a stack.
-pub fn depth(stacks: &ByBirth, birth: u64) -> u64
+pub fn depth(stacks: &Entries, birth: u64) -> u64
     ensures { result ≡ length (frames_at birth (rows_of stacks.now.entries)) }
 {
     let Some(stack) = stacks.get(&birth) else {
@@ -54,7 +52,7 @@ pub fn depth(stacks: &ByBirth, birth: u64) -> u64
 }
 
 /// The top frame of a stack.
-pub fn top(stacks: &ByBirth, birth: u64) -> Option<&Frame>
+pub fn top(stacks: &Entries, birth: u64) -> Option<&Frame>
     ensures { option_map (λ f. frame_of f.now) result ≡ first_frame (frames_at birth (rows_of stacks.now.entries)) }
 {
     let Some(stack) = stacks.get(&birth) else {
@@ -64,7 +62,7 @@ pub fn top(stacks: &ByBirth, birth: u64) -> Option<&Frame>
 }
 
 /// Puts a frame on a stack.
-pub fn push(stacks: &mut ByBirth, birth: u64, frame: Frame) -> Result<(), NoMemory>
+pub fn push(stacks: &mut Entries, birth: u64, frame: Frame) -> Result<(), NoMemory>
     requires { IsSome (stack_at birth (rows_of stacks.old.entries)) }
     ensures pushed { OnOk result (rows_of stacks.new.entries ≡ changed_at birth (one_more (frame_of frame)) (rows_of stacks.old.entries)) }
     ensures kept { OnErr result (rows_of stacks.new.entries ≡ rows_of stacks.old.entries) }
@@ -77,7 +75,7 @@ pub fn push(stacks: &mut ByBirth, birth: u64, frame: Frame) -> Result<(), NoMemo
 }
 
 /// Takes the top frame from a stack that stays.
-pub fn pop(stacks: &mut ByBirth, birth: u64) -> Option<Frame>
+pub fn pop(stacks: &mut Entries, birth: u64) -> Option<Frame>
     requires { IsSome (stack_at birth (rows_of stacks.old.entries)) }
     ensures top { option_map frame_of result ≡ first_frame (frames_at birth (rows_of stacks.old.entries)) }
     ensures popped { rows_of stacks.new.entries ≡ changed_at birth one_less (rows_of stacks.old.entries) }
@@ -89,7 +87,7 @@ pub fn pop(stacks: &mut ByBirth, birth: u64) -> Option<Frame>
 }
 
 /// Takes out a stack, and gives its top frame.
-pub fn end(stacks: &mut ByBirth, birth: u64) -> Option<Frame>
+pub fn end(stacks: &mut Entries, birth: u64) -> Option<Frame>
     requires { IsSome (stack_at birth (rows_of stacks.old.entries)) }
     ensures top { option_map frame_of result ≡ first_frame (frames_at birth (rows_of stacks.old.entries)) }
     ensures ended { rows_of stacks.new.entries ≡ without_at birth (rows_of stacks.old.entries) }
@@ -102,7 +100,7 @@ pub fn end(stacks: &mut ByBirth, birth: u64) -> Option<Frame>
 }
 
 /// Puts a frame in the place of the top one, which is given back.
-pub fn set_top(stacks: &mut ByBirth, birth: u64, frame: Frame) -> Frame
+pub fn set_top(stacks: &mut Entries, birth: u64, frame: Frame) -> Frame
     requires { 0 < length (frames_at birth (rows_of stacks.old.entries)) }
     ensures top { Some (frame_of result) ≡ first_frame (frames_at birth (rows_of stacks.old.entries)) }
     ensures topped { rows_of stacks.new.entries ≡ changed_at birth (topped (frame_of frame)) (rows_of stacks.old.entries) }
@@ -117,7 +115,7 @@ pub fn set_top(stacks: &mut ByBirth, birth: u64, frame: Frame) -> Frame
 }
 
 /// The TID of the stack at a place, from 0, in the order of births.
-pub fn nth(stacks: &ByBirth, nth: u64) -> Option<&Tid>
+pub fn nth(stacks: &Entries, nth: u64) -> Option<&Tid>
     ensures { option_map (λ tid. tid.now) result ≡ nth_tid (stacks_of (rows_of stacks.now.entries)) nth }
 {
     let mut left = nth;
@@ -130,50 +128,12 @@ pub fn nth(stacks: &ByBirth, nth: u64) -> Option<&Tid>
     None
 }
 
-/// The TID of the stack at a place among those whose top frame is a method, from 0, in the order of births.
-pub fn ready(stacks: &ByBirth, nth: u64) -> Option<&Tid>
-    ensures { option_map (λ tid. tid.now) result ≡ nth_tid (ready (stacks_of (rows_of stacks.now.entries))) nth }
+/// The TID of the stack of a birth.
+pub fn tid(stacks: &Entries, birth: u64) -> Option<&Tid>
+    ensures { option_map (λ tid. tid.now) result ≡ option_map (λ s. s.tid) (stack_at birth (rows_of stacks.now.entries)) }
 {
-    let mut left = nth;
-    for stack in stacks.values() {
-        if can_go_on(stack) {
-            if left == 0 {
-                return Some(&stack.tid);
-            }
-            left -= 1;
-        }
-    }
-    None
-}
-
-/// Whether the top frame is a method.
-fn can_go_on(stack: &Stack) -> bool
-    ensures { result ≡ is_body (first_frame (stack_of stack.now).frames) }
-{
-    let Some(Frame::Body(_)) = stack.frames.front() else {
-        return false
+    let Some(stack) = stacks.get(&birth) else {
+        return None
     };
-    true
-}
-
-/// Whether a call waits for an answer at the top of some stack.
-pub fn any_waits(stacks: &ByBirth) -> bool
-    ensures { result ≡ list_any is_waiting (stacks_of (rows_of stacks.now.entries)) }
-{
-    for stack in stacks.values() {
-        if waits(stack) {
-            return true;
-        }
-    }
-    false
-}
-
-/// Whether the top frame is a call that waits for an answer.
-fn waits(stack: &Stack) -> bool
-    ensures { result ≡ is_waiting (stack_of stack.now) }
-{
-    let Some(Frame::Out(_)) = stack.frames.front() else {
-        return false
-    };
-    true
+    Some(&stack.tid)
 }

@@ -4,11 +4,13 @@ ghost use Rattle.std.specs.List.{list_any};
 ghost use Rattle.std.specs.Result.{result_ok};
 ghost use Rattle.plan_model.specs.Frames.{outgoing, outgoing_in, is_of, frames_of, top, depth_of, nth_tid, ready, pushed, popped, with_top, answerable};
 ghost use Rattle.plan_types.specs.Frames.{frame_of};
+ghost use Rattle.call_stacks.specs.Rows.{Rise};
 ghost use Rattle.call_stacks.specs.WaitingCalls.{call_of, is_waiting, HaveOwnTids};
 
 use crate::births::Births;
-use crate::stack::ByBirth;
-use crate::{NobodyWaits, births, stack};
+use crate::by_birth::ByBirth;
+use crate::stack::stack_with;
+use crate::{NobodyWaits, births};
 use plan_types::Frame;
 use std::alloc::Global;
 use std::collections::BTreeMap;
@@ -19,8 +21,8 @@ use uno_entities::{Name, Tid};
 /// The frames of each chain of calls.
 #[derive(Drop)]
 pub struct Stacks {
-    births: Births,
     stacks: ByBirth,
+    births: Births,
     next: u64,
     alloc: Global,
 }
@@ -28,7 +30,7 @@ pub struct Stacks {
 impl Model for Stacks {
     ghost use Rattle.std.specs.Prelude.{List};
     ghost use Rattle.plan_model.specs.Frames.{Stack as Plain};
-    ghost use Rattle.call_stacks.specs.Rows.{rows_of, stacks_of, IsKept};
+    ghost use Rattle.call_stacks.specs.Rows.{stacks_of, IsKept};
 
     ghost Value = { List Plain };
 
@@ -37,9 +39,9 @@ impl Model for Stacks {
 
     ghost coded = { Prim.hlevel (codes, value_code) };
 
-    ghost view = { λ s. stacks_of (rows_of s.stacks.entries) };
+    ghost view = { λ s. stacks_of s.stacks };
 
-    ghost invariant = { λ s. IsKept (rows_of s.stacks.entries) s.births s.next };
+    ghost invariant = { λ s. IsKept s.stacks s.births s.next };
 }
 
 impl Stacks {
@@ -49,7 +51,7 @@ impl Stacks {
     {
         Stacks {
             births: BTreeMap::new(alloc),
-            stacks: BTreeMap::new(alloc),
+            stacks: ByBirth::new(alloc),
             next: 0,
             alloc,
         }
@@ -60,7 +62,7 @@ impl Stacks {
         ensures { self.new ≡ [] }
     {
         self.births = BTreeMap::new(self.alloc);
-        self.stacks = BTreeMap::new(self.alloc);
+        self.stacks = ByBirth::new(self.alloc);
         self.next = 0;
     }
 
@@ -72,7 +74,7 @@ impl Stacks {
         let Some(birth) = births::birth(&self.births, tid) else {
             return self.begin(tid, frame)
         };
-        stack::push(&mut self.stacks, birth, frame)?;
+        self.stacks.push(birth, frame)?;
         Ok(())
     }
 
@@ -85,11 +87,11 @@ impl Stacks {
         let Some(birth) = births::birth(&self.births, tid) else {
             return None
         };
-        if stack::depth(&self.stacks, birth) > 1 {
-            return stack::pop(&mut self.stacks, birth);
+        if self.stacks.depth(birth) > 1 {
+            return self.stacks.pop(birth);
         }
         births::forget(&mut self.births, tid);
-        stack::end(&mut self.stacks, birth)
+        self.stacks.end(birth)
     }
 
     /// The top frame of a TID's stack.
@@ -99,7 +101,7 @@ impl Stacks {
         let Some(birth) = births::birth(&self.births, tid) else {
             return None
         };
-        stack::top(&self.stacks, birth)
+        self.stacks.top(birth)
     }
 
     /// The call that waits at the top of the stack of a TID with these bytes: its interface and its function. No other stack has this TID.
@@ -110,7 +112,7 @@ impl Stacks {
         let Some(birth) = births::birth_by_bytes(&self.births, tid) else {
             return None
         };
-        call_in(stack::top(&self.stacks, birth))
+        call_in(self.stacks.top(birth))
     }
 
     /// Takes the call that waits at the top of a TID's stack.
@@ -137,7 +139,7 @@ impl Stacks {
         let Some(birth) = births::birth(&self.births, tid) else {
             unreachable!()
         };
-        stack::set_top(&mut self.stacks, birth, frame)
+        self.stacks.set_top(birth, frame)
     }
 
     /// How many frames the stack of a TID has.
@@ -145,7 +147,7 @@ impl Stacks {
         ensures { result ≡ depth_of tid.now self.now }
     {
         match births::birth(&self.births, tid) {
-            Some(birth) => stack::depth(&self.stacks, birth),
+            Some(birth) => self.stacks.depth(birth),
             None => 0,
         }
     }
@@ -154,21 +156,21 @@ impl Stacks {
     pub fn nth(&self, nth: u64) -> Option<&Tid>
         ensures { option_map (λ tid. tid.now) result ≡ nth_tid self.now nth }
     {
-        stack::nth(&self.stacks, nth)
+        self.stacks.nth(nth)
     }
 
     /// The TID of the stack at a place among those that can go on, whose top frame is a method, from 0, oldest first.
     pub fn ready(&self, nth: u64) -> Option<&Tid>
         ensures { option_map (λ tid. tid.now) result ≡ nth_tid (ready self.now) nth }
     {
-        stack::ready(&self.stacks, nth)
+        self.stacks.ready(nth)
     }
 
     /// Whether a call waits for an answer at the top of some stack.
     pub fn any_waits(&self) -> bool
         ensures { result ≡ list_any is_waiting self.now }
     {
-        stack::any_waits(&self.stacks)
+        self.stacks.any_waits()
     }
 
     /// Begins a stack behind all others.
@@ -177,14 +179,15 @@ impl Stacks {
         ensures pushed { OnOk result (self.new ≡ pushed tid.now (frame_of frame) self.old) }
         ensures kept { OnErr result (self.new ≡ self.old) }
     {
-        if self.next == u64::MAX {
+        let birth = next_birth(&self.stacks, self.next);
+        if birth == u64::MAX {
             return Err(NoMemory);
         }
-        let stack = stack::stack_with(self.alloc, tid, frame)?;
-        births::note(self.alloc, &mut self.births, tid, self.next)?;
-        match stack::add(&mut self.stacks, self.next, stack) {
+        let stack = stack_with(self.alloc, tid, frame)?;
+        births::note(self.alloc, &mut self.births, tid, birth)?;
+        match self.stacks.add(birth, stack) {
             Ok(()) => {
-                self.next += 1;
+                self.next = birth + 1;
                 Ok(())
             }
             Err(NoMemory) => {
@@ -193,6 +196,17 @@ impl Stacks {
             }
         }
     }
+}
+
+/// A birth behind all others, which is 0 again where there are no stacks.
+fn next_birth(stacks: &ByBirth, next: u64) -> u64
+    requires { Rise 0 stacks.now next }
+    ensures { Rise 0 stacks.now result }
+{
+    if stacks.is_empty() {
+        return 0;
+    }
+    next
 }
 
 /// What is called at the top of a stack where it waits for an answer.

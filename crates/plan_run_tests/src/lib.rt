@@ -1,6 +1,8 @@
-//! The tests of what plans run in, over public calls alone: the effects of statements, the stacks of frames, and the service manager.
+//! The tests of what plans run in, over public calls alone: the effects of statements, the stacks of frames with their births, and the service manager.
 #![tactic(auto)]
 
+#[cfg(test)]
+mod births;
 #[cfg(test)]
 mod effects;
 #[cfg(test)]

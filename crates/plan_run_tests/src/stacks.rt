@@ -1,8 +1,9 @@
 //! Stacks, by scripts: each row has calls, and what they answer.
 //!
 //! `push a b1` (the frame of a root), `push a m2` (of a method), `push a o3` (of a call that went out), `pop a`, `top a`,
-//! `answer a`, `waits a`, `set a b1`, `depth a`, `nth 0`, `ready 0`. A frame is answered as it is written, a call that waits by its function,
-//! which is 3, a TID by its letter, none as `-`, `NobodyWaits` as `!`; a push and a set answer nothing.
+//! `answer a`, `waits a`, `set a b1`, `depth a`, `nth 0`, `ready 0`, `any`. A frame is answered as it is written, a call that waits by its
+//! function, which is 3, a TID by its letter, none as `-`, `NobodyWaits` as `!`, whether any stack waits as `w1` or `w0`; a push and a set
+//! answer nothing.
 use call_stacks::{NobodyWaits, Stacks};
 use plan_types::{Body, Frame, Outgoing};
 use std::alloc::Global;
@@ -42,6 +43,14 @@ const ROWS: &[(&str, &str)] = &[
     (
         "push a b1,push b o2,push c b3,push a m5,answer b,nth 1,depth a,top b,pop c,nth 0,nth 1",
         " o2 c 2 - b3 a -",
+    ),
+    (
+        "any,push a m1,any,push a o2,any,push b o3,answer a,any,set b m4,any",
+        " w0 w0 w1 o2 w1 w0",
+    ),
+    (
+        "push a o1,ready 0,set a m2,ready 0,pop a,ready 0,any,push b m3,ready 0,ready 1",
+        " - a m2 - w0 b -",
     ),
 ];
 
@@ -183,6 +192,9 @@ fn step(alloc: Global, stacks: &mut Stacks, call: &str, said: &mut String) -> Re
     if what == "ready" {
         return say_tid(said, stacks.ready(u64::from(number_in(who))));
     }
+    if what == "any" {
+        return say(said, 'w', u64::from(stacks.any_waits()));
+    }
     let tid = tid_of(alloc, who)?;
     match words.next() {
         Some(word) => put(stacks, what, &tid, frame_of(alloc, word)?),
@@ -261,4 +273,30 @@ fn all_end(alloc: Global, count: u32, calls: u32) -> Result<bool, NoMemory> {
 fn many_stacks_and_high_ones_end_oldest_first(rt: HostRuntime) {
     assert!(rt; all_end(rt.alloc(), 20_000, 1) == Ok(true));
     assert!(rt; all_end(rt.alloc(), 2, 1_000) == Ok(true));
+}
+
+/// Whether the one stack that can go on is found behind so many that wait, as often as there are such.
+fn found_behind(alloc: Global, count: u32) -> Result<bool, NoMemory> {
+    let mut stacks = Stacks::new(alloc);
+    for number in 0..count {
+        begin(alloc, &mut stacks, number, 1)?;
+    }
+    let tid = Tid::of(alloc, b"last")?;
+    stacks.push(&tid, method(alloc, 1)?)?;
+    for _ in 0..count {
+        let found = match stacks.ready(0) {
+            Some(found) => found.as_bytes() == tid.as_bytes(),
+            None => false,
+        };
+        if !found {
+            return Ok(false);
+        }
+    }
+    drop(stacks.pop(&tid));
+    Ok(stacks.ready(0).is_none() && stacks.any_waits())
+}
+
+#[test]
+fn a_stack_that_can_go_on_is_found_behind_many_that_wait(rt: HostRuntime) {
+    assert!(rt; found_behind(rt.alloc(), 20_000) == Ok(true));
 }

@@ -1,7 +1,0 @@
-use Rattle.std.specs.Prelude.{◌≡◌, map}
-use Rattle.plan_model.specs.Frames.{nth_tid, ready}
-use Rattle.call_stacks.specs.Rows.{rows_of, stack_of, stacks_of}
-use Rattle.call_stacks.proofs.stack.ready.Given as goal
-
-abbrev pub invariant-loop-stack : goal.invariant-loop-stack
-invariant-loop-stack l = nth_tid (ready (map stack_of l.stack-iterator)) l.left ≡ nth_tid (ready (stacks_of (rows_of l.stacks.entries))) l.nth
