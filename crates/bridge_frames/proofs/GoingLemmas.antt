@@ -117,7 +117,7 @@ unfolding states_with
 states_twice zero s u xs = refl
 states_twice (suc n) s u xs = set-set xs n s u
 
-root_twice : (root : ℕ) (s u : RootState) (t : Tables) → with_root root u (with_root root s t) ≡ with_root root u t
+pub root_twice : (root : ℕ) (s u : RootState) (t : Tables) → with_root root u (with_root root s t) ≡ with_root root u t
 root_twice root s u t = ap (λ xs. record t { roots = xs }) (states_twice root s u t.roots)
 
 got_twice : (g : Setting) (root : ℕ) (before s : RootState) (a : Answer) (t : Tables) → root_gets g root s a (with_root root before t) ≡ root_gets g root s a t

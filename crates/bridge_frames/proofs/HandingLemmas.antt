@@ -128,24 +128,20 @@ module _ (g : Setting) (tid : List ℕ) (a : Answer) (ss : List Stack) (e : EndT
   nobody_tables other none = ap (λ u. tables_by u e) (sym (hands_nobody g tid a (frames_of tid ss) e.tables other none))
 
   -- a method that goes on
-  pub returned_stacks : {A E : Type 0} (r : Result A E) (after : List Stack) (x : Plain) (outs : List Plain) (f : Frame) (fs : List Frame) → a ≡ returned x outs → is_body (top tid ss) ≡ true → frames_of tid ss ≡ f ∷ fs
-      → ((b : Body) → (below : List Frame) → frames_of tid ss ≡ body b ∷ below → OnOk r (after ≡ stacks_by tid (goes_on_with g b x outs below e.tables) ss))
-      → OnOk r (after ≡ stacks_by tid (hands g tid a (f ∷ fs) e.tables) ss)
-  returned_stacks r after x outs f fs answer method is goes =
+  pub returned_stacks : (after : List Stack) (x : Plain) (outs : List Plain) (f : Frame) (fs : List Frame) → a ≡ returned x outs → is_body (top tid ss) ≡ true → frames_of tid ss ≡ f ∷ fs
+      → ((b : Body) → (below : List Frame) → frames_of tid ss ≡ body b ∷ below → after ≡ stacks_by tid (goes_on_with g b x outs below e.tables) ss)
+      → after ≡ stacks_by tid (hands g tid a (f ∷ fs) e.tables) ss
+  returned_stacks after x outs f fs answer method is goes =
       let m = method_of (f ∷ fs) (ap (λ xs. is_body (first_frame xs)) (sym is) ∙ method) in
-      on_ok r
-      (λ p. p ∙ frames_by tid ss (goes_on_with g m.method x outs m.below e.tables) (hands g tid a (f ∷ fs) e.tables)
-      (sym ((λ i. hands g tid (answer i) (m.all i) e.tables) ∙ hands_returned g tid x outs m.method m.below e.tables)))
-      (goes m.method m.below (is ∙ m.all))
+      goes m.method m.below (is ∙ m.all)
+      ∙ frames_by tid ss (goes_on_with g m.method x outs m.below e.tables) (hands g tid a (f ∷ fs) e.tables)
+      (sym ((λ i. hands g tid (answer i) (m.all i) e.tables) ∙ hands_returned g tid x outs m.method m.below e.tables))
 
-  pub returned_tables : {A E : Type 0} (r : Result A E) (now : EndTables) (x : Plain) (outs : List Plain) → a ≡ returned x outs → is_body (top tid ss) ≡ true
-      → ((b : Body) → (below : List Frame) → frames_of tid ss ≡ body b ∷ below → OnOk r (now ≡ tables_by (goes_on_with g b x outs below e.tables) e))
-      → OnOk r (now ≡ tables_by (hands g tid a (frames_of tid ss) e.tables) e)
-  returned_tables r now x outs answer method goes =
+  pub returned_tables : (now : EndTables) (x : Plain) (outs : List Plain) → a ≡ returned x outs → is_body (top tid ss) ≡ true
+      → ((b : Body) → (below : List Frame) → frames_of tid ss ≡ body b ∷ below → now ≡ tables_by (goes_on_with g b x outs below e.tables) e) → now ≡ tables_by (hands g tid a (frames_of tid ss) e.tables) e
+  returned_tables now x outs answer method goes =
       let m = method_of (frames_of tid ss) method in
-      on_ok r
-      (λ p. p ∙ ap (λ u. tables_by u e) (sym ((λ i. hands g tid (answer i) (m.all i) e.tables) ∙ hands_returned g tid x outs m.method m.below e.tables)))
-      (goes m.method m.below m.all)
+      goes m.method m.below m.all ∙ ap (λ u. tables_by u e) (sym ((λ i. hands g tid (answer i) (m.all i) e.tables) ∙ hands_returned g tid x outs m.method m.below e.tables))
 
   module _ (k : Kind) (x : Plain) (answer : a ≡ raised k x) where
     -- a method that answers the peer

@@ -1,3 +1,5 @@
+mod AnsweredLemmas
+mod BackLemmas
 mod CallLemmas
 mod CreatingLemmas
 mod EffectLemmas
@@ -6,4 +8,5 @@ mod GoingLemmas
 mod HandingLemmas
 mod LastingLemmas
 mod OwnLemmas
-mod StackLemmas
+mod RootBackLemmas
+pub mod StackLemmas

@@ -1,3 +1,4 @@
+pub mod Answered
 pub mod Raising
 pub mod Refusing
 pub mod Unwinding

@@ -15,7 +15,7 @@ ghost use Rattle.bridge_frames.specs.Unwinding.{stacks_by, tables_by};
 use crate::calls::{Call, begin_here, call_peer};
 use crate::creating::apply_creating;
 use crate::ending::gain_below;
-use crate::handing::{end_frame, hand};
+use crate::handing::{end_frame, hand_untold};
 use crate::making::apply_making;
 use crate::own::{apply_drop, apply_let, apply_set, apply_set_field, apply_skip};
 use behaviour::Effect;
@@ -200,7 +200,7 @@ fn answer_query(
     };
     let references = refs_of_answer(alloc, &answer)?;
     gain_below(setting, tid, &references, stacks, tables)?;
-    hand(alloc, setting, tid, answer, stacks, tables)
+    hand_untold(alloc, setting, tid, answer, stacks, tables)
 }
 
 /// The arguments of a call of function 0.

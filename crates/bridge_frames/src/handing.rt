@@ -1,7 +1,8 @@
 //! Answers: how one is handed to the frame below, and how an exception goes through frames.
-ghost use Rattle.std.specs.Prelude.{◌≡◌, ◌∷◌, true, false, [], drop, List, OnOk, OnErr};
+ghost use Rattle.std.specs.Prelude.{◌≡◌, ◌∷◌, ℕ, true, false, [], drop, List, Some, IfOk, OnOk, OnErr, option_map};
 ghost use Rattle.behaviour.specs.Answers.{raised_of};
 ghost use Rattle.bridge_model.specs.Handing.{hands, hands_from_peer, ends_frame};
+ghost use Rattle.bridge_model.specs.Sides.{state_of};
 ghost use Rattle.bridge_setting.specs.Settings.{setting_of};
 ghost use Rattle.bridge_tables.specs.EndTables.{IsOf, lasting};
 ghost use Rattle.plan_model.specs.Frames as plain;
@@ -9,12 +10,13 @@ ghost use Rattle.plan_model.specs.Frames.{Frame, frames_of, is_body, popped, top
 ghost use Rattle.plan_types.specs.Frames.{body_of};
 ghost use Rattle.uno_model.specs.Sound.{IsSound};
 ghost use Rattle.urp_message.specs.Messages.{answer_of};
+ghost use Rattle.bridge_frames.specs.Answered.{answered_root, gets_all, root_answered, root_reached, taken_back};
 ghost use Rattle.bridge_frames.specs.Raising.{GoesThrough, handed_down};
 ghost use Rattle.bridge_frames.specs.Unwinding.{is_root, stacks_by, tables_by};
 
 use crate::ending::{answer_peer, gain_below, hand_over, let_frame_go, own_reference, take_below};
 use crate::going_on::go_on_with;
-use crate::roots::root_gets;
+use crate::roots::{AnsweredRoot, root_gets};
 use crate::tops::{end_thread, is_method, pop_method, root_on_top};
 use behaviour::leaving_exception;
 use bridge_setting::Setting;
@@ -28,8 +30,50 @@ use uno_values::{AnyValue, refs_of};
 use urp_message::Answer;
 
 /// An answer to the top frame of a thread, which holds what is in it. A root is answered, and its stack ends; a method goes on, or ends with the
-/// exception, which goes to the frame below. A root is answered without memory.
+/// exception, which goes to the frame below. A root is answered without memory, and told with what it did before.
 pub fn hand(
+    alloc: Global,
+    setting: &Setting,
+    tid: &Tid,
+    answer: Answer,
+    stacks: &mut Stacks,
+    tables: &mut Tables,
+) -> Result<Option<AnsweredRoot>, NoMemory>
+    requires of { IsOf (setting_of setting.now) tables.old }
+    requires stands { tables.old.stands ≡ true }
+    requires sound { IsSound setting.now.registry }
+    ensures stacks { (f : Frame) → (fs : List Frame) → frames_of tid.now stacks.old ≡ f ∷ fs → OnOk result (stacks.new ≡ stacks_by tid.now (hands (setting_of setting.now) tid.now (answer_of answer) (f ∷ fs) tables.old.tables) stacks.old) }
+    ensures none { frames_of tid.now stacks.old ≡ [] → OnOk result (stacks.new ≡ stacks.old) }
+    ensures tables { OnOk result (tables.new ≡ tables_by (hands (setting_of setting.now) tid.now (answer_of answer) (frames_of tid.now stacks.old) tables.old.tables) tables.old) }
+    ensures answered { IfOk result (λ root. option_map answered_root root ≡ root_answered tables.old.tables.roots (answer_of answer) (frames_of tid.now stacks.old)) }
+    ensures below { OnErr result (is_root (frames_of tid.now stacks.old) ≡ false) }
+    ensures lost { OnErr result (lasting tables.new ≡ lasting tables.old) }
+{
+    if let Some(root) = root_on_top(stacks, tid) {
+        end_thread(stacks, tid);
+        let before = root_gets(setting, root, answer, tables);
+        return Ok(Some(AnsweredRoot { root, before }));
+    }
+    if !is_method(stacks, tid) {
+        drop(answer);
+        return Ok(None);
+    }
+    match answer {
+        Answer::Returned { value, outs } => {
+            go_on_with(alloc, setting, tid, value, outs, stacks, tables)?;
+            Ok(None)
+        }
+        Answer::Raised(exception) => {
+            let Some(left) = raise_through(alloc, setting, tid, exception, stacks, tables)? else {
+                return Ok(None);
+            };
+            hand(alloc, setting, tid, Answer::Raised(left), stacks, tables)
+        }
+    }
+}
+
+/// The same where it is not asked which root was answered.
+pub(crate) fn hand_untold(
     alloc: Global,
     setting: &Setting,
     tid: &Tid,
@@ -46,29 +90,16 @@ pub fn hand(
     ensures below { OnErr result (is_root (frames_of tid.now stacks.old) ≡ false) }
     ensures lost { OnErr result (lasting tables.new ≡ lasting tables.old) }
 {
-    if let Some(root) = root_on_top(stacks, tid) {
-        end_thread(stacks, tid);
-        root_gets(setting, root, answer, tables);
-        return Ok(());
-    }
-    if !is_method(stacks, tid) {
-        drop(answer);
-        return Ok(());
-    }
-    match answer {
-        Answer::Returned { value, outs } => {
-            go_on_with(alloc, setting, tid, value, outs, stacks, tables)
+    match hand(alloc, setting, tid, answer, stacks, tables) {
+        Ok(answered) => {
+            drop(answered);
+            Ok(())
         }
-        Answer::Raised(exception) => {
-            let Some(left) = raise_through(alloc, setting, tid, exception, stacks, tables)? else {
-                return Ok(());
-            };
-            hand(alloc, setting, tid, Answer::Raised(left), stacks, tables)
-        }
+        Err(error) => Err(error),
     }
 }
 
-/// The answer of the peer, behind the call that went out.
+/// The answer of the peer, behind the call that went out. Where a root got it whole, `Tables::take_back_root` takes back what lasts of it.
 pub fn hand_from_peer(
     alloc: Global,
     setting: &Setting,
@@ -76,13 +107,15 @@ pub fn hand_from_peer(
     answer: Answer,
     stacks: &mut Stacks,
     tables: &mut Tables,
-) -> Result<(), NoMemory>
+) -> Result<Option<AnsweredRoot>, NoMemory>
     requires of { IsOf (setting_of setting.now) tables.old }
     requires stands { tables.old.stands ≡ true }
     requires sound { IsSound setting.now.registry }
     ensures stacks { (f : Frame) → (fs : List Frame) → frames_of tid.now stacks.old ≡ f ∷ fs → OnOk result (stacks.new ≡ stacks_by tid.now (hands_from_peer (setting_of setting.now) tid.now (answer_of answer) (f ∷ fs) tables.old.tables) stacks.old) }
     ensures none { frames_of tid.now stacks.old ≡ [] → OnOk result (stacks.new ≡ stacks.old) }
     ensures tables { OnOk result (tables.new ≡ tables_by (hands_from_peer (setting_of setting.now) tid.now (answer_of answer) (frames_of tid.now stacks.old) tables.old.tables) tables.old) }
+    ensures answered { IfOk result (λ root. option_map answered_root root ≡ root_answered tables.old.tables.roots (answer_of answer) (frames_of tid.now stacks.old)) }
+    ensures back { ((root : ℕ) → root_reached (answer_of answer) (frames_of tid.now stacks.old) ≡ Some root → gets_all (state_of root tables.old.tables.roots) (answer_of answer) ≡ true) → IfOk result (λ root. lasting (taken_back (option_map answered_root root) tables.new) ≡ lasting tables.old) }
     ensures lost { OnErr result (lasting tables.new ≡ lasting tables.old) }
 {
     let references = refs_of_answer(alloc, &answer)?;
@@ -155,7 +188,7 @@ fn hand_result(
     let own = own_reference(alloc, setting, &body)?;
     let references = refs_of_answer(alloc, &answer)?;
     gain_below(setting, tid, &references, stacks, tables)?;
-    hand(alloc, setting, tid, answer, stacks, tables)?;
+    hand_untold(alloc, setting, tid, answer, stacks, tables)?;
     let_frame_go(setting, body, &own, &[], tables);
     Ok(())
 }
@@ -195,7 +228,7 @@ pub fn end_frame(
         }
         Answer::Raised(exception) => {
             hand_over(alloc, setting, tid, body, &[], &exception, stacks, tables)?;
-            hand(
+            hand_untold(
                 alloc,
                 setting,
                 tid,

@@ -16,4 +16,4 @@ mod tops;
 pub use applying::{apply, query_args};
 pub use calls::{Call, begin_here, begin_there, call_peer};
 pub use handing::hand_from_peer;
-pub use roots::root_gets;
+pub use roots::{AnsweredRoot, root_gets};

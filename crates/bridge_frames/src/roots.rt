@@ -20,23 +20,39 @@ use uno_types::Name;
 use uno_values::{Reference, Value};
 use urp_message::Answer;
 
-/// A root is answered. Of the answer to a query it gets the reference, where its type is assignable to the wanted one, and lets the rest go.
-pub fn root_gets(setting: &Setting, root: u32, answer: Answer, tables: &mut Tables)
+/// A root that was answered, and what it did before.
+#[derive(Drop)]
+pub struct AnsweredRoot {
+    pub root: u32,
+    pub before: Root,
+}
+
+/// A root is answered, and what it did before is given back. Of the answer to a query it gets the reference, where its type is assignable to the
+/// wanted one, and lets the rest go.
+pub fn root_gets(setting: &Setting, root: u32, answer: Answer, tables: &mut Tables) -> Root
     requires of { IsOf (setting_of setting.now) tables.old }
     requires stands { tables.old.stands ≡ true }
     requires sound { IsSound setting.now.registry }
-    ensures { tables.new ≡ on_tables (λ t. root_gets (setting_of setting.now) root (state_of root t.roots) (answer_of answer) t) tables.old }
+    ensures was { root_of result ≡ state_of root tables.old.tables.roots }
+    ensures gets { tables.new ≡ on_tables (λ t. root_gets (setting_of setting.now) root (state_of root t.roots) (answer_of answer) t) tables.old }
 {
-    match wanted_by(tables.set_root(root, Root::Idle)) {
-        Some(wanted) => query_gets(setting, root, &wanted, answer, tables),
-        None => answer_root(root, outcome_of(answer), tables),
+    let before = tables.set_root(root, Root::Idle);
+    match wanted_by(&before) {
+        Some(wanted) => {
+            query_gets(setting, root, wanted, answer, tables);
+            before
+        }
+        None => {
+            answer_root(root, outcome_of(answer), tables);
+            before
+        }
     }
 }
 
 /// The interface for which a root waits.
-fn wanted_by(state: Root) -> Option<Name>
-    ensures waits { IfSome result (λ wanted. root_of state ≡ plain.waits_query wanted) }
-    ensures other { IfNone result ((wanted : List ℕ) → ¬ (root_of state ≡ plain.waits_query wanted)) }
+fn wanted_by(state: &Root) -> Option<&Name>
+    ensures waits { IfSome result (λ wanted. root_of state.now ≡ plain.waits_query wanted.now) }
+    ensures other { IfNone result ((wanted : List ℕ) → ¬ (root_of state.now ≡ plain.waits_query wanted)) }
 {
     match state {
         Root::Queries(wanted) => Some(wanted),

@@ -42,21 +42,21 @@ returns-in-Returned-clause-tables c = λ b fs all.
 
 pub returns-in_ok-hand_over-in-Raised-clause-stacks : goal.returns-in_ok-hand_over-in-Raised-clause-stacks
 returns-in_ok-hand_over-in-Raised-clause-stacks c = λ b fs all.
-    subst (λ a. OnOk c.hand.result (c.hand.new.stacks ≡ stacks_by c.args.tid.now (ends_frame (setting_of c.args.setting.now) c.args.tid.now b a fs c.args.tables.now.tables) c.args.stacks.now))
+    subst (λ a. OnOk c.hand_untold.result (c.hand_untold.new.stacks ≡ stacks_by c.args.tid.now (ends_frame (setting_of c.args.setting.now) c.args.tid.now b a fs c.args.tables.now.tables) c.args.stacks.now))
     (sym (ap answer_of c.in-Raised.is))
     (handing.exception_ends_stacks (setting_of c.args.setting.now) c.args.tid.now (body_of c.pop_method-body.result) (raised (kind_of c.in-Raised.exception.kind) (plain_of c.in-Raised.exception.value)) c.args.stacks.now c.pop_method-body.new.stacks c.args.tables.now c.pop_method-body.ensures.top c.pop_method-body.ensures.popped
     c.pop_method-body.ensures.below b fs all
-    (kind_of c.in-Raised.exception.kind) (plain_of c.in-Raised.exception.value) refl c.if-body.false c.hand_over.new.tables c.in_ok-hand_over-in-Raised.ensures.handed c.hand.result c.hand.new.stacks c.hand.ensures.stacks c.hand.ensures.none)
+    (kind_of c.in-Raised.exception.kind) (plain_of c.in-Raised.exception.value) refl c.if-body.false c.hand_over.new.tables c.in_ok-hand_over-in-Raised.ensures.handed c.hand_untold.result c.hand_untold.new.stacks c.hand_untold.ensures.stacks c.hand_untold.ensures.none)
 
 pub returns-in_ok-hand_over-in-Raised-clause-tables : goal.returns-in_ok-hand_over-in-Raised-clause-tables
 returns-in_ok-hand_over-in-Raised-clause-tables c = λ b fs all.
-    subst (λ a. OnOk c.hand.result (c.hand.new.tables ≡ tables_by (ends_frame (setting_of c.args.setting.now) c.args.tid.now b a fs c.args.tables.now.tables) c.args.tables.now))
+    subst (λ a. OnOk c.hand_untold.result (c.hand_untold.new.tables ≡ tables_by (ends_frame (setting_of c.args.setting.now) c.args.tid.now b a fs c.args.tables.now.tables) c.args.tables.now))
     (sym (ap answer_of c.in-Raised.is))
     (handing.exception_ends_tables (setting_of c.args.setting.now) c.args.tid.now (body_of c.pop_method-body.result) (raised (kind_of c.in-Raised.exception.kind) (plain_of c.in-Raised.exception.value)) c.args.stacks.now c.pop_method-body.new.stacks c.args.tables.now c.pop_method-body.ensures.top c.pop_method-body.ensures.popped
     c.pop_method-body.ensures.below b fs all
-    (kind_of c.in-Raised.exception.kind) (plain_of c.in-Raised.exception.value) refl c.if-body.false c.hand_over.new.tables c.in_ok-hand_over-in-Raised.ensures.handed c.hand.result c.hand.new.tables c.hand.ensures.tables)
+    (kind_of c.in-Raised.exception.kind) (plain_of c.in-Raised.exception.value) refl c.if-body.false c.hand_over.new.tables c.in_ok-hand_over-in-Raised.ensures.handed c.hand_untold.result c.hand_untold.new.tables c.hand_untold.ensures.tables)
 
 pub returns-in_ok-hand_over-in-Raised-clause-lost : goal.returns-in_ok-hand_over-in-Raised-clause-lost
 returns-in_ok-hand_over-in-Raised-clause-lost c =
     handing.over_lost (setting_of c.args.setting.now) c.args.tid.now (body_of c.pop_method-body.result) (raised (kind_of c.in-Raised.exception.kind) (plain_of c.in-Raised.exception.value)) c.pop_method-body.new.stacks c.args.tables.now c.hand_over.new.tables
-    c.in_ok-hand_over-in-Raised.ensures.handed c.hand.result c.hand.new.tables c.hand.ensures.below c.hand.ensures.lost
+    c.in_ok-hand_over-in-Raised.ensures.handed c.hand_untold.result c.hand_untold.new.tables c.hand_untold.ensures.below c.hand_untold.ensures.lost

@@ -1,7 +1,9 @@
-use Rattle.std.proofs.Common.{ap, map, sym, ◌∙◌}
+use Rattle.std.proofs.Common.{ap, map, option_map, sym, ◌∙◌}
 use Rattle.uno_values.specs.References.{ref_of}
 use Rattle.urp_message.specs.Messages.{answer_of}
 use Rattle.bridge_setting.specs.Settings.{setting_of}
+use Rattle.bridge_frames.specs.Answered.{answered_root}
+use Rattle.bridge_frames.proofs.AnsweredLemmas as answered
 use Rattle.bridge_frames.proofs.HandingLemmas as handing
 use Rattle.bridge_frames.proofs.handing.hand_from_peer.Goals as goal
 
@@ -14,6 +16,16 @@ pub returns-clause-tables : goal.returns-clause-tables
 returns-clause-tables c =
     handing.from_peer_tables (setting_of c.args.setting.now) c.args.tid.now (answer_of c.args.answer) c.args.stacks.now c.args.tables.now c.take_below.new.tables
     (c.in_ok-take_below.ensures.taken (answer_of c.args.answer) (sym (ap (map ref_of) c.deref.ensures.value ∙ c.in_ok-references.ensures))) c.hand.result c.hand.new.tables c.hand.ensures.tables
+
+pub returns-clause-answered : goal.returns-clause-answered
+returns-clause-answered c =
+    answered.from_peer_told (setting_of c.args.setting.now) c.args.tid.now (answer_of c.args.answer) c.args.stacks.now c.args.tables.now (option_map answered_root) c.hand.result c.take_below.new.tables
+    (c.in_ok-take_below.ensures.taken (answer_of c.args.answer) (sym (ap (map ref_of) c.deref.ensures.value ∙ c.in_ok-references.ensures))) c.hand.ensures.answered
+
+pub returns-clause-back : goal.returns-clause-back
+returns-clause-back c = λ gets.
+    answered.peer_taken_back (setting_of c.args.setting.now) c.args.tid.now (answer_of c.args.answer) c.args.stacks.now c.args.tables.now (option_map answered_root) c.hand.result c.hand.new.tables
+    (returns-clause-answered c) (returns-clause-tables c) gets
 
 pub returns-clause-lost : goal.returns-clause-lost
 returns-clause-lost c =
