@@ -1,6 +1,7 @@
 //! What comes in: the bytes of the open block, and what is remembered of the peer's messages.
-ghost use Rattle.std.specs.Prelude.{◌≡◌, ℕ, ◌+◌, ◌^◌, ◌<◌, ◌≤◌, [], length, drop, IfOk, OnOk, OnErr, IsTrue, ◌↔◌, None};
+ghost use Rattle.std.specs.Prelude.{◌≡◌, ℕ, ◌+◌, ◌^◌, ◌<◌, ◌≤◌, [], length, drop, false, IfOk, OnOk, OnErr, IsTrue, ◌↔◌, None};
 ghost use Rattle.bridge_model.specs.Answers.{is_some_piece};
+ghost use Rattle.bridge_model.specs.Feeding.{ends_part};
 ghost use Rattle.bridge_model.specs.Sides.{nothing_came};
 ghost use Rattle.bridge_model.specs.Stacks.{waits_of};
 ghost use Rattle.bridge_model.specs.Steps.{fed_count};
@@ -113,9 +114,10 @@ impl Incoming {
         self.blocks.place()
     }
 
-    /// How many bytes were taken.
+    /// How many bytes were taken. Those of them that are held end no block, and no header that is refused.
     pub fn fed(&self) -> u64
-        ensures { result ≡ fed_count self.now }
+        ensures fed { result ≡ fed_count self.now }
+        ensures unended { ends_part self.now.held ≡ false }
     {
         self.blocks.place() + self.blocks.rest() as u64
     }
