@@ -1,0 +1,56 @@
+use Rattle.std.proofs.Common.{◌≡◌, ◌+◌, refl, sym, ap, ◌∙◌, arith}
+use Rattle.behaviour.specs.Effects.{effect_of}
+use Rattle.bridge_model.specs.Entries.{applied}
+use Rattle.bridge_model.specs.Steps.{does}
+use Rattle.bridge_room.specs.Room.{brought}
+use Rattle.bridge_setting.specs.Settings.{setting_of}
+use Rattle.bridge_state.specs.EndSides.{on_side, with_side}
+use Rattle.plan_types.specs.Frames.{job_of}
+use Rattle.bridge_journal.specs.Logs.{entered}
+use Rattle.bridge_endpoint.proofs.ApplyLemmas.{brings_effect, does_effect, picked_frame, picked_some, the_picked}
+use Rattle.bridge_endpoint.proofs.JournalLemmas.{entered_with}
+use Rattle.bridge_endpoint.proofs.MakingLemmas.{few_by}
+use Rattle.bridge_endpoint.specs.Entering.{counts_one, with_room}
+use Rattle.bridge_endpoint.proofs.applying.apply_standing.Goals as goal
+
+pub apply-requires-clause-method : goal.apply-requires-clause-method
+apply-requires-clause-method c = picked_some (setting_of c.args.setting.now) c.args.job.tid c.args.state.now.side (job_of c.args.job) c.requires.current
+
+pub enter-requires-clause-few : goal.enter-requires-clause-few
+enter-requires-clause-few c =
+    let g = setting_of c.args.setting.now in
+    let tid = c.args.job.tid in
+    let s = c.args.state.now.side in
+    let the = the_picked g tid s (job_of c.args.job) c.requires.current in
+    let did : c.apply.new.self ≡ on_side (λ y. (does g (applied tid) y).side) c.args.state.now =
+    c.in_ok-apply.ensures.applied the.top the.there ∙ ap (λ y. with_side y c.args.state.now) (does_effect g tid s (job_of c.args.job) c.requires.current (effect_of c.args.effect) c.requires.effect) in
+    few_by g (applied tid) c.args.state.now c.apply.new.self did c.requires.few
+
+pub returns-clause-done : goal.returns-clause-done
+returns-clause-done c =
+    let g = setting_of c.args.setting.now in
+    let tid = c.args.job.tid in
+    let s = c.args.state.now.side in
+    let the = the_picked g tid s (job_of c.args.job) c.requires.current in
+    let did : c.apply.new.self ≡ on_side (λ y. (does g (applied tid) y).side) c.args.state.now =
+    c.in_ok-apply.ensures.applied the.top the.there ∙ ap (λ y. with_side y c.args.state.now) (does_effect g tid s (job_of c.args.job) c.requires.current (effect_of c.args.effect) c.requires.effect) in
+    c.enter.ensures.counted ∙ ap (on_side counts_one) did
+
+pub returns-clause-entered : goal.returns-clause-entered
+returns-clause-entered c =
+    let g = setting_of c.args.setting.now in
+    let tid = c.args.job.tid in
+    let s = c.args.state.now.side in
+    let j = job_of c.args.job in
+    let the = the_picked g tid s j c.requires.current in
+    let old = c.args.journal.now in
+    let n = c.in_ok-room_for.field-0 in
+    let brings : n ≡ brought g s (applied tid) =
+    c.in_ok-room_for.ensures the.top.method (sym (picked_frame g tid s j c.requires.current)) ∙ brings_effect g tid s j c.requires.current (effect_of c.args.effect) c.requires.effect in
+    let first = ap (λ l. l.room) c.in_ok-reserve.ensures.room in
+    let second = ap (λ l. l.room) c.in_ok-reserve-2.ensures.room in
+    let third = ap (λ l. l.room) c.enter.ensures.entered in
+    let room : c.enter.new.journal.room ≡ old.room + brought g s (applied tid) = omega (arith, first, second, third, brings) in
+    entered_with old c.reserve.new.self c.reserve-2.new.journal c.enter.new.journal (c.reserve.new.self.room + n) (applied tid) (applied tid) c.in_ok-reserve.ensures.room c.in_ok-reserve-2.ensures.room c.enter.ensures.entered
+    refl
+    ∙ ap (λ k. with_room k (entered (applied tid) old)) room

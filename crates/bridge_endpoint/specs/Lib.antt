@@ -1,0 +1,5 @@
+pub mod Answering
+pub mod Entering
+pub mod Journals
+pub mod Kept
+pub mod Refusing
