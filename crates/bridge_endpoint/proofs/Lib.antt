@@ -1,4 +1,5 @@
 pub mod KeptLaws
+mod Crossing
 mod EntryLemmas
 mod BeginLemmas
 mod FeedLemmas

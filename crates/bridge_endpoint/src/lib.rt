@@ -11,6 +11,7 @@ mod feeding;
 mod making;
 mod refusing;
 mod telling;
+mod threads;
 
 pub use answers::{ApplyError, Begun, Fed, Made};
 pub use bridge_journal::Entry;

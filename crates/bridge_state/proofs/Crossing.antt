@@ -48,16 +48,16 @@ use Rattle.bridge_state.specs.contracts.state.State as State
 
 -- ---- values
 
-kind_send : IsSend TypeName.the_field.row
+pub kind_send : IsSend TypeName.the_field.row
 kind_send = let a = names.the_send in search (kinds.crosses, crosses, sendable) depth 20
 
 reference_send : IsSend Reference.the_field.row
 reference_send = let a = names.the_send in let b = texts.the_send in search sendable depth 20
 
-value_send : IsSend Value.the_field.row
+pub value_send : IsSend Value.the_field.row
 value_send = let a = kind_send in let b = reference_send in let c = names.the_send in let d = texts.the_send in search (values.crosses, maps.crosses, crosses, sendable) depth 20
 
-value_row_send : IsSend Value.the_row
+pub value_row_send : IsSend Value.the_row
 value_row_send = let a = kind_send in let b = reference_send in let c = names.the_send in let d = texts.the_send in search (values.crosses, maps.crosses, crosses, sendable) depth 20
 
 any_send : IsSend AnyValue.the_field.row

@@ -1,6 +1,6 @@
 mod AskingLemmas
 mod BeginningLemmas
-mod Crossing
+pub mod Crossing
 mod FeedingLemmas
 mod FieldLemmas
 mod HearingLemmas
