@@ -27,7 +27,7 @@ use Rattle.bridge_typing.proofs.GivenLaws.{is_given, unsaid_sayable}
 use Rattle.bridge_typing.specs.Giving.{MayGive, RootsGive}
 use Rattle.bridge_endpoint.specs.Kept.{IsKept}
 use Rattle.bridge_endpoint.specs.Entering.{IsWithin}
-use Rattle.bridge_endpoint.specs.Journals.{Endpoint, seen, setting_at, side_at}
+use Rattle.bridge_endpoint.specs.Journals.{Endpoint, seen, setting_at, side_at, told_at}
 use Rattle.bridge_setting.specs.Settings.{setting_of}
 use Rattle.bridge_setting.specs.declared.setting.Setting.{Setting as Configured}
 
@@ -136,6 +136,11 @@ module _ (g : Setting) (roots : ℕ) (e : EndSide) (log : Log) (kept : IsKept g 
 -- the side to which what is seen of the journal leads
 pub kept_at : (c : Configured) (roots : ℕ) (e : EndSide) (log : Log) → IsKept (setting_of c) roots e log → side_at (seen c log) ≡ e.side
 kept_at c roots e log kept = side_led (seen c log) kept.told kept.leads ∙ kept.here
+
+-- and all that it told
+pub leads_at : (c : Configured) (roots : ℕ) (e : EndSide) (log : Log) → IsKept (setting_of c) roots e log → Leads (setting_of c) log.entries (told_at (seen c log))
+unfolding told_at
+leads_at c roots e log kept = kept.leads ∙ ap (λ x. Some x) (sym (ap (λ o. unwrap_or o (nothing_told (setting_of c))) kept.leads))
 
 -- ---- room
 

@@ -6,7 +6,7 @@ use Rattle.plan_model.specs.Keeps.{KeepsTheRules}
 use Rattle.plan_typing.specs.Effects.{NamesDiffer}
 use Rattle.bridge_journal.specs.Logs.{Log}
 use Rattle.bridge_model.specs.Entries.{Entry}
-use Rattle.bridge_model.specs.Histories.{nothing_told, replay}
+use Rattle.bridge_model.specs.Histories.{Told, nothing_told, replay}
 use Rattle.bridge_model.specs.Settings.{Setting}
 use Rattle.bridge_model.specs.Sides.{Side}
 use Rattle.bridge_setting.specs.Settings.{setting_of}
@@ -36,6 +36,10 @@ side_at e = (unwrap_or (replay (setting_at e) e.entries) (nothing_told (setting_
 -- an entry more, with its mark
 abbrev pub with_entry : Entry → Endpoint → Endpoint
 with_entry x e = record e { entries = e.entries ++ x ∷ []; stamps = e.stamps ++ e.stamp ∷ [] }
+
+-- all that they told
+unfoldable pub told_at : Endpoint → Told
+told_at e = unwrap_or (replay (setting_at e) e.entries) (nothing_told (setting_at e))
 
 -- another mark for those to come
 abbrev pub stamped : ℕ → Endpoint → Endpoint

@@ -2,12 +2,14 @@
 ghost use Rattle.std.specs.Prelude.{◌≡◌, map, option_map};
 ghost use Rattle.bridge_journal.specs.Logs.{entry_of};
 ghost use Rattle.bridge_model.specs.Answers as answers;
+ghost use Rattle.bridge_model.specs.Histories.{Leads};
 ghost use Rattle.bridge_model.specs.Sides.{stands, stands_by, state_of};
 ghost use Rattle.bridge_model.specs.Steps.{is_no_memory};
 ghost use Rattle.bridge_state.specs.Telling.{counts_told, state_told};
+ghost use Rattle.bridge_typing.specs.Giving.{RootsGive};
 ghost use Rattle.plan_types.specs.Plans.{plan_of};
 ghost use Rattle.uno_model.specs.Sound.{IsSound};
-ghost use Rattle.bridge_endpoint.specs.Journals.{setting_at, side_at};
+ghost use Rattle.bridge_endpoint.specs.Journals.{setting_at, side_at, told_at};
 
 use crate::Endpoint;
 use bridge_journal::Entry;
@@ -30,9 +32,11 @@ impl Endpoint {
         &self.setting.registry
     }
 
-    /// The entries, oldest first.
+    /// The entries, oldest first. They are a history of the definition, so that all its laws hold of it.
     pub fn journal(&self) -> &[Entry]
-        ensures { map entry_of result.now ≡ self.now.entries }
+        ensures entries { map entry_of result.now ≡ self.now.entries }
+        ensures leads { Leads (setting_at self.now) self.now.entries (told_at self.now) }
+        ensures gives { RootsGive (setting_at self.now) self.now.entries }
     {
         self.journal.entries()
     }
