@@ -60,7 +60,7 @@ unfolding replay
 leads_on g es x e leads may_it = tells_on g (Some (nothing_told g)) es x e leads ∙ tells_is g x e may_it
 
 pub side_led : (e : Endpoint) (x : Told) → Leads (setting_at e) e.entries x → side_at e ≡ x.side
-unfolding side_at
+unfolding side_at told_at
 side_led e x leads = ap (λ o. (unwrap_or o (nothing_told (setting_at e))).side) leads
 
 -- all of these and one more

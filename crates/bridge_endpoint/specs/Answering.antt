@@ -55,8 +55,8 @@ abbrev pub IsMadeOid : Made → List ℕ → Type 0
 IsMadeOid (making.Made oid) identity = oid ≡ identity
 IsMadeOid m identity = Unit
 
--- a statement is carried out exactly where its job is the one that would be picked and the bridge is within its limits; where the job is another one that is given,
--- and after want of memory nothing else is answered
+-- a statement is carried out where its job is the one that would be picked and the limit of entries is not reached; where another one would be picked, that one is
+-- given; at the limit the job is the right one. Want of memory may be answered at any time, and where the bridge has ended for it nothing else can be: no job is picked then
 abbrev pub AppliedSo : Setting → Side → Job → Result Unit ApplyError → Type 0
 AppliedSo g s job (Ok u) = (pick g job.tid s ≡ Some job) × (has_entries s ≡ false)
 AppliedSo g s job (Err (applying.Stale now)) = (option_map job_of now ≡ pick g job.tid s) × (pick g job.tid s ≢ Some job) × (is_no_memory s.cause ≡ false)

@@ -29,17 +29,17 @@ opening_endpoint c = record { configured = c; entries = []; stamps = []; stamp =
 abbrev pub setting_at : Endpoint → Setting
 setting_at e = setting_of e.configured
 
+-- what the entries told, one by one from the opening on: the messages and bytes that came in and went out, and the side behind them
+unfoldable pub told_at : Endpoint → Told
+told_at e = unwrap_or (replay (setting_at e) e.entries) (nothing_told (setting_at e))
+
 -- the side to which the journal leads
 unfoldable pub side_at : Endpoint → Side
-side_at e = (unwrap_or (replay (setting_at e) e.entries) (nothing_told (setting_at e))).side
+side_at e = (told_at e).side
 
 -- an entry more, with its mark
 abbrev pub with_entry : Entry → Endpoint → Endpoint
 with_entry x e = record e { entries = e.entries ++ x ∷ []; stamps = e.stamps ++ e.stamp ∷ [] }
-
--- all that they told
-unfoldable pub told_at : Endpoint → Told
-told_at e = unwrap_or (replay (setting_at e) e.entries) (nothing_told (setting_at e))
 
 -- another mark for those to come
 abbrev pub stamped : ℕ → Endpoint → Endpoint

@@ -27,9 +27,10 @@ use bridge_state::{Break, State};
 use std::alloc::Global;
 use uno_base::NoMemory;
 
-/// The most entries that count, and the most bytes that come in.
+/// The most entries that count.
 pub(crate) const MOST_ENTRIES: u64 = 1_000_000;
 
+/// The most bytes that come in.
 const MOST_FED: u64 = 67_108_864;
 
 impl Endpoint {
