@@ -8,8 +8,8 @@ use Rattle.plan_model.specs.declared.runtime_cause.RuntimeCause.{RuntimeCause}
 use Rattle.plan_model.specs.declared.runtime_cause.RuntimeCause.TheVariants.{TooLarge, TooDeep}
 use Rattle.uno_model.specs.Entities.{Entity}
 use Rattle.uno_model.specs.Values.{Ref, null, own, peer, Plain, plains, depth_in}
-use Rattle.behaviour.specs.declared.target.Target.{Target}
-use Rattle.behaviour.specs.declared.target.Target.TheVariants as target
+use Rattle.behaviour.specs.declared.running.Target.{Target}
+use Rattle.behaviour.specs.declared.running.Target.TheVariants as target
 
 -- the interface under which an object is held; null has none
 abbrev pub face_of : Ref → List ℕ

@@ -1,7 +1,10 @@
 -- Roots in progress as plain trees.
-use Rattle.std.specs.Prelude.{map}
+use Rattle.std.specs.Prelude.{map, ◌++◌}
+use Rattle.std.specs.List.{flat_map}
 use Rattle.plan_model.specs.Roots.{Run}
 use Rattle.plan_types.specs.Frames.{variables_of}
+use Rattle.uno_model.specs.Values.{refs}
+use Rattle.uno_values.specs.References.{ref_of}
 use Rattle.uno_values.specs.Values.{plain_of}
 use Rattle.behaviour.specs.declared.root.RootRun.{RootRun}
 
@@ -13,5 +16,5 @@ run_of r =
       variables = variables_of r.variables.items;
       lines = r.lines.items;
       instance = r.instance;
-      loose = map plain_of r.loose.items;
+      loose = map ref_of r.letting.items ++ flat_map (λ x. refs (plain_of x)) r.loose.items;
     }

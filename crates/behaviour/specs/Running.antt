@@ -1,22 +1,28 @@
 -- A frame that runs, as the definitions see it.
 use Rattle.std.specs.Borrow.{Bor}
-use Rattle.std.specs.Prelude.{Option, None, Some, Result, Ok, Err, option_map}
+use Rattle.std.specs.Prelude.{List, [], Option, None, Some, Result, Ok, Err, option_map}
 use Rattle.plan_model.specs.Asking as asking
 use Rattle.plan_model.specs.Evaluation as evaluation
+use Rattle.plan_model.specs.Frames.{Variable}
 use Rattle.plan_model.specs.declared.runtime_cause.RuntimeCause.{RuntimeCause}
 use Rattle.plan_model.specs.Plans as plan
 use Rattle.plan_types.specs.Frames.{variables_of}
 use Rattle.plan_types.specs.Plans.{method_of}
 use Rattle.plan_types.specs.declared.plan.Method.{Method}
 use Rattle.type_registry.specs.Functions.{lent_function}
-use Rattle.uno_model.specs.Values.{own, Plain, void}
+use Rattle.uno_model.specs.Values.{null, Plain, void}
 use Rattle.uno_values.specs.Values.{plain_of}
 use Rattle.uno_values.specs.declared.value.Value.{Value}
+use Rattle.behaviour.specs.Calling.{target_of}
 use Rattle.behaviour.specs.declared.running.Scene.{Scene}
 use Rattle.behaviour.specs.declared.running.Running.{Running}
 
 abbrev pub scene_of : Scene → evaluation.Scene
-scene_of s = record { variables = variables_of s.variables.now; fields = variables_of s.fields.now; own = own s.own.now s.face.now }
+scene_of s = record { variables = variables_of s.variables.now; fields = variables_of s.fields.now; own = target_of s.own }
+
+-- what words stand for in a root: its variables alone
+abbrev pub root_scene : List Variable → evaluation.Scene
+root_scene xs = record { variables = xs; fields = []; own = null }
 
 abbrev pub running_of : Running → asking.Running
 running_of r =

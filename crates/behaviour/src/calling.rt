@@ -25,8 +25,8 @@ use crate::ending::fails;
 use crate::evaluation::value_of;
 use crate::functions::number_in;
 use crate::limits::{has_deep, heading_weight, is_full, is_heavy};
-use crate::running::{Running, Scene};
-use crate::target::{Target, object_of_word};
+use crate::running::{Running, Scene, Target};
+use crate::target::object_of_word;
 use crate::words::copy_under;
 use plan_types::{Argument, Call, Query, RuntimeCause};
 use std::alloc::Global;
@@ -154,7 +154,7 @@ fn name_of(alloc: Global, to: &Option<Field>) -> Result<Option<Name>, NoMemory>
 }
 
 /// The values that go with a call: those of expressions, and of variables that go both ways; none where an operation has no result.
-fn given_values(
+pub(crate) fn given_values(
     alloc: Global,
     scene: Scene,
     arguments: &[Argument],

@@ -54,7 +54,7 @@ pub(crate) fn number_of(value: &Value) -> Option<i128>
 /// Whether two values are equal: anys where types and values are, structs and sequences part by part, references where they are of one object.
 #[cycle(same)]
 #[tactic(auto, unfolding(plan_model::specs::Evaluation::same_value, plan_model::specs::Evaluation::same_values))]
-pub(crate) fn same_value(left: &Value, right: &Value) -> bool
+pub fn same_value(left: &Value, right: &Value) -> bool
     ensures { result ≡ same_value (plain_of left.now) (plain_of right.now) }
 {
     match left {

@@ -25,7 +25,7 @@ use uno_values::{Value, default_of};
 
 /// The number of a function in the table of an interface, or the count of its functions where it is none of them. Past the first ones the whole table is
 /// made, since each look-up by a number goes over all before it.
-pub(crate) fn number_in(
+pub fn number_in(
     alloc: Global,
     registry: &Registry,
     face: &str,

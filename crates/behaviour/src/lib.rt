@@ -22,8 +22,12 @@ mod threads;
 mod words;
 
 pub use calling::why_too_much;
+pub use comparison::same_value;
 pub use effect::{Done, Effect};
 pub use exceptions::caused;
+pub use functions::number_in;
 pub use jobs::{method_of, next};
 pub use leaving::leaving_exception;
-pub use root::RootRun;
+pub use root::{RootRun, root_target, root_values};
+pub use running::Target;
+pub use words::value_under;

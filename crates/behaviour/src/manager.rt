@@ -20,7 +20,7 @@ use std::alloc::Global;
 use type_registry::FunctionRef;
 use uno_base::NoMemory;
 use uno_types::{Registry, Text};
-use uno_values::Value;
+use uno_values::{Value, copy_all};
 
 const CREATE: &str = "createInstance";
 
@@ -116,17 +116,6 @@ fn elements_of(alloc: Global, value: Option<&Value>) -> Result<Vec<Value>, NoMem
 fn copy_elements(alloc: Global, elements: &[Value]) -> Result<Vec<Value>, NoMemory>
     ensures { IfOk result (λ copies. map plain_of copies.items ≡ values_in (plains_of elements.now)) }
 {
-    let copies = copy_values(alloc, elements)?;
-    Ok(copies)
-}
-
-/// Equal values, in their order.
-fn copy_values(alloc: Global, values: &[Value]) -> Result<Vec<Value>, NoMemory>
-    ensures { IfOk result (λ copies. map plain_of copies.items ≡ map plain_of values.now) }
-{
-    let mut copies = Vec::new(alloc);
-    for value in values {
-        copies.push(value.copy(alloc)?)?;
-    }
+    let copies = copy_all(elements, alloc)?;
     Ok(copies)
 }

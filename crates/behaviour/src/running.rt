@@ -4,13 +4,20 @@ use plan_types::Variable;
 use type_registry::FunctionRef;
 use uno_types::{Name, Text, Tid};
 
-/// What words stand for: variables, the fields of the own object, and that object, by its identity and the interface under which it stands.
+/// Null, or an object by its identity and the interface under which it is held.
+#[derive(Clone, Copy)]
+pub enum Target<'a> {
+    Null,
+    Local { oid: &'a Text, face: &'a Name },
+    Remote { oid: &'a Text, face: &'a Name },
+}
+
+/// What words stand for: variables, the fields of the own object, and that object.
 #[derive(Clone, Copy)]
 pub(crate) struct Scene<'a> {
     pub variables: &'a [Variable],
     pub fields: &'a [Variable],
-    pub own: &'a Text,
-    pub face: &'a Name,
+    pub own: Target<'a>,
 }
 
 /// A frame that runs: its thread, the interface and number under which its function was called, the function, the frames of its stack, and what words

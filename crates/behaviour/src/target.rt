@@ -7,25 +7,16 @@ ghost use Rattle.uno_values.specs.References.{ref_of};
 ghost use Rattle.behaviour.specs.Calling.{face_of, target_of};
 ghost use Rattle.behaviour.specs.Running.{scene_of, value_or_void};
 
-use crate::running::Scene;
+use crate::running::{Scene, Target};
 use crate::words::value_under;
 use plan_types::Word;
 use std::alloc::Global;
 use uno_base::NoMemory;
-use uno_types::{Name, Text};
 use uno_values::{Reference, Value};
-
-/// Null, or an object by its identity and the interface under which it is held.
-#[derive(Clone, Copy)]
-pub(crate) enum Target<'a> {
-    Null,
-    Local { oid: &'a Text, face: &'a Name },
-    Remote { oid: &'a Text, face: &'a Name },
-}
 
 impl<'a> Target<'a> {
     /// The identity; null has none.
-    pub(crate) fn oid(&self) -> &'a str
+    pub fn oid(&self) -> &'a str
         ensures { result.now ≡ identity_of (target_of self.now) }
     {
         match self {
@@ -35,7 +26,7 @@ impl<'a> Target<'a> {
     }
 
     /// The interface; null has none.
-    pub(crate) fn face(&self) -> &'a str
+    pub fn face(&self) -> &'a str
         ensures { result.now ≡ face_of (target_of self.now) }
     {
         match self {
@@ -45,7 +36,7 @@ impl<'a> Target<'a> {
     }
 
     /// The same as a reference of its own.
-    pub(crate) fn copy(&self, alloc: Global) -> Result<Reference, NoMemory>
+    pub fn copy(&self, alloc: Global) -> Result<Reference, NoMemory>
         ensures { IfOk result (λ r. ref_of r ≡ target_of self.now) }
     {
         match self {
@@ -71,10 +62,7 @@ pub(crate) fn object_of_word<'a>(scene: Scene<'a>, word: &Word) -> Target<'a>
     match word {
         Word::Variable(name) => object_of(value_under(name, scene.variables)),
         Word::Field(name) => object_of(value_under(name, scene.fields)),
-        Word::Own => Target::Local {
-            oid: scene.own,
-            face: scene.face,
-        },
+        Word::Own => scene.own,
     }
 }
 

@@ -15,7 +15,7 @@ use uno_types::Name;
 use uno_values::{Reference, Value};
 
 /// The value under a name, where one is there.
-pub(crate) fn value_under<'a>(name: &Name, variables: &'a [Variable]) -> Option<&'a Value>
+pub fn value_under<'a>(name: &Name, variables: &'a [Variable]) -> Option<&'a Value>
     ensures { value_or_void result ≡ value_under name.now (variables_of variables.now) }
 {
     for variable in variables {
@@ -55,7 +55,5 @@ pub(crate) fn value_of_word(alloc: Global, scene: Scene, word: &Word) -> Result<
 pub(crate) fn own_object(alloc: Global, scene: Scene) -> Result<Reference, NoMemory>
     ensures { IfOk result (λ r. ref_of r ≡ (scene_of scene.entry).own) }
 {
-    let oid = scene.own.copy(alloc)?;
-    let face = scene.face.copy(alloc)?;
-    Ok(Reference::Local { oid, face })
+    scene.own.copy(alloc)
 }

@@ -1,5 +1,5 @@
 //! What roots begin.
-ghost use Rattle.std.specs.Prelude.{◌≡◌, ◌≢◌, ◌+◌, ◌-◌, ◌<◌, ◌≤◌, ◌^◌, true, IfOk, OnErr, OnOk, length, map};
+ghost use Rattle.std.specs.Prelude.{◌≡◌, ◌≢◌, ◌+◌, ◌-◌, ◌<◌, ◌≤◌, ◌^◌, true, OnErr, OnOk, length, map};
 ghost use Rattle.bridge_journal.specs.Logs.{entered};
 ghost use Rattle.bridge_model.specs.Answers as answers;
 ghost use Rattle.bridge_model.specs.Answers.{begun};
@@ -25,7 +25,7 @@ use bridge_state::State;
 use std::alloc::Global;
 use uno_base::NoMemory;
 use uno_types::{Name, Text};
-use uno_values::Value;
+use uno_values::{Value, copy_all};
 
 impl Endpoint {
     /// A root asks the peer for the object of an exported name, under the wanted interface.
@@ -205,7 +205,7 @@ fn call_standing(
         oid: oid.copy(alloc)?,
         face: face.copy(alloc)?,
         function,
-        args: copies_of(alloc, &args)?,
+        args: copy_all(&args, alloc)?,
     };
     state.root_calls(setting, root, oid, face, function, args)?;
     enter(state, journal, entry);
@@ -245,15 +245,4 @@ fn query_standing(
     state.root_queries(setting, root, oid, face, wanted)?;
     enter(state, journal, entry);
     Ok(())
-}
-
-/// Copies of values.
-fn copies_of(alloc: Global, values: &[Value]) -> Result<Vec<Value>, NoMemory>
-    ensures { IfOk result (λ copies. map plain_of copies.items ≡ map plain_of values.now) }
-{
-    let mut copies = Vec::new(alloc);
-    for value in values {
-        copies.push(value.copy(alloc)?)?;
-    }
-    Ok(copies)
 }

@@ -1,13 +1,17 @@
 //! What an endpoint tells: functions of the side to which its journal leads.
-ghost use Rattle.std.specs.Prelude.{◌≡◌, map, option_map};
+ghost use Rattle.std.specs.Prelude.{◌≡◌, ◌≤◌, suc, IfOk, IfSome, length, map, option_map};
 ghost use Rattle.bridge_journal.specs.Logs.{entry_of};
 ghost use Rattle.bridge_model.specs.Answers as answers;
 ghost use Rattle.bridge_model.specs.Histories.{Leads};
+ghost use Rattle.bridge_model.specs.Roots.{holds_pair, outcome_in};
+ghost use Rattle.bridge_model.specs.Settings.{own_oid};
 ghost use Rattle.bridge_model.specs.Sides.{stands, stands_by, state_of};
 ghost use Rattle.bridge_model.specs.Steps.{is_no_memory};
 ghost use Rattle.bridge_state.specs.Telling.{counts_told, state_told};
+ghost use Rattle.bridge_tables.specs.Roots.{outcome_of};
 ghost use Rattle.bridge_typing.specs.Giving.{RootsGive};
 ghost use Rattle.plan_types.specs.Plans.{plan_of};
+ghost use Rattle.uno_model.specs.BuiltIn.{HasBuiltIn};
 ghost use Rattle.uno_model.specs.Sound.{IsSound};
 ghost use Rattle.bridge_endpoint.specs.Journals.{setting_at, side_at, told_at};
 
@@ -15,8 +19,10 @@ use crate::Endpoint;
 use bridge_journal::Entry;
 use bridge_model::Cause;
 use bridge_state::{Counts, RootState};
+use bridge_tables::Outcome;
 use plan_types::Plan;
-use uno_types::{Registry, Tid};
+use uno_base::NoMemory;
+use uno_types::{Name, Registry, Text, Tid};
 
 impl Endpoint {
     pub fn plan(&self) -> &Plan
@@ -28,8 +34,20 @@ impl Endpoint {
     pub fn registry(&self) -> &Registry
         ensures same { result.now ≡ (setting_at self.now).registry }
         ensures sound { IsSound result.now }
+        ensures built_in { HasBuiltIn result.now }
+        ensures tag { length (setting_at self.now).tag ≤ 32 }
     {
         &self.setting.registry
+    }
+
+    /// What an object will be called that is made next.
+    pub fn next_oid(&self) -> Result<Text, NoMemory>
+        ensures { IfOk result (λ oid. oid ≡ own_oid (setting_at self.now) (suc (side_at self.now).tables.objects_made)) }
+    {
+        let Some(number) = next_number(self.state.objects_made()) else {
+            return Err(NoMemory);
+        };
+        self.setting.own_oid(self.alloc, number)
     }
 
     /// The entries, oldest first. They are a history of the definition, so that all its laws hold of it.
@@ -76,6 +94,20 @@ impl Endpoint {
         self.state.root_state(root)
     }
 
+    /// The outcome that a root has and did not take.
+    pub fn outcome(&self, root: u32) -> Option<&Outcome>
+        ensures { option_map (λ o. outcome_of o.now) result ≡ outcome_in (state_of root (side_at self.now).tables.roots) }
+    {
+        self.state.outcome(root)
+    }
+
+    /// Whether a root holds an object under an interface.
+    pub fn root_holds(&self, root: u32, oid: &Text, face: &Name) -> bool
+        ensures { result ≡ holds_pair root oid.now face.now (side_at self.now).tables }
+    {
+        self.state.root_holds(root, oid, face)
+    }
+
     /// The thread at a place, from 0, among those whose top is a method, oldest first.
     pub fn ready(&self, nth: u32) -> Option<&Tid>
         ensures { option_map (λ tid. tid.now) result ≡ answers.ready_at (side_at self.now) nth }
@@ -117,6 +149,13 @@ impl Endpoint {
     {
         self.state.awaits_input()
     }
+}
+
+/// The number behind another one, where it can be told.
+fn next_number(made: u32) -> Option<u32>
+    ensures { IfSome result (λ number. number ≡ suc made) }
+{
+    made.checked_add(1)
 }
 
 fn is_none(cause: Option<Cause>) -> bool

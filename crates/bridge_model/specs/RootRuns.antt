@@ -125,7 +125,7 @@ without_entry r = moved r None
 abbrev pub with_loose : Plain → Run → Run
 with_loose x r = record r { loose = loosened x r.loose }
 
--- a variable gets another value, and its own is loose
+-- a variable gets another value, and the references of its own are loose
 abbrev pub puts : List ℕ → Plain → Run → Run
 puts name x r = record r { variables = put name x r.variables; loose = loosened (value_under name r.variables) r.loose }
 
@@ -140,12 +140,12 @@ puts_outs (both name ∷ args) (x ∷ xs) r = puts_outs args xs (puts name x r)
 abbrev pub adds : List ℕ → Plain → Run → Run
 adds name x r = record r { variables = with_variable name x r.variables }
 
--- a result without a name is loose
+-- the references of a result without a name are loose
 abbrev pub adds_result : Option (List ℕ) → Plain → Run → Run
 adds_result None x r = with_loose x r
 adds_result (Some name) x r = adds name x r
 
--- what is returned becomes variables; what an exception holds is loose
+-- what is returned becomes variables; the references in an exception are loose
 unfoldable pub takes_outcome : RootStatement → Outcome → Run → Run
 takes_outcome (root_call c) (answer (returned x outs)) r = puts_outs c.arguments outs (adds_result (option_map (λ f. f.name) c.to) x r)
 takes_outcome (root_query q) (answer (returned x outs)) r = adds q.to x r
@@ -202,7 +202,7 @@ abbrev pub same_text : Bool → List ℕ
 same_text true = codes "same"
 same_text false = codes "different"
 
--- a variable goes, and its value is loose; one that has no value goes all the same
+-- a variable goes, and its references are loose; one that has no value goes all the same
 abbrev pub drops : List ℕ → Run → Run
 drops name r = record r { variables = without name r.variables; loose = loosened (value_under name r.variables) r.loose }
 

@@ -124,7 +124,7 @@ object_send : IsSend (Object.the_field Value.the_row).row
 object_send = let a = value_row_send in search (crosses, sendable) depth 20
 
 store_send : IsSend (Store.the_row Value.the_row)
-store_send = let a = object_send in search (maps.crosses, crosses, sendable) depth 20
+store_send = let a = object_send in let b = indexes.the_send in search (maps.crosses, crosses, sendable) depth 20
 
 objects_send : IsSend Objects.the_row
 objects_send = let a = texts.the_send in let b = store_send in let c = environments.the_send in let d = stubs.the_send in search (crosses, sendable) depth 20

@@ -107,6 +107,13 @@ impl State {
         outcome_in(self.tables.set_root(root, Root::Idle))
     }
 
+    /// The outcome that a root has and did not take.
+    pub fn outcome(&self, root: u32) -> Option<&Outcome>
+        ensures { option_map (λ o. outcome_of o.now) result ≡ plain.outcome_in (state_of root self.now.side.tables.roots) }
+    {
+        lent_outcome(self.tables.root(root))
+    }
+
     /// Whether a root has an outcome that it did not take.
     fn is_answered(&self, root: u32) -> bool
         ensures { result ≡ is_outcome (plain.outcome_in (state_of root self.now.side.tables.roots)) }
@@ -121,6 +128,15 @@ fn is_answer(state: Option<&Root>) -> bool
     match state {
         Some(Root::Answered(_)) => true,
         Some(Root::Idle) | Some(Root::Calls) | Some(Root::Queries(_)) | None => false,
+    }
+}
+
+fn lent_outcome(state: Option<&Root>) -> Option<&Outcome>
+    ensures { option_map (λ o. outcome_of o.now) result ≡ plain.outcome_in (unwrap_or (option_map (λ r. root_of r.now) state.entry) idle) }
+{
+    match state {
+        Some(Root::Answered(outcome)) => Some(outcome),
+        Some(Root::Idle) | Some(Root::Calls) | Some(Root::Queries(_)) | None => None,
     }
 }
 

@@ -27,6 +27,7 @@ use Rattle.bridge_model.specs.References.{gains, gains_all, lets_go, loses, refs
 use Rattle.bridge_model.specs.Roots.{holds_each, holds_pair, answered_before, is_answered, bottom, begins_call, calls_unless, root_calls, gets_at_once, asks_peer, begins_query, queries_unless, root_queries, asks_unless, root_asks, root_makes, root_drops, root_takes}
 use Rattle.bridge_model.specs.Settings.{Setting, own_oid, root_tid, ref_of, is_own, is_told}
 use Rattle.bridge_model.specs.Sides.{Object, Tables, Side, stands, waits_call, waits_query, with_root, idle, answered, answer}
+use Rattle.bridge_typing.specs.Giving.{MayBeCalled}
 use Rattle.bridge_typing.proofs.Fine.{wrong}
 use Rattle.bridge_typing.proofs.FramesFit.{FramesFit}
 use Rattle.bridge_typing.proofs.Given.{IsGiven}
@@ -54,6 +55,23 @@ light_before : (tid oid face : List ℕ) (function : ℕ) (args : List Plain) �
 unfolding answered_before is_heavy
 light_before tid oid face function args none =
     begins_by (message_weight (request tid oid face function args)) (nat_lt 16777216 (message_weight (request tid oid face function args))) (is_deep (depth_in (plains args))) refl none
+
+-- and one that is not too deep
+shallow_by : (n : ℕ) (heavy deep : Bool) → nat_lt 64 n ≡ deep → (if heavy then Some TooLarge else (if deep then Some TooDeep else None)) ≡ None → n ≤ 64
+shallow_by n true deep is none = absurd (cc)
+shallow_by n false true is none = absurd (cc)
+shallow_by n false false is none = ltb-false 64 n is
+
+shallow_before : (tid oid face : List ℕ) (function : ℕ) (args : List Plain) → answered_before tid oid face function args ≡ None → depth_in (plains args) ≤ 64
+unfolding answered_before is_deep
+shallow_before tid oid face function args none =
+    shallow_by (depth_in (plains args)) (is_heavy (message_weight (request tid oid face function args))) (nat_lt 64 (depth_in (plains args))) refl none
+
+-- so one that fits may be said
+said_before : (g : Setting) (root : ℕ) (oid face : List ℕ) (function : ℕ) (args : List Plain) → MayBeCalled g root oid face function args
+    → answered_before (root_tid g root) oid face function args ≡ None → MayBeSaid g.registry (request (root_tid g root) oid face function args)
+said_before g root oid face function args may none =
+    (may.declared, may.called, may.thread, may.identity, record { fit = may.fit; deep = shallow_before (root_tid g root) oid face function args none })
 
 module _ (g : Setting) (given : IsGiven g) (most root : ℕ) where
   bottom_fits : (os : List Object) (f : Function) → FramesFit g os (Some f) (bottom root)
@@ -93,13 +111,14 @@ module _ (g : Setting) (given : IsGiven g) (most root : ℕ) where
 
   calls_by : (oid face : List ℕ) (function : ℕ) (args : List Plain) (why : Option RuntimeCause) (s : Side) (fit : SideFits g most s)
       → answered_before (root_tid g root) oid face function args ≡ why → wrong g fit.os (ref_of g oid face) ≡ 0
-      → MayBeSaid g.registry (request (root_tid g root) oid face function args) → total (wrong g fit.os) (refs_of_values args) ≡ 0
+      → MayBeCalled g root oid face function args → total (wrong g fit.os) (refs_of_values args) ≡ 0
       → SideFits g most (calls_unless g root oid face function args why s)
   calls_by oid face function args (Some why) s fit is fine may args_fine = answered_fits (caused why) s fit
   calls_by oid face function args None s fit is fine may args_fine =
-      call_fits (ref_of g oid face) oid face function args s fit refl fine may args_fine (light_before (root_tid g root) oid face function args is)
+      call_fits (ref_of g oid face) oid face function args s fit refl fine (said_before g root oid face function args may is) args_fine
+      (light_before (root_tid g root) oid face function args is)
 
-  pub root_calls_fits : (oid face : List ℕ) (function : ℕ) (args : List Plain) (s : Side) → MayBeSaid g.registry (request (root_tid g root) oid face function args)
+  pub root_calls_fits : (oid face : List ℕ) (function : ℕ) (args : List Plain) (s : Side) → MayBeCalled g root oid face function args
       → list_all (is_told g) (refs_of_values args) ≡ true → holds_pair root oid face s.tables ≡ true → holds_each root (refs_of_values args) s.tables ≡ true → SideFits g most s
       → SideFits g most (root_calls g root oid face function args s)
   unfolding root_calls holds_each

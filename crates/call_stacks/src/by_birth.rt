@@ -8,7 +8,7 @@ ghost use Rattle.call_stacks.specs.WaitingCalls.{is_waiting};
 
 use crate::stack;
 use crate::stack::{Entries, Stack};
-use crate::tops::{Top, top_of, top_with, turn};
+use crate::tops::{Top, top_of, turn};
 use birth_index::BirthIndex;
 use plan_types::Frame;
 use std::alloc::Global;
@@ -96,7 +96,7 @@ impl ByBirth {
         ensures kept { OnErr result (self.new ≡ self.old) }
     {
         let was = top_of(stack::top(&self.entries, birth));
-        let is = top_with(&frame);
+        let is = top_of(Some(&frame));
         stack::push(&mut self.entries, birth, frame)?;
         turn(&mut self.ready, &mut self.waiting, birth, was, is);
         Ok(())
@@ -134,7 +134,7 @@ impl ByBirth {
         ensures topped { self.new ≡ changed_at birth (topped (frame_of frame)) self.old }
     {
         let was = top_of(stack::top(&self.entries, birth));
-        let is = top_with(&frame);
+        let is = top_of(Some(&frame));
         let old = stack::set_top(&mut self.entries, birth, frame);
         turn(&mut self.ready, &mut self.waiting, birth, was, is);
         old

@@ -25,7 +25,7 @@ pub type Entries = BTreeMap<u64, Stack>;
 pub fn stack_with(alloc: Global, tid: &Tid, frame: Frame) -> Result<Stack, NoMemory>
     ensures { IfOk result (λ stack. stack_of stack ≡ begun tid.now (frame_of frame)) }
 {
-    let mut frames = VecDeque::new(alloc);
+    let mut frames = VecDeque::with_capacity(alloc, 1)?;
     frames.push_front(frame)?;
     let tid = tid.copy(alloc)?;
     Ok(Stack { tid, frames })

@@ -1,5 +1,5 @@
 //! What the stacks have on top: which can go on, and how many wait.
-ghost use Rattle.std.specs.Prelude.{◌≡◌, ◌+◌, ◌<◌, ◌≤◌, ◌^◌, length, slice_set, option_map, Some};
+ghost use Rattle.std.specs.Prelude.{◌≡◌, ◌+◌, ◌<◌, ◌≤◌, ◌^◌, length, slice_set, option_map};
 ghost use Rattle.plan_model.specs.Frames.{is_body};
 ghost use Rattle.plan_types.specs.Frames.{frame_of};
 ghost use Rattle.call_stacks.specs.Tops.{is_method, calls, calls_in};
@@ -26,18 +26,6 @@ pub fn top_of(frame: Option<&Frame>) -> Top
     match frame {
         Some(Frame::Body(_)) => Top::Method,
         Some(Frame::Out(_)) => Top::Call,
-        _ => Top::Other,
-    }
-}
-
-/// What a frame is as the top one.
-pub fn top_with(frame: &Frame) -> Top
-    ensures method { is_method result ≡ is_body (Some (frame_of frame.now)) }
-    ensures call { calls result ≡ calls_in (Some (frame_of frame.now)) }
-{
-    match frame {
-        Frame::Body(_) => Top::Method,
-        Frame::Out(_) => Top::Call,
         _ => Top::Other,
     }
 }

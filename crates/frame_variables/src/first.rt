@@ -29,7 +29,7 @@ pub fn first_variables(
     ensures { IfOk result (λ xs. variables_of xs.items ≡ first_variables registry.now (lent_function function.now).params (map plain_of args.items)) }
 {
     let mut given = Given::new(args);
-    let mut variables = Vec::new(alloc);
+    let mut variables = Vec::with_capacity(alloc, function.param_count())?;
     for place in 0..function.param_count() {
         push_first(
             alloc,

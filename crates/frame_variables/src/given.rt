@@ -8,21 +8,21 @@ use uno_values::Value;
 
 /// Values, and how many of them are taken.
 #[derive(Drop)]
-pub(crate) struct Given {
+pub struct Given {
     values: Vec<Value>,
     taken: usize,
 }
 
 impl Given {
     /// None of them is taken.
-    pub(crate) fn new(values: Vec<Value>) -> Given
+    pub fn new(values: Vec<Value>) -> Given
         ensures { left result ≡ map plain_of values.items }
     {
         Given { values, taken: 0 }
     }
 
     /// Takes the next one, where one is left.
-    pub(crate) fn next(&mut self) -> Option<Value>
+    pub fn next(&mut self) -> Option<Value>
         ensures first { option_map plain_of result ≡ slice_get (left self.old) 0 }
         ensures rest { left self.new ≡ drop 1 (left self.old) }
     {

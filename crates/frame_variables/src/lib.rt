@@ -9,5 +9,6 @@ mod variables;
 
 pub use answers::take_answer;
 pub use first::first_variables;
+pub use given::Given;
 pub use queries::{Found, sort_answer, take_reference};
 pub use variables::{add, put, take_out};

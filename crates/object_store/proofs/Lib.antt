@@ -1,3 +1,3 @@
 mod Keeping
 mod Living
-mod Searching
+mod Marking

@@ -17,7 +17,8 @@ use Rattle.table_model.proofs.RowLaws.{found_without}
 use Rattle.object_store.specs.Rows.{plain, object_rows}
 use Rattle.object_store.specs.declared.object.Object.{Object}
 
-both : (a b : Bool) → T a → T b → T (a && b)
+-- both tests are passed
+pub both : (a b : Bool) → T a → T b → T (a && b)
 both true b p q = q
 both false b p q = p
 
@@ -45,7 +46,8 @@ module _ {V : Type 0} where
   rows_rise m ordered = rising m.entries ordered
 
   module _ (m n : tree.BTreeMap ℕ (Object V)) (ordered : tree.IsOrdered nat_cmp m) (ordered_after : tree.IsOrdered nat_cmp n) (k : ℕ) where
-    found_after : (w : Option (Object V)) → tree.UpdatesBy nat_cmp (nat_cmp k) m n w → (q : ℕ) → find nat_cmp q (object_rows n.entries) ≡ cond (eq_by_cmp nat_cmp q k) (option_map plain w) (find nat_cmp q (object_rows m.entries))
+    -- what is found after an object is put in the map or taken out
+    pub found_after : (w : Option (Object V)) → tree.UpdatesBy nat_cmp (nat_cmp k) m n w → (q : ℕ) → find nat_cmp q (object_rows n.entries) ≡ cond (eq_by_cmp nat_cmp q k) (option_map plain w) (find nat_cmp q (object_rows m.entries))
     found_after w up q =
         found_rows q n.entries ∙ ap (option_map plain) (up.0 q) ∙ mapped (eq_by_cmp nat_cmp k q) w (lookup (tree.is_at (nat_cmp q)) m.entries)
         ∙ (λ i. cond ((eq_by_cmp_equiv nat_cmp_total).symm k q i) (option_map plain w) (sym (found_rows q m.entries) i))

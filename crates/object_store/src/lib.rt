@@ -1,7 +1,6 @@
 //! The objects of an endpoint: each living one by its number, with its fields, and which of them may go.
 #![tactic(auto)]
 
-mod marks;
 mod object;
 mod objects;
 mod store;

@@ -18,7 +18,6 @@ pub fn set_field<V>(objects: &mut BTreeMap<u32, Object<V>>, number: u32, place: 
     ensures was { (o : model.Object V) → find nat_cmp number (object_rows objects.old.entries) ≡ Some o → result ≡ get_or o.fields place result }
     ensures set { (o : model.Object V) → find nat_cmp number (object_rows objects.old.entries) ≡ Some o → object_rows objects.new.entries ≡ put nat_cmp number (record o { fields = set o.fields place value }) (object_rows objects.old.entries) }
     ensures ordered { IsOrdered nat_cmp objects.new }
-    ensures count { length objects.new.entries ≡ length objects.old.entries }
 {
     let Some(object) = objects.get_mut(&number) else {
         unreachable!()
@@ -32,7 +31,6 @@ pub fn set_may_go<V>(objects: &mut BTreeMap<u32, Object<V>>, number: u32, may_go
     requires ordered { IsOrdered nat_cmp objects.old }
     ensures set { (o : model.Object V) → find nat_cmp number (object_rows objects.old.entries) ≡ Some o → object_rows objects.new.entries ≡ put nat_cmp number (record o { may_go = may_go }) (object_rows objects.old.entries) }
     ensures ordered { IsOrdered nat_cmp objects.new }
-    ensures count { length objects.new.entries ≡ length objects.old.entries }
 {
     let Some(object) = objects.get_mut(&number) else {
         unreachable!()
@@ -51,7 +49,6 @@ pub fn replace_fields<V>(
     ensures was { (o : model.Object V) → find nat_cmp number (object_rows objects.old.entries) ≡ Some o → result.items ≡ o.fields }
     ensures set { (o : model.Object V) → find nat_cmp number (object_rows objects.old.entries) ≡ Some o → object_rows objects.new.entries ≡ put nat_cmp number (record o { fields = fields.items }) (object_rows objects.old.entries) }
     ensures ordered { IsOrdered nat_cmp objects.new }
-    ensures count { length objects.new.entries ≡ length objects.old.entries }
 {
     let Some(object) = objects.get_mut(&number) else {
         unreachable!()

@@ -7,7 +7,8 @@ ghost use Rattle.table_model.specs.Objects as model;
 ghost use Rattle.table_model.specs.Objects.{no_objects, object, made_one, unmade, changed, removed, lowest};
 
 use crate::object::Object;
-use crate::{marks, objects};
+use crate::objects;
+use birth_index::BirthIndex;
 use std::alloc::Global;
 use std::collections::BTreeMap;
 use std::marker::Model;
@@ -21,7 +22,7 @@ pub type ObjectStore = Store<Value>;
 #[derive(Drop)]
 pub struct Store<V> {
     objects: BTreeMap<u32, Object<V>>,
-    marks: Vec<u32>,
+    marks: BirthIndex,
     made: u32,
 }
 
@@ -43,7 +44,7 @@ impl<V: Drop> Store<V> {
     {
         Store {
             objects: BTreeMap::new(alloc),
-            marks: Vec::new(alloc),
+            marks: BirthIndex::new(alloc),
             made: 0,
         }
     }
@@ -57,8 +58,7 @@ impl<V: Drop> Store<V> {
         ensures kept { OnErr result (self.new ≡ self.old) }
     {
         let number = self.made + 1;
-        let room = (self.objects.len() + 1).saturating_sub(self.marks.len());
-        self.marks.reserve(room)?;
+        self.marks.make_room(u64::from(number))?;
         self.objects.insert(
             number,
             Object {
@@ -82,7 +82,7 @@ impl<V: Drop> Store<V> {
             return None;
         }
         let object = self.objects.remove(&self.made)?;
-        marks::unmark(&mut self.marks, self.made);
+        self.marks.clear(u64::from(self.made));
         self.made -= 1;
         Some(object.fields)
     }
@@ -122,11 +122,7 @@ impl<V: Drop> Store<V> {
         ensures { (o : model.Object V) → object number self.old ≡ Some o → self.new ≡ changed number (record o { may_go = may_go }) self.old }
     {
         objects::set_may_go(&mut self.objects, number, may_go);
-        if may_go {
-            marks::mark(&mut self.marks, number);
-        } else {
-            marks::unmark(&mut self.marks, number);
-        }
+        self.marks.turn(u64::from(number), may_go);
     }
 
     /// Takes out an object, and gives its fields.
@@ -138,7 +134,7 @@ impl<V: Drop> Store<V> {
         let Some(object) = self.objects.remove(&number) else {
             unreachable!()
         };
-        marks::unmark(&mut self.marks, number);
+        self.marks.clear(u64::from(number));
         object.fields
     }
 
@@ -147,7 +143,8 @@ impl<V: Drop> Store<V> {
         ensures lowest { result ≡ lowest self.now.rows }
         ensures rises { T (is_sorted nat_cmp self.now.rows) }
     {
-        marks::lowest(&self.marks)
+        let number = self.marks.first_from(0)?;
+        Some(number as u32)
     }
 
     /// How many objects were made.

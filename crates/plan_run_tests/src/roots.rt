@@ -13,5 +13,6 @@ fn a_root_begins_with_its_name_and_nothing_else(rt: HostRuntime) -> Result<(), N
     assert!(rt; root.variables.is_empty());
     assert!(rt; root.lines.is_empty());
     assert!(rt; root.loose.is_empty());
+    assert!(rt; root.letting.is_empty());
     Ok(())
 }

@@ -55,7 +55,7 @@ impl AnyValue {
 
 /// Equal values, in the same order.
 #[cycle(copy)]
-fn copy_all(values: &[Value], alloc: Global) -> Result<Vec<Value>, NoMemory>
+pub fn copy_all(values: &[Value], alloc: Global) -> Result<Vec<Value>, NoMemory>
     ensures { IfOk result (λ copies. map plain_of copies.items ≡ map plain_of values.now) }
 {
     let mut copies = Vec::new(alloc);

@@ -12,6 +12,7 @@ mod threads;
 mod value;
 mod weigh;
 
+pub use copy::copy_all;
 pub use default::default_of;
 pub use depth::depth_of;
 pub use fitting::fits;

@@ -30,10 +30,10 @@ pub fn print_value(alloc: Global, registry: &Registry, value: &Value) -> Result<
     Ok(text.into_bytes())
 }
 
-/// As deep as the value is nested.
+/// Puts the literal of a value behind a text.
 #[cycle(print)]
 #[tactic(auto, using(crate::proofs::PrintLemmas::spells_append), unfolding(literal_model::specs::Literals::tokens_of))]
-fn push_value(
+pub fn push_value(
     alloc: Global,
     text: &mut String,
     registry: &Registry,
@@ -64,10 +64,10 @@ fn push_value(
     }
 }
 
-/// The type in brackets, and behind it the value; void has none.
+/// Puts that of an any behind a text: the type in brackets, and behind it the value; void has none.
 #[cycle(print)]
 #[tactic(auto, using(crate::proofs::PrintLemmas::spells_append), unfolding(literal_model::specs::Literals::tokens_of))]
-fn push_any(
+pub fn push_any(
     alloc: Global,
     text: &mut String,
     registry: &Registry,

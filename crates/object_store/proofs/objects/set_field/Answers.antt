@@ -27,6 +27,3 @@ returns-clause-set g c = λ o is.
     let new = record c.in-Some.object.now { fields = with_item c.in-Some.object.now.fields c.args.place c.replace.new.dest } in
     rows_put c.args.objects.now (c.get_mut.follows.lender new) c.requires.ordered (c.get_mut.follows.holds new).4 c.args.number new ((c.get_mut.follows.holds new).3 (search rules))
     ∙ (λ i. put nat_cmp c.args.number (record (one i) { fields = set (one i).fields c.args.place (after i) }) (object_rows c.args.objects.now.entries))
-
-pub returns-clause-count : goal.returns-clause-count
-returns-clause-count g c = (c.get_mut.follows.holds (record c.in-Some.object.now { fields = with_item c.in-Some.object.now.fields c.args.place c.replace.new.dest })).2

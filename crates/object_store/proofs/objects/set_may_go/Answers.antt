@@ -14,6 +14,3 @@ returns-clause-set g c = λ o is.
     let one = is_one c.args.objects.now c.args.number c.in-Some.object.now o c.in-Some.ensures.value is in
     rows_put c.args.objects.now (c.get_mut.follows.lender set) c.requires.ordered (c.get_mut.follows.holds set).4 c.args.number set ((c.get_mut.follows.holds set).3 (search rules))
     ∙ (λ i. put nat_cmp c.args.number (record (one i) { may_go = c.args.may_go }) (object_rows c.args.objects.now.entries))
-
-pub returns-clause-count : goal.returns-clause-count
-returns-clause-count g c = (c.get_mut.follows.holds (record c.in-Some.object.now { may_go = c.args.may_go })).2

@@ -16,9 +16,9 @@ turn-requires-clause-counted c =
     let new = rows_of c.push.new.stacks.entries in
     let tops = c.self.inside in
     let was = c.top_of-was.result in
-    let is = c.top_with-is.result in
+    let is = c.top_of-is.result in
     let turns = turning rows new n was is (option_map (λ f. frame_of f.now) c.top.result) (Some (frame_of c.args.frame)) (turn_changed n (one_more (frame_of c.args.frame)) rows new c.in_ok-push.ensures.pushed)
-    c.top_of-was.ensures.call c.top.ensures c.top_with-is.ensures.method c.top_with-is.ensures.call
+    c.top_of-was.ensures.call c.top.ensures c.top_of-is.ensures.method c.top_of-is.ensures.call
     (top_pushed n (frame_of c.args.frame) rows new (subst (λ rows. IsSome (stack_at c.args.birth rows)) (sym c.self.view_is) c.requires) c.in_ok-push.ensures.pushed) in
     turn_counted rows new n was is turns tops.ready tops.waiting c.self.invariant
 
@@ -29,9 +29,9 @@ turn-requires-clause-fits c =
     let new = rows_of c.push.new.stacks.entries in
     let tops = c.self.inside in
     let was = c.top_of-was.result in
-    let is = c.top_with-is.result in
+    let is = c.top_of-is.result in
     let turns = turning rows new n was is (option_map (λ f. frame_of f.now) c.top.result) (Some (frame_of c.args.frame)) (turn_changed n (one_more (frame_of c.args.frame)) rows new c.in_ok-push.ensures.pushed)
-    c.top_of-was.ensures.call c.top.ensures c.top_with-is.ensures.method c.top_with-is.ensures.call
+    c.top_of-was.ensures.call c.top.ensures c.top_of-is.ensures.method c.top_of-is.ensures.call
     (top_pushed n (frame_of c.args.frame) rows new (subst (λ rows. IsSome (stack_at c.args.birth rows)) (sym c.self.view_is) c.requires) c.in_ok-push.ensures.pushed) in
     turn_fits rows new n was is turns tops.ready tops.waiting c.self.invariant (rises_changed n (one_more (frame_of c.args.frame)) (λ _. refl) rows new c.in_ok-push.ensures.pushed (2 ^ 64 - 1) c.self.invariant.rise)
 
@@ -42,9 +42,9 @@ invariant_of-self-2 c =
     let new = rows_of c.push.new.stacks.entries in
     let tops = c.self.inside in
     let was = c.top_of-was.result in
-    let is = c.top_with-is.result in
+    let is = c.top_of-is.result in
     let turns = turning rows new n was is (option_map (λ f. frame_of f.now) c.top.result) (Some (frame_of c.args.frame)) (turn_changed n (one_more (frame_of c.args.frame)) rows new c.in_ok-push.ensures.pushed)
-    c.top_of-was.ensures.call c.top.ensures c.top_with-is.ensures.method c.top_with-is.ensures.call
+    c.top_of-was.ensures.call c.top.ensures c.top_of-is.ensures.method c.top_of-is.ensures.call
     (top_pushed n (frame_of c.args.frame) rows new (subst (λ rows. IsSome (stack_at c.args.birth rows)) (sym c.self.view_is) c.requires) c.in_ok-push.ensures.pushed) in
     let within = birth_within n 0 (length tops.ready) rows c.self.invariant.room (subst (λ rows. IsSome (stack_at c.args.birth rows)) (sym c.self.view_is) c.requires) in
     let rises = rises_changed n (one_more (frame_of c.args.frame)) (λ _. refl) rows new c.in_ok-push.ensures.pushed in

@@ -1,11 +1,10 @@
-use Rattle.std.proofs.Common.{arith}
+use Rattle.std.proofs.Common.{refl}
 use Rattle.object_store.specs.Rows.{object_rows}
-use Rattle.object_store.proofs.Keeping.{kept_changed, same_mark, the_field, field_inside}
+use Rattle.object_store.proofs.Keeping.{kept_unturned, the_field, field_inside}
 use Rattle.object_store.proofs.store.Store.set_field.Goals as goal
 
 pub invariant_of-self : goal.invariant_of-self
 invariant_of-self g c =
     let rows = object_rows c.self.inside.objects.entries in
     let one = the_field _ c.args.place (field_inside c.self.inside.made rows rows c.args.self.now c.self.view_is c.args.number c.args.place c.requires) in
-    kept_changed c.self.inside.objects c.set_field.new.objects c.self.inside.marks c.self.inside.made c.self.invariant c.self.inside.marks (omega arith) c.set_field.ensures.ordered c.args.number one.0 _ one.1 c.set_field.ensures.count (c.set_field.ensures.set one.0 one.1)
-    (same_mark c.self.inside.objects c.self.inside.objects c.self.inside.marks c.self.inside.made c.self.invariant c.args.number one.0 one.1)
+    kept_unturned c.self.inside.objects c.set_field.new.objects c.self.inside.marks c.self.inside.made c.self.invariant c.args.number _ c.set_field.ensures.ordered one.0 one.1 refl (c.set_field.ensures.set one.0 one.1)

@@ -1,31 +1,19 @@
-use Rattle.std.proofs.Common.{◌∙◌, ap, arith, sym}
-use Rattle.table_model.specs.Marks.{set_mark}
+use Rattle.std.proofs.Common.{Some, set, ◌∙◌, ap, arith}
 use Rattle.object_store.specs.Rows.{object_rows}
-use Rattle.object_store.proofs.Keeping.{climbing, kept_changed, room_to_mark, the_one, length_rows, lives_inside}
+use Rattle.object_store.proofs.Keeping.{kept_turned, found_put, the_one, lives_inside}
 use Rattle.object_store.proofs.store.Store.set_may_go.Goals as goal
 
-pub mark-requires-clause-climbs : goal.mark-requires-clause-climbs
-mark-requires-clause-climbs g c = climbing c.self.inside.objects c.self.inside.objects c.self.inside.marks c.self.inside.made c.self.invariant
-
-pub unmark-requires : goal.unmark-requires
-unmark-requires g c = climbing c.self.inside.objects c.self.inside.objects c.self.inside.marks c.self.inside.made c.self.invariant
-
-pub mark-requires-clause-room : goal.mark-requires-clause-room
-mark-requires-clause-room g c =
+pub turn-requires : goal.turn-requires
+turn-requires g c =
     let rows = object_rows c.self.inside.objects.entries in
     let one = the_one _ (lives_inside c.self.inside.made rows rows c.args.self.now c.self.view_is c.args.number c.requires) in
-    room_to_mark c.self.inside.objects c.set_may_go.new.objects c.self.inside.marks c.self.inside.made c.self.invariant c.self.inside.marks (omega arith) c.set_may_go.ensures.ordered c.args.number _ c.if-may_go.true c.set_may_go.ensures.count (length_rows c.set_may_go.new.objects.entries) (c.set_may_go.ensures.set one.0 one.1)
+    let room = c.self.invariant.room c.args.number one.0 one.1 in
+    omega (arith, room, c.from.ensures)
 
 pub invariant_of-self : goal.invariant_of-self
 invariant_of-self g c =
     let rows = object_rows c.self.inside.objects.entries in
     let one = the_one _ (lives_inside c.self.inside.made rows rows c.args.self.now c.self.view_is c.args.number c.requires) in
-    kept_changed c.self.inside.objects c.set_may_go.new.objects c.self.inside.marks c.self.inside.made c.self.invariant c.mark.new.marks c.mark.ensures.capacity c.set_may_go.ensures.ordered c.args.number one.0 _ one.1 c.set_may_go.ensures.count (c.set_may_go.ensures.set one.0 one.1)
-    (c.mark.ensures.marked ∙ ap (λ b. set_mark c.args.number b c.self.inside.marks.items) (sym c.if-may_go.true))
-
-pub invariant_of-self-else-may_go : goal.invariant_of-self-else-may_go
-invariant_of-self-else-may_go g c =
-    let rows = object_rows c.self.inside.objects.entries in
-    let one = the_one _ (lives_inside c.self.inside.made rows rows c.args.self.now c.self.view_is c.args.number c.requires) in
-    kept_changed c.self.inside.objects c.set_may_go.new.objects c.self.inside.marks c.self.inside.made c.self.invariant c.unmark.new.marks c.unmark.ensures.capacity c.set_may_go.ensures.ordered c.args.number one.0 _ one.1 c.set_may_go.ensures.count (c.set_may_go.ensures.set one.0 one.1)
-    (c.unmark.ensures.unmarked ∙ ap (λ b. set_mark c.args.number b c.self.inside.marks.items) (sym c.if-may_go.false))
+    kept_turned c.self.inside.objects c.set_may_go.new.objects c.self.inside.marks c.self.inside.made c.self.invariant c.args.number (Some (record one.0 { may_go = c.args.may_go })) c.set_may_go.ensures.ordered one.0 one.1
+    (found_put c.args.number _ rows (object_rows c.set_may_go.new.objects.entries) (c.set_may_go.ensures.set one.0 one.1)) c.turn.new.self
+    (c.turn.ensures ∙ ap (λ k. set c.self.inside.marks k c.args.may_go) c.from.ensures)
