@@ -1,0 +1,4 @@
+mod LooseLemmas
+mod NamingLemmas
+mod OutsLemmas
+mod TextLemmas

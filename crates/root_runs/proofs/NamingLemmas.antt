@@ -1,0 +1,72 @@
+-- Whether names are there, variable by variable and name by name.
+use Rattle.std.proofs.Common.{◌≡◌, ℕ, ◌+◌, ◌<◌, ◌≤◌, Bool, true, false, ◌&&◌, List, [], ◌∷◌, ◌++◌, length, map, drop, get_or, refl, sym, ap, ◌∙◌}
+use Rattle.std.specs.List.{flat_map, list_all}
+use Rattle.std.specs.Str.{bytes_eq}
+use Rattle.std.proofs.lemmas.List.{drop_all}
+use Rattle.std.proofs.lemmas.List.Folds.{list_all-append}
+use Rattle.bridge_model.specs.RootRuns.{argument_names, is_there, names_in, names_in_all}
+use Rattle.plan_model.specs.Expressions as plain
+use Rattle.plan_types.specs.Expressions.{argument_of, expression_of, expressions_of}
+use Rattle.plan_types.specs.Frames.{variables_of}
+use Rattle.plan_types.specs.declared.expression.Argument.{Argument}
+use Rattle.plan_types.specs.declared.expression.Expression.{Expression}
+use Rattle.plan_types.specs.declared.frame.Variable.{Variable}
+use Rattle.uno_values.proofs.Parts.{part_at}
+
+-- ---- one name
+
+-- the variable at a place has another name
+pub there_behind : (name : List ℕ) (xs : List Variable) (i : ℕ) (x : Variable) (whole : Bool) → i < length xs → x ≡ get_or xs i x → bytes_eq name x.name ≡ false
+    → is_there (variables_of (drop i xs)) name ≡ whole → is_there (variables_of (drop (i + 1) xs)) name ≡ whole
+there_behind name xs i x whole within is other all = rw other at (rw (part_at xs i x within is) at all)
+
+-- it has the name
+pub there_here : (name : List ℕ) (xs : List Variable) (i : ℕ) (x : Variable) (whole : Bool) → i < length xs → x ≡ get_or xs i x → bytes_eq name x.name ≡ true
+    → is_there (variables_of (drop i xs)) name ≡ whole → true ≡ whole
+there_here name xs i x whole within is same all = rw same at (rw (part_at xs i x within is) at all)
+
+-- none has it
+pub there_nowhere : (name : List ℕ) (xs : List Variable) (i : ℕ) (whole : Bool) → length xs ≤ i → is_there (variables_of (drop i xs)) name ≡ whole → false ≡ whole
+there_nowhere name xs i whole past all = rw (drop_all i xs past) at all
+
+-- ---- the names of arguments and of expressions, one after the other
+
+-- of two lists of names: the first does not pass, or it passes
+pub stops : {A : Type 0} (p : A → Bool) (xs ys : List A) → list_all p xs ≡ false → list_all p (xs ++ ys) ≡ false
+stops p xs ys none = list_all-append p xs ys ∙ ap (λ b. b && list_all p ys) none
+
+pub goes_by : {A : Type 0} (p : A → Bool) (xs ys : List A) → list_all p xs ≡ true → list_all p (xs ++ ys) ≡ list_all p ys
+goes_by p xs ys all = list_all-append p xs ys ∙ ap (λ b. b && list_all p ys) all
+
+pub argument_here : (p : List ℕ → Bool) (gs : List Argument) (i : ℕ) (g : Argument) (whole : Bool) → i < length gs → g ≡ get_or gs i g → list_all p (argument_names (argument_of g)) ≡ false
+    → list_all p (flat_map argument_names (map argument_of (drop i gs))) ≡ whole → false ≡ whole
+argument_here p gs i g whole within is none all =
+    let here = rw (part_at gs i g within is) at all in
+    sym (stops p (argument_names (argument_of g)) (flat_map argument_names (map argument_of (drop (i + 1) gs))) none) ∙ here
+
+pub argument_behind : (p : List ℕ → Bool) (gs : List Argument) (i : ℕ) (g : Argument) (whole : Bool) → i < length gs → g ≡ get_or gs i g → list_all p (argument_names (argument_of g)) ≡ true
+    → list_all p (flat_map argument_names (map argument_of (drop i gs))) ≡ whole → list_all p (flat_map argument_names (map argument_of (drop (i + 1) gs))) ≡ whole
+argument_behind p gs i g whole within is there all =
+    let here = rw (part_at gs i g within is) at all in
+    sym (goes_by p (argument_names (argument_of g)) (flat_map argument_names (map argument_of (drop (i + 1) gs))) there) ∙ here
+
+pub arguments_past : (p : List ℕ → Bool) (gs : List Argument) (i : ℕ) (whole : Bool) → length gs ≤ i → list_all p (flat_map argument_names (map argument_of (drop i gs))) ≡ whole → true ≡ whole
+arguments_past p gs i whole past all = rw (drop_all i gs past) at all
+
+pub expression_here : (p : List ℕ → Bool) (es : List Expression) (i : ℕ) (e : Expression) (whole : Bool) → i < length es → e ≡ get_or es i e → list_all p (names_in (expression_of e)) ≡ false
+    → list_all p (names_in_all (expressions_of (drop i es))) ≡ whole → false ≡ whole
+unfolding names_in_all
+expression_here p es i e whole within is none all =
+    let here = rw (part_at es i e within is) at all in
+    sym (stops p (names_in (expression_of e)) (names_in_all (expressions_of (drop (i + 1) es))) none) ∙ here
+
+pub expression_behind : (p : List ℕ → Bool) (es : List Expression) (i : ℕ) (e : Expression) (whole : Bool) → i < length es → e ≡ get_or es i e → list_all p (names_in (expression_of e)) ≡ true
+    → list_all p (names_in_all (expressions_of (drop i es))) ≡ whole → list_all p (names_in_all (expressions_of (drop (i + 1) es))) ≡ whole
+unfolding names_in_all
+expression_behind p es i e whole within is there all =
+    let here = rw (part_at es i e within is) at all in
+    sym (goes_by p (names_in (expression_of e)) (names_in_all (expressions_of (drop (i + 1) es))) there) ∙ here
+
+pub expressions_past : (p : List ℕ → Bool) (es : List Expression) (i : ℕ) (whole : Bool) → length es ≤ i → list_all p (names_in_all (expressions_of (drop i es))) ≡ whole → true ≡ whole
+unfolding names_in_all
+expressions_past p es i whole past all = rw (drop_all i es past) at all
