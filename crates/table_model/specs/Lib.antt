@@ -4,5 +4,4 @@ pub mod Stubs
 pub mod Bags
 pub mod Holdings
 pub mod Proxies
-pub mod Marks
 pub mod Objects

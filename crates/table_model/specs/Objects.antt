@@ -38,11 +38,6 @@ unmade objects = record { made = objects.made - 1; rows = without nat_cmp object
 abbrev pub removed : {V : Type 0} → ℕ → Objects V → Objects V
 removed n objects = record { made = objects.made; rows = without nat_cmp n objects.rows }
 
--- the numbers of the marked objects
-abbrev pub marked : {V : Type 0} → List (ℕ × Object V) → List ℕ
-marked [] = []
-marked (row ∷ rows) = cond row.1.may_go (row.0 ∷ marked rows) (marked rows)
-
 -- the lowest marked object
 abbrev pub lowest : {V : Type 0} → List (ℕ × Object V) → Option ℕ
 lowest [] = None

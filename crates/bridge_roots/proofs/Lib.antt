@@ -1,0 +1,10 @@
+pub mod AnyLemmas
+pub mod AskLemmas
+pub mod BegunLemmas
+pub mod EndLemmas
+pub mod GivingLemmas
+pub mod MadeLemmas
+pub mod MoveLemmas
+pub mod StandLemmas
+pub mod StateLemmas
+pub mod TakeLemmas

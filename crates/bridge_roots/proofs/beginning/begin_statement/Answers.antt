@@ -1,0 +1,25 @@
+use Rattle.std.proofs.Common.{refl, sym, ap, ◌∙◌, Some, codes}
+use Rattle.bridge_model.specs.RootRuns.{null_target, over_with}
+use Rattle.plan_types.specs.Statements.{root_statement_of}
+use Rattle.behaviour.specs.Roots.{run_of}
+use Rattle.bridge_endpoint.specs.Journals.{setting_at, side_at}
+use Rattle.bridge_roots.specs.Asking.{asks}
+use Rattle.bridge_roots.proofs.AskLemmas.{asks_so}
+use Rattle.bridge_roots.proofs.MoveLemmas.{by_line}
+use Rattle.bridge_roots.proofs.beginning.begin_statement.Goals as goal
+
+pub returns-in-Some-2 : goal.returns-in-Some-2
+returns-in-Some-2 c = λ s at.
+    let e = c.args.end.now in
+    let r = run_of c.args.run.now in
+    asks_so e c.ask.new.end r (run_of c.ask.new.run) (root_statement_of c.in-Some.statement.now) s (asks (side_at e) r (Some c.in-Some-2.asked)) c.ask.result c.in-Some.ensures
+    (c.in_ok-asked-in-Ask.ensures (setting_at e) (side_at e) (sym c.registry-in-Ask.ensures.same) ∙ ap (asks (side_at e) r) c.in-Some-2.is) c.ask.ensures at
+
+pub returns-in-None : goal.returns-in-None
+returns-in-None c = λ s at.
+    let e = c.args.end.now in
+    let r = run_of c.args.run.now in
+    let after = run_of c.says-in-None.new.run in
+    asks_so e e r after (root_statement_of c.in-Some.statement.now) s (null_target r) c.says-in-None.result c.in-Some.ensures
+    (c.in_ok-asked-in-Ask.ensures (setting_at e) (side_at e) (sym c.registry-in-Ask.ensures.same) ∙ ap (asks (side_at e) r) c.in-None.is)
+    (by_line (null_target r) e r after (over_with (codes "null") r) c.says-in-None.result refl c.says-in-None.ensures.said c.says-in-None.ensures.kept) at

@@ -1,0 +1,7 @@
+pub mod Asking
+pub mod Beginning
+pub mod Giving
+pub mod Letting
+pub mod Making
+pub mod Moving
+pub mod Taking
