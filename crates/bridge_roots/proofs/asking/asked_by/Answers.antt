@@ -15,5 +15,5 @@ pub returns-in-Call : goal.returns-in-Call
 returns-in-Call c = λ g s same.
     calls_so g s (run_of c.args.run.now) (call_of c.in-Call.call) (root_statement_of c.args.statement.now) c.asks_call.result (ap root_statement_of c.in-Call.is)
     (subst (λ reg. IfOk c.asks_call.result (λ a. calls_on reg s (run_of c.args.run.now) (call_of c.in-Call.call)
-        (object_of (value_of_word (root_scene (variables_of c.args.run.now.variables.items)) (word_of c.in-Call.call.target))) ≡ asks s (run_of c.args.run.now) a))
+    (object_of (value_of_word (root_scene (variables_of c.args.run.now.variables.items)) (word_of c.in-Call.call.target))) ≡ asks s (run_of c.args.run.now) a))
     (sym same) (c.asks_call.ensures s))

@@ -11,9 +11,12 @@ use Rattle.bridge_roots.proofs.TakeLemmas.{finished_where, none_there, taken_doe
 use Rattle.bridge_roots.proofs.taking.take_outcome.Goals as goal
 
 pub returns-then-is_none : goal.returns-then-is_none
-returns-then-is_none c =
-    (finished_where (setting_at c.args.end.now) (side_at c.args.end.now) (run_of c.args.run.now) c.requires
-    (none_there (λ s. root_statement_of s.now) c.statement_at.result (statement_at (setting_at c.args.end.now) (run_of c.args.run.now)) c.statement_at.ensures c.if-is_none.ensures), refl, refl)
+returns-then-is_none c = (
+  finished_where (setting_at c.args.end.now) (side_at c.args.end.now) (run_of c.args.run.now) c.requires
+      (none_there (λ s. root_statement_of s.now) c.statement_at.result (statement_at (setting_at c.args.end.now) (run_of c.args.run.now)) c.statement_at.ensures c.if-is_none.ensures),
+  refl,
+  refl,
+)
 
 pub returns : goal.returns
 returns c =

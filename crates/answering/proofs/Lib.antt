@@ -1,0 +1,11 @@
+pub mod ClosingLaws
+pub mod EndLaws
+pub mod FeedLaws
+pub mod FirstLaws
+pub mod JobLaws
+pub mod PieceLaws
+pub mod RootLaws
+pub mod RowLaws
+pub mod ServingLaws
+pub mod StoppedLaws
+pub mod TurnLaws
