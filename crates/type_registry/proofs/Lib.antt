@@ -1,3 +1,4 @@
+pub mod InLineLemmas
 pub mod MetLemmas
 pub mod SeekLemmas
 pub mod TaskLemmas

@@ -1,11 +1,11 @@
 -- A number among the functions of several, one after the other.
-use Rattle.std.proofs.Common.{◌≡◌, ℕ, zero, suc, ◌+◌, ◌-◌, ◌<◌, ◌≤◌, List, [], ◌∷◌, ◌++◌, length, map, take, get_or, Option, None, Some, refl, sym, ap, subst, ◌∙◌, arith}
-use Rattle.std.specs.Prelude.{slice_get, option_map}
+use Rattle.std.proofs.Common.{◌≡◌, ℕ, zero, suc, ◌+◌, ◌<◌, ◌≤◌, List, [], ◌∷◌, ◌++◌, length, map, take, get_or, None, Some, refl, sym, ap, ◌∙◌, arith}
+use Rattle.std.specs.Prelude.{slice_get}
 use Rattle.std.specs.List.{flat_map}
 use Rattle.std.proofs.lemmas.List.{length-append, map-append, take_all, get_or_default}
 use Rattle.std.proofs.lemmas.Option.{slice_get_past}
-use Rattle.uno_model.specs.Entities.{Entity, Param}
-use Rattle.uno_model.specs.Functions.{Function, declared_by, declared_in}
+use Rattle.uno_model.specs.Entities.{Entity}
+use Rattle.uno_model.specs.Functions.{declared_by, declared_in}
 use Rattle.uno_model.specs.Registry.{find_entity}
 use Rattle.uno_model.proofs.ReachLaws.{found_place}
 

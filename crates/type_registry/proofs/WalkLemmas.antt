@@ -1,11 +1,10 @@
 -- What a walk in the frames of the stack finds, task by task.
 use Rattle.std.proofs.Common.{◌≡◌, ℕ, suc, ◌+◌, List, [], ◌∷◌, ◌++◌, length, false, Option, None, Some, refl, sym, ap, subst, ◌∙◌, arith, append_assoc, append-nil}
 use Rattle.std.specs.Prelude.{Result, IfOk, option_map, slice_get}
-use Rattle.std.specs.List.{flat_map}
 use Rattle.std.proofs.lemmas.List.{length-append}
 use Rattle.std.proofs.lemmas.List.Concat.{flat_map-append}
 use Rattle.uno_model.specs.Entities.{Entity}
-use Rattle.uno_model.specs.Functions.{Function, declared_by, functions_of, is_met, met_within, interfaces_of}
+use Rattle.uno_model.specs.Functions.{Function, declared_by, functions_of, is_met, met_within}
 use Rattle.uno_model.specs.Registry.{find_entity, stands_on}
 use Rattle.type_registry.specs.Frames.{Walked}
 use Rattle.type_registry.specs.Functions.{lent_function}

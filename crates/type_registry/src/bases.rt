@@ -24,7 +24,8 @@ pub(crate) fn bases_of<'a>(registry: &'a Registry, name: &str) -> Bases<'a>
     }
 }
 
-fn bases_in(entity: &Entity) -> Bases<'_>
+/// The names on which an entity stands.
+pub(crate) fn bases_in(entity: &Entity) -> Bases<'_>
     ensures { names_left result ≡ stands_on_body (Some (entity_of entity.now)) }
 {
     match &entity.body {

@@ -4,6 +4,7 @@
 mod bases;
 mod frames;
 mod function;
+mod in_line;
 mod met;
 mod numbered;
 mod own;

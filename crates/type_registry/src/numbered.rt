@@ -1,17 +1,22 @@
 //! One function of an interface, looked up without memory of its own.
-ghost use Rattle.std.specs.Prelude.{◌≡◌, ◌++◌, ◌∷◌, [], option_map, slice_get, None, Ok, IfOk, IsOk};
-ghost use Rattle.uno_model.specs.Functions.{functions_of};
+ghost use Rattle.std.specs.Prelude.{◌≡◌, ◌++◌, ◌∷◌, [], ℕ, List, option_map, slice_get, None, Ok, IfOk, IsOk};
+ghost use Rattle.uno_model.specs.Functions.{Function, functions_of};
 ghost use Rattle.type_registry.specs.Bases.{names_left};
 ghost use Rattle.type_registry.specs.Frames.{names_in, tasks_in, Walked};
 ghost use Rattle.type_registry.specs.Functions.{lent_function};
+ghost use Rattle.type_registry.specs.Own.{Seeks};
 ghost use Rattle.type_registry.specs.Tasks.{visit, leave, visits, doing_of};
 
 use crate::FunctionRef;
 use crate::bases::{Bases, bases_of, last_of};
 use crate::frames::{Names, Todo, has};
+use crate::in_line::seek_in_line;
 use crate::own::{Sought, seek_named, seek_owners};
 use crate::walk::{Task, interfaces_of};
 use uno_types::Registry;
+
+/// How many levels of bases a look-up goes down in a line, before it walks over them.
+const MOST_IN_LINE: usize = 16;
 
 /// How many tasks a look-up does in the frames of the stack, before it asks for memory.
 const MOST_STEPS: u32 = 256;
@@ -29,6 +34,10 @@ pub fn function_numbered<'a>(
 ) -> Option<FunctionRef<'a>>
     ensures { option_map lent_function result ≡ slice_get (functions_of registry.now name.now) number }
 {
+    let levels = registry.entities().len().min(MOST_IN_LINE);
+    if let Some(sought) = seek_in_line(registry, name, levels, number as usize) {
+        return found(sought);
+    }
     if let Ok(found) = numbered_within(registry, name, number as usize, Some(MOST_STEPS)) {
         return found;
     }
@@ -38,6 +47,15 @@ pub fn function_numbered<'a>(
     match numbered_within(registry, name, number as usize, None) {
         Ok(found) => found,
         Err(_) => None,
+    }
+}
+
+fn found(sought: Sought<'_>) -> Option<FunctionRef<'_>>
+    ensures { (fs : List Function) (number : ℕ) → Seeks fs number sought.entry → option_map lent_function result ≡ slice_get fs number }
+{
+    match sought {
+        Sought::Found(function) => Some(function),
+        Sought::Past(_) => None,
     }
 }
 

@@ -83,7 +83,7 @@ fn seek_members<'a>(
 }
 
 /// The function at a number among those that an entity declares itself.
-fn seek_declared(entity: &Entity, number: usize) -> Sought<'_>
+pub(crate) fn seek_declared(entity: &Entity, number: usize) -> Sought<'_>
     ensures { Seeks (declared_in entity.now.name (body_of entity.now.body)) number result }
 {
     let Body::Interface { bases: _, members } = &entity.body else {

@@ -1,4 +1,4 @@
-use Rattle.std.proofs.Common.{◌+◌, [], ◌∷◌, ◌++◌, sym, ap, ◌∙◌, refl, arith}
+use Rattle.std.proofs.Common.{sym, ap, ◌∙◌, arith}
 use Rattle.type_registry.specs.Bases.{names_left}
 use Rattle.type_registry.specs.Frames.{tasks_in}
 use Rattle.type_registry.specs.Tasks.{visit, leave, doing_of, cost, costs, cost_within, sum_with}

@@ -1,0 +1,33 @@
+//! One function of an interface whose bases lie in a line: where none has two bases, none can be met twice.
+ghost use Rattle.std.specs.Prelude.{IfSome};
+ghost use Rattle.type_registry.specs.Own.{SeeksOver};
+
+use crate::bases::{bases_in, last_of};
+use crate::own::{Sought, seek_declared};
+use uno_types::Registry;
+
+/// The function of an interface at a number, or how far the number lies past them. There is no answer where an interface has two bases that are not optional,
+/// and where the line has more levels than these.
+pub(crate) fn seek_in_line<'a>(
+    registry: &'a Registry,
+    name: &str,
+    levels: usize,
+    number: usize,
+) -> Option<Sought<'a>>
+    ensures { IfSome result (λ sought. SeeksOver registry.now name.now levels number sought) }
+{
+    let less = levels.checked_sub(1)?;
+    let Some(entity) = registry.find(name) else {
+        return Some(Sought::Past(number));
+    };
+    let Some((base, others)) = last_of(bases_in(entity)) else {
+        return Some(seek_declared(entity, number));
+    };
+    let None = last_of(others) else {
+        return None;
+    };
+    match seek_in_line(registry, base, less, number)? {
+        Sought::Found(function) => Some(Sought::Found(function)),
+        Sought::Past(left) => Some(seek_declared(entity, left)),
+    }
+}
