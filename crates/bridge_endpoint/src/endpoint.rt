@@ -122,6 +122,11 @@ impl Endpoint {
         run_out(&mut self.state, &mut self.journal);
     }
 
+    /// Lets the end go, with all that it has. An end may go out of scope as well; but each crate in which one does proves that once more, which takes long.
+    pub fn close(self) {
+        drop(self);
+    }
+
     /// Sets the number with which the entries to come are marked.
     pub fn stamp(&mut self, next: u64)
         ensures { self.new ≡ stamped next self.old }

@@ -1,5 +1,5 @@
 -- Statements that ask something, and moves of a root that is idle.
-use Rattle.std.proofs.Common.{arith, ◌≡◌, refl, sym, ap, subst, ◌∙◌, ◌++◌, ◌==◌, ℕ, Bool, true, false, List, [], ◌∷◌, length, map, Option, None, Some, IfOk, Result, Ok, Err, is_err}
+use Rattle.std.proofs.Common.{arith, ◌≡◌, refl, sym, ap, subst, ◌∙◌, ◌++◌, ◌==◌, Bool, true, false, List, [], ◌∷◌, length, map, Option, None, Some, IfOk, Result, Ok, Err, is_err}
 use Rattle.std.proofs.lemmas.Bool.{eqb-true, false≢true, true≢false}
 use Rattle.std.specs.Option.{is_some}
 use Rattle.uno_model.specs.Values.{Ref}
@@ -9,7 +9,7 @@ use Rattle.plan_model.specs.Calling.{object_of}
 use Rattle.plan_model.specs.Evaluation.{value_of_word}
 use Rattle.plan_model.specs.Roots.{Run, next_loose}
 use Rattle.plan_model.specs.Statements.{RootStatement, Call, root_call}
-use Rattle.bridge_model.specs.RootRuns.{Moved, begins_statement, calls_on, idle_moves, lets_loose, next_statement, null_target, root_moves, scene_of, state_moves, statement_at, waiting}
+use Rattle.bridge_model.specs.RootRuns.{Moved, begins_statement, calls_on, idle_moves, lets_loose, next_statement, root_moves, scene_of, state_moves, statement_at, waiting}
 use Rattle.bridge_model.specs.Settings.{Setting}
 use Rattle.bridge_model.specs.Sides.{RootState, Side, idle, waits_call, waits_query, answered, state_of, stands_by}
 use Rattle.bridge_model.specs.declared.cause.Cause.{Cause}

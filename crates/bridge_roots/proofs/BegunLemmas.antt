@@ -1,5 +1,5 @@
 -- What becomes of a statement that asked something, by what was answered.
-use Rattle.std.proofs.Common.{◌≡◌, ◌≢◌, refl, sym, ap, ◌∙◌, subst, Bool, true, false, inl, inr, Option, None, Some, Result, Ok, Err, is_ok, codes, not, if◌then◌else◌}
+use Rattle.std.proofs.Common.{◌≡◌, ◌≢◌, refl, sym, ◌∙◌, Bool, true, false, inl, inr, Option, None, Some, Result, Ok, Err, is_ok, codes, not, if◌then◌else◌}
 use Rattle.std.proofs.lemmas.Bool.{true≢false, false≢true}
 use Rattle.plan_model.specs.Roots.{Run}
 use Rattle.bridge_model.specs.Answers as answers
@@ -11,12 +11,12 @@ use Rattle.bridge_model.specs.Sides.{Side, Outcome, stands, stands_by}
 use Rattle.bridge_model.specs.Steps.{has_entries, may}
 use Rattle.bridge_model.specs.declared.cause.Cause.{Cause}
 use Rattle.bridge_endpoint.specs.Answering.{begun_told}
-use Rattle.bridge_endpoint.specs.Entering.{begun_by, out_of_memory}
+use Rattle.bridge_endpoint.specs.Entering.{begun_by}
 use Rattle.bridge_endpoint.specs.Journals.{Endpoint, setting_at, side_at, with_entry}
 use Rattle.bridge_endpoint.specs.declared.answers.Begun.{Begun}
 use Rattle.bridge_endpoint.specs.declared.answers.Begun.TheVariants as variant
 use Rattle.bridge_roots.specs.Beginning.{began_run, has_begun}
-use Rattle.bridge_roots.specs.Moving.{Does, DoesOr, IsLeft}
+use Rattle.bridge_roots.specs.Moving.{Does, DoesOr}
 use Rattle.bridge_roots.proofs.MoveLemmas.{entered}
 
 -- where the bridge stands, its end is not answered

@@ -1,13 +1,12 @@
 -- Statements at a bridge that has ended, and those that end it.
-use Rattle.std.proofs.Common.{◌≡◌, refl, sym, ap, ◌∙◌, Bool, true, false, Option, None, Some, codes, if◌then◌else◌}
+use Rattle.std.proofs.Common.{◌≡◌, refl, sym, ap, Bool, true, false, None, codes}
 use Rattle.plan_model.specs.Roots.{Run}
 use Rattle.bridge_model.specs.Entries.{Entry, disposed}
 use Rattle.bridge_model.specs.RootRuns.{begins, disposes, goes_over, moved, over_with, without_entry}
-use Rattle.bridge_model.specs.Sides.{Side, stands, stands_by}
-use Rattle.bridge_model.specs.declared.cause.Cause.{Cause}
+use Rattle.bridge_model.specs.Sides.{Side, stands}
 use Rattle.bridge_endpoint.specs.Journals.{Endpoint, side_at, with_entry}
 use Rattle.bridge_roots.specs.Moving.{Does}
-use Rattle.bridge_roots.proofs.MoveLemmas.{entered, silent}
+use Rattle.bridge_roots.proofs.MoveLemmas.{entered}
 
 pub begins_gone : (s : Side) (r : Run) (x : Entry) → stands s ≡ false → begins s r x ≡ without_entry (over_with (codes "gone") r)
 begins_gone s r x stood = rw (stood) refl

@@ -1,5 +1,5 @@
 -- What becomes of a statement that makes an object, by what was answered.
-use Rattle.std.proofs.Common.{◌≡◌, ◌≢◌, refl, sym, ap, ◌∙◌, ◌++◌, suc, Bool, true, false, inl, inr, Option, None, Some, List, ℕ, Result, Ok, Err, is_ok, codes, not, if◌then◌else◌}
+use Rattle.std.proofs.Common.{◌≡◌, ◌≢◌, refl, sym, ap, ◌∙◌, ◌++◌, suc, true, false, inl, inr, Some, List, ℕ, Result, Ok, Err, is_ok, codes, if◌then◌else◌}
 use Rattle.std.proofs.lemmas.Bool.{true≢false, false≢true}
 use Rattle.literal_model.specs.Literals.{print}
 use Rattle.uno_model.specs.Values.{Ref, Plain, own}
@@ -8,17 +8,17 @@ use Rattle.plan_model.specs.Roots.{Run}
 use Rattle.plan_model.specs.Statements.{Making}
 use Rattle.bridge_model.specs.Answers as answers
 use Rattle.bridge_model.specs.Entries.{full, made}
-use Rattle.bridge_model.specs.RootRuns.{begins, makes_new, moved, without_entry, over_with, adds, line_of}
+use Rattle.bridge_model.specs.RootRuns.{makes_new, moved, without_entry, over_with, adds, line_of}
 use Rattle.bridge_model.specs.Settings.{Setting, own_oid}
 use Rattle.bridge_model.specs.Sides.{Side, stands}
 use Rattle.bridge_model.specs.Steps.{has_entries}
 use Rattle.bridge_endpoint.specs.Answering.{made_told, made_answer}
-use Rattle.bridge_endpoint.specs.Entering.{made_by, out_of_memory}
-use Rattle.bridge_endpoint.specs.Journals.{Endpoint, setting_at, side_at, with_entry}
+use Rattle.bridge_endpoint.specs.Entering.{made_by}
+use Rattle.bridge_endpoint.specs.Journals.{Endpoint, setting_at, side_at}
 use Rattle.bridge_endpoint.specs.declared.answers.Made.{Made}
 use Rattle.bridge_endpoint.specs.declared.answers.Made.TheVariants as variant
 use Rattle.bridge_roots.specs.Making.{made_run, has_made}
-use Rattle.bridge_roots.specs.Moving.{Does, DoesOr}
+use Rattle.bridge_roots.specs.Moving.{DoesOr}
 use Rattle.bridge_roots.proofs.BegunLemmas.{at_no_end, open_told, full_told}
 use Rattle.bridge_roots.proofs.MoveLemmas.{entered}
 

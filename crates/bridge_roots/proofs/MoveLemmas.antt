@@ -1,10 +1,10 @@
 -- Moves that were made, or were not.
-use Rattle.std.proofs.Common.{◌≡◌, refl, sym, ap, ◌∙◌, ◌⊎◌, inl, Option, None, Some, Result, Ok, Err, OnOk, OnErr}
+use Rattle.std.proofs.Common.{◌≡◌, refl, sym, ap, ◌∙◌, inl, None, Some, Result, Ok, Err, OnOk, OnErr}
 use Rattle.plan_model.specs.Roots.{Run}
 use Rattle.bridge_model.specs.Entries.{Entry}
-use Rattle.bridge_model.specs.RootRuns.{Moved, moved, finished, without_entry}
+use Rattle.bridge_model.specs.RootRuns.{Moved, moved, without_entry}
 use Rattle.bridge_endpoint.specs.Journals.{Endpoint, with_entry}
-use Rattle.bridge_roots.specs.Moving.{Does, DoesAny, DoesOr, IsLeft}
+use Rattle.bridge_roots.specs.Moving.{Does, DoesOr, IsLeft}
 
 -- a move with no entry
 pub silent : (m : Moved) (e : Endpoint) (next after : Run) → m ≡ without_entry next → after ≡ next → Does m e e after

@@ -1,15 +1,15 @@
 -- A run that stands for a journal stands for the one behind its move.
-use Rattle.std.proofs.Common.{◌≡◌, refl, sym, subst, ◌⊎◌, inl, inr, Bool, true, false, List, Option, None, Some, if◌then◌else◌}
+use Rattle.std.proofs.Common.{◌≡◌, refl, sym, subst, ◌⊎◌, inl, inr, Bool, true, false, Option, None, Some, if◌then◌else◌}
 use Rattle.plan_model.specs.Roots.{Run}
 use Rattle.bridge_model.specs.Entries.{Entry, no_memory}
 use Rattle.bridge_model.specs.Histories.{Leads}
-use Rattle.bridge_model.specs.RootRuns.{StandsFor, another, entered, passed, moved, root_moves}
+use Rattle.bridge_model.specs.RootRuns.{StandsFor, another, entered, passed, moved}
 use Rattle.bridge_model.specs.Steps.{is_no_memory}
 use Rattle.bridge_endpoint.specs.Entering.{out_of_memory}
 use Rattle.bridge_endpoint.specs.Journals.{Endpoint, setting_at, side_at, told_at, with_entry}
 use Rattle.bridge_roots.specs.declared.moved.RootMoved.{RootMoved}
 use Rattle.bridge_roots.specs.declared.moved.RootMoved.TheVariants as answer
-use Rattle.bridge_roots.specs.Moving.{Does, IsLeft, StepsSo, next_move, with_any}
+use Rattle.bridge_roots.specs.Moving.{IsLeft, StepsSo, next_move, with_any}
 
 abbrev Stands : Endpoint → Run → Type 0
 Stands e r = StandsFor (setting_at e) e.entries r

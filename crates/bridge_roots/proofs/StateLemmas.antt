@@ -1,10 +1,9 @@
 -- What a root does next, by its state.
-use Rattle.std.proofs.Common.{◌≡◌, refl, sym, ap, ◌∙◌, ℕ, List, [], ◌∷◌, Bool, true, false, Option, None, Some, IsSome, Result, Ok, Err, ◌&&◌}
-use Rattle.uno_model.specs.Values.{Ref}
-use Rattle.plan_model.specs.Roots.{Run, next_loose, less_loose}
+use Rattle.std.proofs.Common.{◌≡◌, refl, ap, ◌∙◌, ℕ, [], true, false, Some}
+use Rattle.plan_model.specs.Roots.{Run, next_loose}
 use Rattle.plan_model.specs.Statements.{RootStatement}
-use Rattle.bridge_model.specs.RootRuns.{Moved, waiting, finished, moved, root_moves, state_moves, idle_moves, takes_at, statement_at, next_statement, begins_unless_skipped, begins_statement, is_skipped, over_with, takes_outcome, outcome_text}
-use Rattle.bridge_model.specs.Roots.{outcome_in, is_idle}
+use Rattle.bridge_model.specs.RootRuns.{root_moves, state_moves, idle_moves, takes_at, statement_at, next_statement, begins_statement, is_skipped}
+use Rattle.bridge_model.specs.Roots.{outcome_in}
 use Rattle.bridge_model.specs.Settings.{Setting}
 use Rattle.bridge_model.specs.Sides.{Outcome, RootState, idle, waits_call, waits_query, answered, Side, state_of}
 use Rattle.bridge_model.specs.Steps.{is_root, may_begin}

@@ -1,5 +1,5 @@
 -- A reference that a root is to let go.
-use Rattle.std.specs.Prelude.{ℕ, List, Bool, true, false, Option, None, Some}
+use Rattle.std.specs.Prelude.{ℕ, Bool, true, false, Option, None, Some}
 use Rattle.bridge_model.specs.Roots.{holds_pair}
 use Rattle.bridge_model.specs.Sides.{Tables}
 use Rattle.uno_model.specs.Values.{Ref, null, own, peer}

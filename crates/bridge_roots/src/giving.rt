@@ -1,11 +1,12 @@
 //! Whether a root may give what a statement gives.
-ghost use Rattle.std.specs.Prelude.{◌≡◌, ℕ, IsTrue, List, map, slice_get};
+ghost use Rattle.std.specs.Prelude.{◌≡◌, ◌≢◌, ◌↔◌, ℕ, IsTrue, List, map, slice_get};
 ghost use Rattle.bridge_model.specs.Calls.{query_args};
 ghost use Rattle.bridge_model.specs.Settings.{Setting, root_tid};
 ghost use Rattle.bridge_typing.specs.Giving.{MayBeCalled, MayGive};
 ghost use Rattle.message_model.specs.Calls.{argument_kinds, goes, kinds_on};
 ghost use Rattle.message_model.specs.Messages.{request};
 ghost use Rattle.message_model.specs.Sayable.{IsThread, MayBeSaid};
+ghost use Rattle.plan_model.specs.Plans.{manager};
 ghost use Rattle.plan_typing.specs.Effects.{MakingFits};
 ghost use Rattle.plan_types.specs.Plans.{plan_of};
 ghost use Rattle.type_registry.specs.Functions.{lent_function};
@@ -39,7 +40,7 @@ pub const X_INTERFACE: &str = "com.sun.star.uno.XInterface";
 pub(crate) fn may_give(registry: &Registry, asked: &Asked) -> bool
     requires sound { IsSound registry.now }
     requires built_in { HasBuiltIn registry.now }
-    ensures { (g : Setting) (root : ℕ) → g.registry ≡ registry.now → IsThread (root_tid g root) → IsTrue result → MayGive g (entry_of root asked.now) }
+    ensures { (g : Setting) (root : ℕ) → g.registry ≡ registry.now → IsThread (root_tid g root) → (IsTrue result ↔ MayGive g (entry_of root asked.now)) }
 {
     match asked {
         Asked::Name { name, wanted } => may_query(registry, name, X_INTERFACE, wanted),
@@ -57,7 +58,7 @@ pub(crate) fn may_give(registry: &Registry, asked: &Asked) -> bool
 pub fn may_query(registry: &Registry, oid: &Text, face: &str, wanted: &Name) -> bool
     requires sound { IsSound registry.now }
     requires built_in { HasBuiltIn registry.now }
-    ensures { (tid : List ℕ) → IsThread tid → IsTrue result → MayBeSaid registry.now (request tid oid.now face.now 0 (query_args wanted.now)) }
+    ensures { (tid : List ℕ) → IsThread tid → (IsTrue result ↔ MayBeSaid registry.now (request tid oid.now face.now 0 (query_args wanted.now))) }
 {
     if !oid.is_identity() {
         return false;
@@ -71,7 +72,7 @@ pub fn may_query(registry: &Registry, oid: &Text, face: &str, wanted: &Name) -> 
 /// Whether a root may call this function with these arguments, as far as the registry tells: what a call weighs and how deep its arguments are nested, it tests itself.
 pub fn may_call(registry: &Registry, oid: &Text, face: &Name, number: u16, args: &[Value]) -> bool
     requires { IsSound registry.now }
-    ensures { (g : Setting) (root : ℕ) → g.registry ≡ registry.now → IsThread (root_tid g root) → IsTrue result → MayBeCalled g root oid.now face.now number (map plain_of args.now) }
+    ensures { (g : Setting) (root : ℕ) → g.registry ≡ registry.now → IsThread (root_tid g root) → (IsTrue result ↔ MayBeCalled g root oid.now face.now number (map plain_of args.now)) }
 {
     if !oid.is_identity() {
         return false;
@@ -94,7 +95,7 @@ pub fn may_call(registry: &Registry, oid: &Text, face: &Name, number: u16, args:
 /// Whether values fit the parameters of a function that go with a call.
 fn arguments_fit(registry: &Registry, function: &FunctionRef, args: &[Value]) -> bool
     requires { IsSound registry.now }
-    ensures { IsTrue result → FitEach registry.now (plains_of args.now) (argument_kinds (lent_function function.now)) }
+    ensures { IsTrue result ↔ FitEach registry.now (plains_of args.now) (argument_kinds (lent_function function.now)) }
 {
     let mut rest = args;
     for place in 0..function.param_count() {
@@ -137,7 +138,7 @@ fn goes(way: Way) -> bool
 /// Whether a root may make an object of a behaviour, which it holds under an interface.
 pub fn may_make(registry: &Registry, plan: &Plan, behaviour: u32, wanted: &Name) -> bool
     requires { IsSound registry.now }
-    ensures { IsTrue result → MakingFits registry.now (plan_of plan.now) behaviour wanted.now }
+    ensures { IsTrue result ↔ ((behaviour ≢ manager) × MakingFits registry.now (plan_of plan.now) behaviour wanted.now) }
 {
     if behaviour == MANAGER {
         return false;

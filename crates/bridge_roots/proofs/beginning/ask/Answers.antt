@@ -10,7 +10,7 @@ use Rattle.bridge_roots.proofs.beginning.ask.Goals as goal
 
 pub ask_it-begun-requires-clause-gives : goal.ask_it-begun-requires-clause-gives
 ask_it-begun-requires-clause-gives c =
-    c.may_give.ensures (setting_at c.args.end.now) c.args.run.now.root (sym c.registry-2.ensures.same) c.know_thread.ensures c.if-not-may_give.false
+    (c.may_give.ensures (setting_at c.args.end.now) c.args.run.now.root (sym c.registry-2.ensures.same) c.know_thread.ensures).0 c.if-not-may_give.false
 
 pub returns-in-Ok : goal.returns-in-Ok
 returns-in-Ok c =
