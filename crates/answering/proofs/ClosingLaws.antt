@@ -1,8 +1,7 @@
 -- One entry more: what it tells, and that a bridge which has ended says no more.
-use Rattle.std.proofs.Common.{◌≡◌, refl, sym, ap, subst, ◌∙◌, ℕ, suc, Bool, true, false, not, ◌&&◌, List, [], ◌∷◌, ◌++◌, length, take, drop, Option, None, Some, if◌then◌else◌, arith}
+use Rattle.std.proofs.Common.{◌≡◌, refl, sym, ap, ◌∙◌, ℕ, suc, Bool, true, false, not, List, [], ◌∷◌, ◌++◌, length, take, Option, None, Some, arith}
 use Rattle.std.proofs.lemmas.Bool.{false≢true, true≢false}
 use Rattle.std.proofs.lemmas.List.{append_assoc, append-nil, append_cancel_left, drop_all}
-use Rattle.message_model.specs.Messages.{Message}
 use Rattle.message_model.specs.Said.{spell}
 use Rattle.plan_model.specs.Frames.{Stack, frames_of}
 use Rattle.bridge_laws.proofs.EndedLaws.{clash, first_holds, second_holds}

@@ -1,14 +1,12 @@
 -- Endpoints: what an entry more tells, and turns one after the other.
-use Rattle.std.proofs.Common.{◌≡◌, refl, sym, ap, subst, ◌∙◌, ℕ, Bool, true, false, List, [], ◌∷◌, ◌++◌, Option, None, Some, Result, Ok, Err}
+use Rattle.std.proofs.Common.{◌≡◌, refl, sym, ap, subst, ◌∙◌, ℕ, Bool, true, false, List, Option, None, Some, Result, Ok, Err}
 use Rattle.std.proofs.lemmas.Bool.{true≢false}
 use Rattle.std.specs.Io.KnownBytes.{Appends}
 use Rattle.plan_model.specs.Roots.{Run}
 use Rattle.uno_io.specs.Fronts.{AppendsFront}
-use Rattle.bridge_endpoint.specs.Journals.{Endpoint, setting_at, side_at, told_at, with_entry}
+use Rattle.bridge_endpoint.specs.Journals.{Endpoint, setting_at, side_at, told_at}
 use Rattle.bridge_model.specs.Entries.{Entry}
-use Rattle.bridge_model.specs.Histories.{Told, Leads}
-use Rattle.bridge_model.specs.Settings.{Setting}
-use Rattle.bridge_model.specs.Sides.{Side}
+use Rattle.bridge_model.specs.Histories.{Leads}
 use Rattle.bridge_roots.specs.Moving.{with_any}
 use Rattle.answer_laws.specs.Working.{AllIsDone}
 use Rattle.answering.specs.Doing.{First, bytes_with}

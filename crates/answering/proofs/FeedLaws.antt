@@ -1,5 +1,5 @@
 -- What a piece that is fed is answered, and what it leads to.
-use Rattle.std.proofs.Common.{◌≡◌, ◌≢◌, refl, sym, ap, subst, ◌∙◌, ℕ, zero, suc, ◌+◌, ◌-◌, ◌<◌, ◌≤◌, Bool, true, false, not, ◌&&◌, ◌||◌, nat_lt, List, [], ◌∷◌, ◌++◌, length, take, drop, Option, None, Some, if◌then◌else◌, arith}
+use Rattle.std.proofs.Common.{◌≡◌, ◌≢◌, refl, sym, ap, subst, ◌∙◌, ℕ, zero, suc, ◌+◌, ◌-◌, ◌<◌, ◌≤◌, Bool, true, false, ◌||◌, nat_lt, List, [], ◌∷◌, ◌++◌, length, take, drop, Option, None, Some, if◌then◌else◌, arith}
 use Rattle.std.proofs.lemmas.Bool.{true≢false, false≢true, ltb-true, not-false}
 use Rattle.std.proofs.lemmas.List.{length-drop, length-take}
 use Rattle.urp_model.specs.declared.reason.Reason.{Reason}
@@ -9,19 +9,18 @@ use Rattle.bridge_endpoint.specs.Journals.{Endpoint, setting_at, side_at, told_a
 use Rattle.bridge_endpoint.specs.declared.answers.Fed.{Fed}
 use Rattle.bridge_endpoint.specs.declared.answers.Fed.TheVariants as fed_so
 use Rattle.bridge_laws.proofs.Replays.{of_step}
-use Rattle.bridge_model.specs.Answers.{cut, within_limit, next_cut, FeedAnswer, taken, broken, at_limit, gone, no_room, feed_is_full, after_feeding, feed_standing, feed_answer}
+use Rattle.bridge_model.specs.Answers.{cut, next_cut, FeedAnswer, taken, broken, at_limit, gone, no_room, after_feeding, feed_standing, feed_answer}
 use Rattle.bridge_model.specs.Ends.{ends_by}
-use Rattle.bridge_model.specs.Entries.{Entry, fed, full}
+use Rattle.bridge_model.specs.Entries.{fed, full}
 use Rattle.bridge_model.specs.Feeding.{ends_part}
 use Rattle.bridge_model.specs.Histories.{Told, tells}
 use Rattle.bridge_model.specs.Settings.{Setting}
 use Rattle.bridge_model.specs.Sides.{Side, stands, stands_by}
-use Rattle.bridge_model.specs.Steps.{most_fed, fed_count, has_entries, has_fed, does, Turn, step}
+use Rattle.bridge_model.specs.Steps.{most_fed, fed_count, has_entries, has_fed, does}
 use Rattle.bridge_model.specs.declared.cause.Cause.{Cause}
 use Rattle.bridge_model.specs.declared.cause.Cause.TheVariants as why
-use Rattle.answering.specs.Doing.{Feeds}
 use Rattle.answering.specs.Ends.{IsFed}
-use Rattle.answering.proofs.ClosingLaws.{HasTurn, turn_of}
+use Rattle.answering.proofs.ClosingLaws.{turn_of}
 use Rattle.answering.proofs.EndLaws.{IsLed, told_side, is_told, same_setting}
 use Rattle.answering.proofs.TurnLaws.{cut_feeds, full_feeds}
 

@@ -15,13 +15,12 @@ use Rattle.bridge_model.specs.RootRuns.{Moved, waiting, finished}
 use Rattle.bridge_roots.specs.Moving.{Does, StepsSo, next_move}
 use Rattle.bridge_roots.specs.declared.moved.RootMoved.{RootMoved}
 use Rattle.bridge_roots.specs.declared.moved.RootMoved.TheVariants as answer
-use Rattle.answer_laws.specs.Working.{AllIsDone}
 use Rattle.answering.specs.Doing.{First, of_method, of_root, of_object, of_bytes, bytes_with}
 use Rattle.answering.specs.Ends.{Applies, Moves, Drains, DrainsFirst, Did, DoesFirst}
 use Rattle.answering.specs.declared.stopped.Halted.{Halted}
 use Rattle.answering.specs.declared.stopped.Halted.TheVariants as halted
 use Rattle.answering.proofs.RootLaws.{DoesNotMove, entry_is_plain, move_is_fine, others_drain}
-use Rattle.answering.proofs.RowLaws.{moves_at, same_at, none_at, set_long}
+use Rattle.answering.proofs.RowLaws.{moves_at, same_at, none_at}
 
 -- ---- roots
 

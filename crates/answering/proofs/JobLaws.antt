@@ -1,5 +1,5 @@
 -- The job that is picked is that of its thread.
-use Rattle.std.proofs.Common.{◌≡◌, refl, sym, ap, ◌∙◌, ℕ, true, false, List, Option, None, Some, if◌then◌else◌}
+use Rattle.std.proofs.Common.{◌≡◌, refl, sym, ap, ◌∙◌, ℕ, true, false, List, Option, None, Some}
 use Rattle.plan_model.specs.Frames.{Job}
 use Rattle.bridge_model.specs.Answers.{job_picked, pick, ready_at}
 use Rattle.bridge_model.specs.Applying.{job_of}

@@ -1,10 +1,9 @@
 -- Pieces that are answered, and the input from its beginning to its end.
-use Rattle.std.proofs.Common.{◌≡◌, refl, sym, ap, subst, ◌∙◌, ℕ, Bool, true, false, List, [], ◌∷◌, ◌++◌, take, Option, None, Some, Result, Ok, Err}
-use Rattle.std.proofs.lemmas.Bool.{true≢false, false≢true}
-use Rattle.std.specs.Io.KnownBytes.{Appends, Consumes, Keeps}
+use Rattle.std.proofs.Common.{◌≡◌, refl, sym, ap, subst, ◌∙◌, ℕ, Bool, true, false, List, [], take, Option, None, Some, Result, Ok, Err}
+use Rattle.std.proofs.lemmas.Bool.{false≢true}
+use Rattle.std.specs.Io.KnownBytes.{Consumes, Keeps}
 use Rattle.std.specs.Option.{unwrap_or}
 use Rattle.plan_model.specs.Roots.{Run}
-use Rattle.uno_io.specs.Fronts.{AppendsFront}
 use Rattle.bridge_endpoint.specs.Journals.{Endpoint, setting_at, side_at, told_at, with_entry}
 use Rattle.bridge_model.specs.Answers.{awaits_input}
 use Rattle.bridge_model.specs.Entries.{ended}
@@ -22,8 +21,8 @@ use Rattle.answering.specs.Turning.{AreRoots, Answers, HaltsIn, Halts, Turns}
 use Rattle.answering.specs.declared.stopped.Halted.{Halted}
 use Rattle.answering.proofs.EndLaws.{IsLed, told_side, is_told}
 use Rattle.answering.proofs.RootLaws.{first_roots}
-use Rattle.answering.proofs.ServingLaws.{holds_first, holds_piece, holds_on, holds_none, holds_front, piece_on, halted, halted_in, halted_closing, all_in}
-use Rattle.answering.proofs.TurnLaws.{HasClosed, has_closed, closes, closing_takes, closing_halts, fed_on, fed_halts, piece_halts, whole_piece}
+use Rattle.answering.proofs.ServingLaws.{holds_first, holds_piece, holds_on, holds_none, piece_on, halted, halted_in, all_in}
+use Rattle.answering.proofs.TurnLaws.{HasClosed, has_closed, closes, closing_takes, closing_halts, fed_on, fed_halts}
 
 -- ---- a front that is fed, and what is done then
 

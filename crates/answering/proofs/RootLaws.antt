@@ -1,19 +1,17 @@
 -- Roots that move: each stays the plan's, and the lowest that moves is found behind those that do not.
-use Rattle.std.proofs.Common.{◌≡◌, refl, sym, ap, subst, ◌∙◌, ℕ, zero, suc, ◌+◌, ◌≤◌, ◌<◌, Bool, true, false, not, ◌&&◌, nat_lt, List, [], ◌∷◌, ◌++◌, length, Option, None, Some, if◌then◌else◌, arith}
-use Rattle.std.specs.List.{AllByRecursion}
+use Rattle.std.proofs.Common.{◌≡◌, refl, sym, ap, subst, ◌∙◌, ℕ, suc, ◌+◌, ◌≤◌, ◌<◌, Bool, true, false, not, List, [], ◌∷◌, ◌++◌, length, Option, None, Some, if◌then◌else◌, arith}
 use Rattle.std.proofs.lemmas.Bool.{lt-ltb, le-ltb, not-true, true≢false}
 use Rattle.message_model.specs.Messages.{returned, raised}
 use Rattle.uno_model.specs.Values.{Ref, null, own, peer, Plain}
 use Rattle.plan_model.specs.Expressions.{Argument, into, out, both}
 use Rattle.plan_model.specs.Calling.{object_of}
 use Rattle.plan_model.specs.Evaluation.{value_of_word}
-use Rattle.plan_model.specs.Plans.{manager_name}
 use Rattle.plan_model.specs.Roots.{Run, opening_run, asked_name, next_loose}
 use Rattle.plan_model.specs.Statements.{Making, RootStatement, ask, ask_instance, root_call, root_query, root_make, root_drop, same, root_dispose}
 use Rattle.bridge_model.specs.Entries.{Entry, fed, ended, failed, asked, called, queried, made, dropped, applied, took, reaped, drained, disposed, full, no_memory}
 use Rattle.bridge_model.specs.Histories.{bytes_drained}
 use Rattle.bridge_model.specs.Orders.{RootMove, first_runs, root_move, in_front, first_or_later}
-use Rattle.bridge_model.specs.RootRuns.{Moved, waiting, finished, moved, root_moves, state_moves, idle_moves, next_statement, begins_unless_skipped, begins_statement, is_skipped, statement_at, lets_loose, takes_at, takes_outcome, adds_result, puts_outs, puts, begins, asks_for, calls_on, queries_on, makes_new, disposes, scene_of}
+use Rattle.bridge_model.specs.RootRuns.{Moved, waiting, finished, moved, root_moves, state_moves, idle_moves, next_statement, begins_statement, is_skipped, statement_at, takes_at, takes_outcome, adds_result, puts_outs, puts, begins, asks_for, calls_on, queries_on, makes_new, scene_of}
 use Rattle.bridge_model.specs.Settings.{Setting}
 use Rattle.bridge_model.specs.Sides.{Outcome, answer, RootState, idle, waits_call, waits_query, answered, Side, stands, state_of}
 use Rattle.bridge_model.specs.Sides as side

@@ -1,10 +1,10 @@
 -- Roots by their places: the one at a place is the plan's, and moves where those before it do not.
-use Rattle.std.proofs.Common.{◌≡◌, refl, sym, ap, subst, ◌∙◌, ℕ, zero, suc, ◌+◌, ◌<◌, ◌≤◌, true, List, [], ◌∷◌, ◌++◌, length, map, take, drop, get_or, slice_set, Option, None, Some, arith}
+use Rattle.std.proofs.Common.{◌≡◌, refl, sym, ap, subst, ◌∙◌, ℕ, zero, suc, ◌+◌, ◌<◌, List, [], ◌∷◌, ◌++◌, length, map, take, drop, get_or, slice_set, Option, None, Some, arith}
 use Rattle.std.specs.List.{AllByRecursion}
 use Rattle.plan_model.specs.Roots.{Run}
 use Rattle.bridge_model.specs.Entries.{Entry}
 use Rattle.bridge_model.specs.Orders.{root_move}
-use Rattle.bridge_model.specs.RootRuns.{Moved, moved, root_moves}
+use Rattle.bridge_model.specs.RootRuns.{moved, root_moves}
 use Rattle.bridge_model.specs.Settings.{Setting}
 use Rattle.bridge_model.specs.Sides.{Side}
 use Rattle.answering.proofs.RootLaws.{DoesNotMove, lowest_moves, none_moves}

@@ -1,11 +1,10 @@
 -- How far an input was answered: at the beginning, where bytes are read, where turns are made, and at each end.
-use Rattle.std.proofs.Common.{◌≡◌, refl, sym, ap, subst, ◌∙◌, ℕ, Bool, true, false, List, [], ◌∷◌, ◌++◌, Option, None, Some}
+use Rattle.std.proofs.Common.{◌≡◌, sym, ap, subst, ◌∙◌, ℕ, Bool, true, false, List, [], ◌++◌, Option, None, Some}
 use Rattle.std.proofs.KnownBytes.{Appends-nil, Appends-trans, Consumes-nil, Consumes-trans}
 use Rattle.std.proofs.lemmas.List.{append_assoc, append-nil, append_cancel_right}
 use Rattle.std.specs.Io.KnownBytes.{Appends, Consumes}
 use Rattle.plan_model.specs.Roots.{Run}
 use Rattle.uno_io.specs.Fronts.{AppendsFront}
-use Rattle.bridge_model.specs.Answers.{awaits_input}
 use Rattle.bridge_model.specs.Histories.{Told, nothing_told}
 use Rattle.bridge_model.specs.Orders.{first_runs}
 use Rattle.bridge_model.specs.Settings.{Setting}

@@ -1,5 +1,5 @@
 -- What an answer says, by why it stopped.
-use Rattle.std.proofs.Common.{◌≡◌, ◌≢◌, subst, ℕ, Bool, true, false, List, Option, Some, Result, Ok, Err}
+use Rattle.std.proofs.Common.{◌≡◌, subst, ℕ, Bool, true, false, List, Option, Result, Ok, Err}
 use Rattle.std.specs.Io.KnownBytes.{IsAtEnd}
 use Rattle.uno_base.specs.Causes.{Rose}
 use Rattle.bridge_model.specs.Settings.{Setting}

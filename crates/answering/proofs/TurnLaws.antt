@@ -7,10 +7,10 @@ use Rattle.plan_model.specs.Roots.{Run}
 use Rattle.uno_io.specs.Fronts.{AppendsFront}
 use Rattle.bridge_model.specs.Answers.{next_cut}
 use Rattle.bridge_model.specs.Entries.{Entry, fed, ended, applied, reaped, drained, full}
-use Rattle.bridge_model.specs.Histories.{Told, bytes_drained, tells, Leads}
+use Rattle.bridge_model.specs.Histories.{Told, tells, Leads}
 use Rattle.bridge_model.specs.Orders.{or_full}
 use Rattle.bridge_model.specs.Settings.{Setting}
-use Rattle.bridge_model.specs.Sides.{Side, stands}
+use Rattle.bridge_model.specs.Sides.{stands}
 use Rattle.bridge_model.specs.Steps.{has_entries, has_fed}
 use Rattle.answer_laws.specs.Working.{AllIsDone, IsInOrder}
 use Rattle.answer_laws.proofs.FeedingLaws.{feeding_keeps, end_keeps}

@@ -1,2 +1,1 @@
-pub mod LongestLaws
-pub mod TalkLaws
+pub mod SideLaws

@@ -1,12 +1,8 @@
-//! The endpoint: what one end of a bridge answers to what the other sends.
+//! The ends of a bridge as one value: an endpoint, or later two of them joined.
 #![tactic(auto)]
 
-mod echo;
-mod sending;
-mod talk_laws;
+mod ends;
+mod side;
 
-pub use echo::Echo;
-pub use talk_laws::{
-    a_talk_is_a_front_of_the_longest, one_talk_is_the_longest, some_talk_is_the_longest,
-};
-pub use urp_message::Tag;
+pub use ends::Ends;
+pub use side::Side;

@@ -6,7 +6,7 @@ use std::process::ExitCode;
 use std::{env, io};
 use uno_io::{StdFiles, StdSink, StdSource};
 use uno_run::{Status, report, run};
-use urp_message::{Tag, TagError};
+use uno_types::{Tag, TagError};
 
 /// The tag of the end that answers.
 const TAG: &str = "S";

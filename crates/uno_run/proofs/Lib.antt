@@ -1,5 +1,7 @@
+pub mod AnswerRuns
 pub mod IdlRuns
-pub mod Judging
-pub mod Obeying
-pub mod Running
-pub mod Serving
+pub mod Keeping
+pub mod Results
+pub mod Roots
+pub mod ServedRuns
+pub mod SettingUp

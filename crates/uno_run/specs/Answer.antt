@@ -1,39 +1,100 @@
--- The promise of `answer`: the answers to the longest talk at the front of the input, and what each status says.
-use Rattle.std.specs.Prelude.{◌≡◌, ◌≢◌, ◌⊎◌, ℕ, ◌<◌, ◌≤◌, List, [], length, Option}
-use Rattle.std.specs.Io.KnownBytes.{Appends, IsAtEnd}
-use Rattle.urp_model.specs.Blocks.{BeginsWhole}
-use Rattle.urp_message.specs.declared.first.message.First.{First}
-use Rattle.bridge_core.specs.Talk.{asked, answered}
+-- The promise of `answer`: an endpoint of two texts over the input and the output, and what each status says.
+use Rattle.std.specs.Prelude.{◌≡◌, ◌≢◌, ◌⊎◌, ℕ, true, false, List, Option, None, Some, Ok, Err}
+use Rattle.std.specs.Io.KnownBytes.{IsAtEnd}
 use Rattle.uno_base.specs.Causes.{Rose}
-use Rattle.uno_io.specs.Fronts.{AppendsFront}
-use Rattle.uno_run.specs.Reading.{WasRead}
-use Rattle.uno_run.specs.Run.{Heard, Unhindered, EndsBy, broken_at}
+use Rattle.uno_io.specs.Files.{Stored}
+use Rattle.uno_model.specs.Entities.{Entity}
+use Rattle.urp_model.specs.declared.reason.Reason.{Reason}
+use Rattle.plan_model.specs.declared.line_reason.LineReason.{LineReason}
+use Rattle.plan_reading_model.specs.TextReading.{verdict}
+use Rattle.registry_reading.specs.Verdicts.{IsAccepted}
+use Rattle.bridge_model.specs.Settings.{Setting}
+use Rattle.bridge_model.specs.declared.cause.Cause.TheVariants as cause
+use Rattle.command_words.specs.Names.{Text}
+use Rattle.answering.specs.Answering.{AnsweredPart, AnsweredWhole, InputEnded, WasRead}
+use Rattle.uno_run.specs.Idl.{Refused, Tells}
+use Rattle.uno_run.specs.declared.reason.RegistryReason.{RegistryReason}
 use Rattle.uno_run.specs.declared.status.Status.{Status}
-use Rattle.uno_run.specs.declared.status.Status.TheVariants.{Done, ReadFault, WriteFault, NoMemory}
+use Rattle.uno_run.specs.declared.status.Status.TheVariants.{Done, BadRegistry, BadPlan, ReadFault, WriteFault, Broken, Cut, Full, NoFile, NoMemory}
 
--- a run of `answer` of the end with this tag, over an input and an output
-pub record AnswerRun {I O : Type 0} (left : I → Option (List ℕ)) (reads : I → ℕ) (taken : O → Option (List ℕ)) (writes : O → ℕ) (tag : List ℕ)
+-- the setting of an endpoint with this tag: the registry and the plan of two texts
+pub record IsOf (types plan tag : List ℕ) (g : Setting) : Type 0 where
+  pub accepted : IsAccepted types g.registry
+  pub read : verdict g.registry plan ≡ Ok g.plan
+  pub tagged : g.tag ≡ tag
+
+-- an endpoint of this setting over an input and an output, and how the run ended
+pub record Served {I O : Type 0} (left : I → Option (List ℕ)) (reads : I → ℕ) (taken : O → Option (List ℕ)) (writes : O → ℕ) (g : Setting)
     (input_old input_new : I) (output_old output_new : O) (status : Status) : Type 0 where
-  -- it reads on until the end, a fault, or 65,537 bytes, whatever it read
-  pub limit : (s : List ℕ) → WasRead (left input_old) (left input_new) s → length s ≤ 65537
-  pub reads_on : (s : List ℕ) → WasRead (left input_old) (left input_new) s → length s < 65537
-      → (IsAtEnd (left input_new) ⊎ Rose (reads input_old) (reads input_new)) ⊎ ((status ≡ NoMemory) × (input_new ≡ input_old))
-  -- with 65,537 bytes nothing is written, and the bridge is broken at the last of them
-  pub silent : (s : List ℕ) → WasRead (left input_old) (left input_new) s → length s ≡ 65537 → output_new ≡ output_old
-  pub too_long : (s : List ℕ) → WasRead (left input_old) (left input_new) s → length s ≡ 65537 → status ≢ NoMemory → status ≡ broken_at 65536
-  -- otherwise the answers to the longest talk are written; a front of them, where the output or memory failed
-  pub written : (s : List ℕ) (ms : List First) (rest : List ℕ) → Heard (left input_old) (left input_new) tag s ms rest → Unhindered status
-      → Appends (taken output_old) (taken output_new) (answered tag ms)
-  pub front : (s : List ℕ) (ms : List First) (rest : List ℕ) → Heard (left input_old) (left input_new) tag s ms rest
-      → AppendsFront (taken output_old) (taken output_new) (answered tag ms)
+  -- the bridge was disposed; or the input ended at the edge of a block, while no call waited for an answer
+  pub done : status ≡ Done → (s : List ℕ) → WasRead (left input_old) (left input_new) s
+      → AnsweredWhole g s false (taken output_old) (taken output_new) cause.Disposed ⊎ (AnsweredWhole g s true (taken output_old) (taken output_new) cause.Ended × InputEnded g s false × IsAtEnd (left input_new))
+  pub cut : status ≡ Cut → (s : List ℕ) → WasRead (left input_old) (left input_new) s
+      → AnsweredWhole g s true (taken output_old) (taken output_new) cause.Ended × InputEnded g s true × IsAtEnd (left input_new)
+  pub broken : (why : Reason) (place : ℕ) → status ≡ Broken why place → (s : List ℕ) → WasRead (left input_old) (left input_new) s
+      → AnsweredWhole g s false (taken output_old) (taken output_new) (cause.Broken why place)
+  pub full : status ≡ Full → (s : List ℕ) → WasRead (left input_old) (left input_new) s → AnsweredWhole g s false (taken output_old) (taken output_new) cause.Full
+  pub fault : status ≡ ReadFault → (s : List ℕ) → WasRead (left input_old) (left input_new) s → AnsweredWhole g s true (taken output_old) (taken output_new) cause.Ended
+  -- whatever it is, a front of what is owed was written
+  pub part : (s : List ℕ) → WasRead (left input_old) (left input_new) s → AnsweredPart g s (taken output_old) (taken output_new)
+  pub read_fault : status ≡ ReadFault → Rose (reads input_old) (reads input_new)
+  pub no_read_fault : status ≢ ReadFault → status ≢ WriteFault → status ≢ NoMemory → reads input_new ≡ reads input_old
   pub write_fault : status ≡ WriteFault → Rose (writes output_old) (writes output_new)
   pub no_write_fault : status ≢ WriteFault → writes output_new ≡ writes output_old
-  -- nothing stands behind the talk, or a whole block, or a part of one
-  pub nothing : (s : List ℕ) (ms : List First) (rest : List ℕ) → Heard (left input_old) (left input_new) tag s ms rest → Unhindered status
-      → rest ≡ [] → EndsBy (reads input_old) (reads input_new) (left input_new) Done status
-  pub whole : (s : List ℕ) (ms : List First) (rest : List ℕ) → Heard (left input_old) (left input_new) tag s ms rest → Unhindered status
-      → BeginsWhole rest → status ≡ broken_at (length (asked tag ms))
-  pub part : (s : List ℕ) (ms : List First) (rest : List ℕ) → Heard (left input_old) (left input_new) tag s ms rest → Unhindered status
-      → rest ≢ [] → (BeginsWhole rest → ⊥) → EndsBy (reads input_old) (reads input_new) (left input_new) (broken_at (length (asked tag ms))) status
-  pub read_fault : status ≡ ReadFault → Rose (reads input_old) (reads input_new)
-  pub no_read_fault : status ≡ Done → reads input_new ≡ reads input_old
+
+-- an endpoint of these texts was
+pub record WasServed {I O : Type 0} (left : I → Option (List ℕ)) (reads : I → ℕ) (taken : O → Option (List ℕ)) (writes : O → ℕ) (types plan tag : List ℕ)
+    (input_old input_new : I) (output_old output_new : O) (status : Status) : Type 0 where
+  pub setting : Setting
+  pub is_of : IsOf types plan tag setting
+  pub served : Served left reads taken writes setting input_old input_new output_old output_new status
+
+-- the statuses of an endpoint that was
+abbrev pub HasServed : Status → Type 0
+HasServed Done = Unit
+HasServed Cut = Unit
+HasServed (Broken why place) = Unit
+HasServed Full = Unit
+HasServed WriteFault = Unit
+HasServed status = ⊥
+
+-- a run of `answer` alone, with texts of its own: an endpoint of them was served, or there was no memory for it
+abbrev pub OwnRun : {I O : Type 0} → (I → Option (List ℕ)) → (I → ℕ) → (O → Option (List ℕ)) → (O → ℕ) → (types plan tag : List ℕ) → I → I → O → O → Status → Type 0
+OwnRun left reads taken writes types plan tag input_old input_new output_old output_new status =
+    WasServed left reads taken writes types plan tag input_old input_new output_old output_new status
+    ⊎ ((status ≡ NoMemory) × (input_new ≡ input_old) × (output_new ≡ output_old))
+
+-- the files that were read had these texts
+pub record FilesServed {I O : Type 0} (left : I → Option (List ℕ)) (reads : I → ℕ) (taken : O → Option (List ℕ)) (writes : O → ℕ) (store : Option Stored) (types plan : Text) (tag : List ℕ)
+    (input_old input_new : I) (output_old output_new : O) (status : Status) : Type 0 where
+  pub types_text : List ℕ
+  pub plan_text : List ℕ
+  pub types_told : Tells store types (Some types_text)
+  pub plan_told : Tells store plan (Some plan_text)
+  pub was : WasServed left reads taken writes types_text plan_text tag input_old input_new output_old output_new status
+
+-- the first file is the text of a registry, and the second a text that is no plan in it, first at this line for this reason
+pub record RefusedPlan (store : Option Stored) (types plan : Text) (line : ℕ) (why : LineReason) : Type 0 where
+  pub types_text : List ℕ
+  pub plan_text : List ℕ
+  pub registry : List Entity
+  pub types_told : Tells store types (Some types_text)
+  pub accepted : IsAccepted types_text registry
+  pub plan_told : Tells store plan (Some plan_text)
+  pub refused : verdict registry plan_text ≡ Err (record { line = line; reason = why })
+
+-- a run of `answer` on two files
+pub record AnswerRun {F I O : Type 0} (stored : F → Option Stored) (readings : F → ℕ) (left : I → Option (List ℕ)) (reads : I → ℕ) (taken : O → Option (List ℕ)) (writes : O → ℕ)
+    (types plan : Text) (tag : List ℕ) (files_old files_new : F) (input_old input_new : I) (output_old output_new : O) (status : Status) : Type 0 where
+  pub served : HasServed status → FilesServed left reads taken writes (stored files_old) types plan tag input_old input_new output_old output_new status
+  -- a file failed, or the input did
+  pub read_fault : status ≡ ReadFault → (Rose (readings files_old) (readings files_new) × (input_new ≡ input_old) × (output_new ≡ output_old))
+      ⊎ FilesServed left reads taken writes (stored files_old) types plan tag input_old input_new output_old output_new status
+  pub no_memory : status ≡ NoMemory → ((input_new ≡ input_old) × (output_new ≡ output_old))
+      ⊎ FilesServed left reads taken writes (stored files_old) types plan tag input_old input_new output_old output_new status
+  -- the first file that is refused or is not there ends the run, and nothing is read or written
+  pub bad_registry : (file line : ℕ) (reason : RegistryReason) → status ≡ BadRegistry file line reason → (file ≡ 0) × Refused (stored files_old) types line reason
+  pub bad_plan : (file line : ℕ) (why : LineReason) → status ≡ BadPlan file line why → (file ≡ 1) × RefusedPlan (stored files_old) types plan line why
+  pub no_file : (file : ℕ) → status ≡ NoFile file → ((file ≡ 0) × Tells (stored files_old) types None) ⊎ ((file ≡ 1) × Tells (stored files_old) plan None)
+  pub idle : HasServed status ⊎ ((status ≡ ReadFault) ⊎ (status ≡ NoMemory)) ⊎ ((input_new ≡ input_old) × (output_new ≡ output_old))
+  pub no_file_fault : status ≢ ReadFault → readings files_new ≡ readings files_old

@@ -1,8 +1,9 @@
 pub mod Answer
-pub mod Answering
 pub mod Idl
 pub mod Lines
+pub mod Own
 pub mod Printing
 pub mod Reading
-pub mod Run
+pub mod Serving
+pub mod SettingUp
 pub mod Words

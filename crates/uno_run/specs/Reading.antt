@@ -1,18 +1,15 @@
--- How reading goes: what was read, and why it stopped.
-use Rattle.std.specs.Prelude.{◌≡◌, ℕ, ◌<◌, List, ◌++◌, Option, None, Some}
-use Rattle.std.specs.Io.KnownBytes.{IsAtEnd}
+-- What an unread file answers.
+use Rattle.std.specs.Prelude.{◌≡◌, ℕ, Option, None}
 use Rattle.uno_base.specs.Causes.{Rose}
-use Rattle.uno_run.specs.declared.reading.Stop.{Stop}
-use Rattle.uno_run.specs.declared.reading.Stop.TheVariants.{End, Fault, Limit}
+use Rattle.uno_io.specs.Files.{Stored}
+use Rattle.command_words.specs.Names.{Text}
+use Rattle.uno_run.specs.Idl.{Tells}
+use Rattle.uno_run.specs.declared.status.Status.{Status}
+use Rattle.uno_run.specs.declared.status.Status.TheVariants.{ReadFault, NoFile, NoMemory}
 
--- a source that tells had these bytes at its front, and has them no more
-abbrev pub WasRead : Option (List ℕ) → Option (List ℕ) → List ℕ → Type 0
-WasRead (Some old) (Some new) bytes = old ≡ bytes ++ new
-WasRead (Some old) None bytes = ⊥
-WasRead None new bytes = ⊥
-
--- why reading stopped with so many bytes: the source ended, it failed, or the limit was reached
-abbrev pub StoppedBy : ℕ → ℕ → Option (List ℕ) → ℕ → Stop → Type 0
-StoppedBy before now left count End = (count < 65537) × (now ≡ before) × IsAtEnd left
-StoppedBy before now left count Fault = (count < 65537) × Rose before now
-StoppedBy before now left count Limit = (count ≡ 65537) × (now ≡ before)
+-- the store has no file of the name at this place of the words, it failed, or memory was wanted
+abbrev pub Unread : Option Stored → Text → (place before now : ℕ) → Status → Type 0
+Unread store name place before now (NoFile file) = (file ≡ place) × Tells store name None × (now ≡ before)
+Unread store name place before now ReadFault = Rose before now
+Unread store name place before now NoMemory = now ≡ before
+Unread store name place before now _ = ⊥

@@ -1,11 +1,13 @@
 //! The top call: what the command's words ask, over the outside that is handed in.
 #![tactic(auto)]
 
-mod answering;
+mod files;
 mod idl;
 mod lines;
-mod reading;
+mod own;
 mod reason;
+mod serving;
+mod setting_up;
 mod status;
 #[cfg(test)]
 mod tests;

@@ -1,14 +1,15 @@
 //! The line on `errors` that says how a run ended.
 ghost use Rattle.std.specs.Prelude.{◌≡◌, ◌≢◌, ◌⊎◌, ℕ, List, [], ◌∷◌, ◌++◌, IfOk, codes, map, string_bytes, true, false};
 ghost use Rattle.std.specs.Fmt.{decimal};
-ghost use Rattle.uno_run.specs.Lines.{file_at, has_own_line, line_of, name_of, reason_of, Printed};
+ghost use Rattle.uno_run.specs.Lines.{file_at, has_own_line, line_of, line_reason, name_of, reason_of, Printed};
 ghost use Rattle.uno_run.specs.declared.reason.RegistryReason.TheVariants.{Rule};
 
 use crate::{RegistryReason, Status};
+use plan_model::LineReason;
 use std::alloc::Global;
 use uno_base::NoMemory;
 use uno_io::{Sink, write_all};
-use urp_message::first::Refusal;
+use urp_model::Reason;
 
 /// Writes the line of a status where the words name these files, and answers the status. Where memory is wanted for the line, that is the
 /// status.
@@ -49,6 +50,7 @@ fn has_own_line(status: Status) -> bool
 {
     match status {
         Status::BadRegistry { .. } => true,
+        Status::BadPlan { .. } => true,
         Status::Broken(..) => true,
         Status::NoFile(_) => true,
         _ => false,
@@ -65,8 +67,11 @@ fn plain_line(status: Status) -> &'static str
         Status::Words => "uno: words\n",
         Status::ReadFault => "uno: read fault\n",
         Status::WriteFault => "uno: write fault\n",
+        Status::Cut => "uno: cut\n",
+        Status::Full => "uno: full\n",
         Status::NoMemory => "uno: no memory\n",
         Status::BadRegistry { .. } => unreachable!(),
+        Status::BadPlan { .. } => unreachable!(),
         Status::Broken(..) => unreachable!(),
         Status::NoFile(_) => unreachable!(),
     }
@@ -80,6 +85,9 @@ fn own_line(alloc: Global, files: &[&str], status: Status) -> Result<String, NoM
     match status {
         Status::BadRegistry { file, line, reason } => {
             registry_line(alloc, file_at(files, file), line, reason)
+        }
+        Status::BadPlan { file, line, reason } => {
+            plan_line(alloc, file_at(files, file), line, reason)
         }
         Status::Broken(reason, place) => broken_line(alloc, reason, place),
         Status::NoFile(file) => no_file_line(alloc, file_at(files, file)),
@@ -128,8 +136,31 @@ fn plain_reason(reason: RegistryReason) -> &'static str
     }
 }
 
+/// The line of a refused plan.
+fn plan_line(alloc: Global, name: &str, line: u32, reason: LineReason) -> Result<String, NoMemory>
+    ensures { IfOk result (λ text. string_bytes text ≡ name.now ++ (codes ":" ++ (decimal line ++ (codes ": " ++ (line_reason reason ++ 10 ∷ []))))) }
+{
+    let reason = line_reason(reason);
+    let text = format!(in alloc; "{name}:{line}: {reason}\n")?;
+    Ok(text)
+}
+
+/// The name of a line's reason.
+fn line_reason(reason: LineReason) -> &'static str
+    ensures { result.now ≡ line_reason reason }
+{
+    match reason {
+        LineReason::Form => "Form",
+        LineReason::Unknown => "Unknown",
+        LineReason::Twice => "Twice",
+        LineReason::Misfit => "Misfit",
+        LineReason::Limit => "Limit",
+        LineReason::Open => "Open",
+    }
+}
+
 /// The line of a broken bridge.
-fn broken_line(alloc: Global, reason: Refusal, place: u64) -> Result<String, NoMemory>
+fn broken_line(alloc: Global, reason: Reason, place: u64) -> Result<String, NoMemory>
     ensures { IfOk result (λ line. string_bytes line ≡ codes "uno: broken " ++ (name_of reason ++ (codes " at " ++ (decimal place ++ 10 ∷ [])))) }
 {
     let name = reason_name(reason);
@@ -146,10 +177,35 @@ fn no_file_line(alloc: Global, name: &str) -> Result<String, NoMemory>
 }
 
 /// A reason's name.
-fn reason_name(reason: Refusal) -> &'static str
+fn reason_name(reason: Reason) -> &'static str
     ensures { result.now ≡ name_of reason }
 {
     match reason {
-        Refusal::NotBuilt => "NotBuilt",
+        Reason::ShortMessage => "ShortMessage",
+        Reason::BadClass => "BadClass",
+        Reason::BadSlot => "BadSlot",
+        Reason::UnknownSlot => "UnknownSlot",
+        Reason::LongName => "LongName",
+        Reason::BadText => "BadText",
+        Reason::UnknownType => "UnknownType",
+        Reason::BadBoolean => "BadBoolean",
+        Reason::BadAny => "BadAny",
+        Reason::Deep => "Deep",
+        Reason::BadFlags => "BadFlags",
+        Reason::NoLast => "NoLast",
+        Reason::NotInterface => "NotInterface",
+        Reason::UnknownFunction => "UnknownFunction",
+        Reason::Acquire => "Acquire",
+        Reason::OneWay => "OneWay",
+        Reason::NobodyWaits => "NobodyWaits",
+        Reason::BadException => "BadException",
+        Reason::Unowed => "Unowed",
+        Reason::UnknownOid => "UnknownOid",
+        Reason::BusyThread => "BusyThread",
+        Reason::UnknownThread => "UnknownThread",
+        Reason::WrongInterface => "WrongInterface",
+        Reason::TooLarge => "TooLarge",
+        Reason::NoMessages => "NoMessages",
+        Reason::LeftOver => "LeftOver",
     }
 }

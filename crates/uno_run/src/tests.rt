@@ -1,16 +1,22 @@
-//! Each status of `idl`, over files and streams in memory.
-use crate::Status::{BadRegistry, Done, NoFile, ReadFault, Words, WriteFault};
+//! Each status of `idl`, and which of two files `answer` tells, over files and streams in memory.
+use crate::Status::{BadPlan, BadRegistry, Done, NoFile, ReadFault, Words, WriteFault};
 use crate::{RegistryReason, Status, run};
+use plan_model::LineReason;
 use std::alloc::Global;
 use std::process::Abort;
 use uno_base::NoMemory;
 use uno_io::{MemFile, MemFiles, MemSink, MemSource};
-use urp_message::Tag;
+use uno_types::Tag;
 
 /// A constant group, and its canonical UNOIDL.
 const GROUP: &str = "unoreg 1\nconstants demo.Limits\nconst LEAST -1 long\nend\n";
 
 const UNOIDL: &str = "module demo { constants Limits { const long LEAST = - 1 ; } ; } ;\n";
+
+/// A plan without objects, and one whose second line names no behaviour.
+const PLAN: &str = "unoplan 1\n";
+
+const BAD_PLAN: &str = "unoplan 1\nexport \"x\" Nobody\n";
 
 #[derive(Clone, Copy)]
 struct Row {
@@ -72,12 +78,19 @@ fn owned(alloc: Global, words: &[&str]) -> Result<Vec<String>, NoMemory> {
     Ok(all)
 }
 
-/// The file `x.reg` with these bytes.
+fn file(alloc: Global, name: &str, bytes: &[u8]) -> Result<MemFile, NoMemory> {
+    let name = String::from_str(alloc, name)?;
+    let bytes = Vec::from_slice(alloc, bytes)?;
+    Ok(MemFile { name, bytes })
+}
+
+/// The file `x.reg` with these bytes, and beside it `bad.reg`, `p.plan` and `bad.plan`.
 fn files_of(alloc: Global, bytes: &[u8], failing: &[u64]) -> Result<MemFiles, NoMemory> {
     let mut files = Vec::new(alloc);
-    let name = String::from_str(alloc, "x.reg")?;
-    let bytes = Vec::from_slice(alloc, bytes)?;
-    files.push(MemFile { name, bytes })?;
+    files.push(file(alloc, "x.reg", bytes)?)?;
+    files.push(file(alloc, "bad.reg", b"unoreg 2\n")?)?;
+    files.push(file(alloc, "p.plan", PLAN.as_bytes())?)?;
+    files.push(file(alloc, "bad.plan", BAD_PLAN.as_bytes())?)?;
     let failing = Vec::from_slice(alloc, failing)?;
     Ok(MemFiles::new(alloc, files, failing))
 }
@@ -207,6 +220,80 @@ fn texts_are_refused_with_line_and_reason(rt: HostRuntime) {
             RegistryReason::Rule(9),
             "x.reg:4: Rule 9\n",
         ),
+    ];
+    for row in &rows {
+        judge(&rt, rt.alloc(), row);
+    }
+}
+
+/// A run of `answer` on these two files that ends so.
+fn told(
+    words: &'static [&'static str],
+    reads: &'static [u64],
+    status: Status,
+    line: &'static str,
+) -> Row {
+    ended(words, reads, &[], status, b"", line)
+}
+
+#[test]
+fn the_first_file_that_is_refused_is_told(rt: HostRuntime) {
+    let bad = BadRegistry {
+        file: 0,
+        line: 1,
+        reason: RegistryReason::BadLine,
+    };
+    let bad_plan = BadPlan {
+        file: 1,
+        line: 2,
+        reason: LineReason::Unknown,
+    };
+    let rows = [
+        told(&["answer", "x.reg", "p.plan"], &[], Done, ""),
+        told(&["answer", "--", "x.reg", "p.plan"], &[], Done, ""),
+        told(
+            &["answer", "bad.reg", "bad.plan"],
+            &[],
+            bad,
+            "bad.reg:1: BadLine\n",
+        ),
+        told(
+            &["answer", "bad.reg", "none"],
+            &[],
+            bad,
+            "bad.reg:1: BadLine\n",
+        ),
+        told(
+            &["answer", "x.reg", "bad.plan"],
+            &[],
+            bad_plan,
+            "bad.plan:2: Unknown\n",
+        ),
+        told(
+            &["answer", "none", "bad.plan"],
+            &[],
+            NoFile(0),
+            "uno: no file none\n",
+        ),
+        told(
+            &["answer", "x.reg", "none"],
+            &[],
+            NoFile(1),
+            "uno: no file none\n",
+        ),
+        told(
+            &["answer", "x.reg", "bad.plan"],
+            &[0],
+            ReadFault,
+            "uno: read fault\n",
+        ),
+        told(
+            &["answer", "x.reg", "p.plan"],
+            &[1],
+            ReadFault,
+            "uno: read fault\n",
+        ),
+        told(&["answer", "x.reg"], &[], Words, "uno: words\n"),
     ];
     for row in &rows {
         judge(&rt, rt.alloc(), row);

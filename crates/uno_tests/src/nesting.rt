@@ -19,7 +19,7 @@ const NESTED: &[u8] =
 /// Such a call with so many anys in one another, each in a `[]any`; the innermost `[]any` is empty.
 fn nested(alloc: Global, anys: usize) -> Result<Vec<u8>, NoMemory> {
     let inner = b"\x01\x14\0\x01".repeat(alloc, anys.saturating_sub(1))?;
-    joined(alloc, &[NESTED, inner.as_slice(), b"\0"], 0)
+    joined(alloc, &[NESTED, inner.as_slice(), b"\0"])
 }
 
 /// Why a new listener does not read a call with so many anys, if it does not.

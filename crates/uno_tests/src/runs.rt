@@ -5,21 +5,15 @@ use crate::talk::{ASK, CALL, DOUBLE, OBJECT};
 use std::alloc::Global;
 use std::process::Abort;
 use uno_base::NoMemory;
-use uno_io::{MemFiles, MemSink, MemSource, Source};
-use uno_run::Status::{Broken, Done, ReadFault, Words, WriteFault};
+use uno_io::{MemFile, MemFiles, MemSink, MemSource, Source};
+use uno_run::Status::{Broken, Cut, Done, Full, ReadFault, Words, WriteFault};
 use uno_run::{Status, run};
-use urp_message::Tag;
-use urp_message::first::Refusal::NotBuilt;
+use urp_message::{Reason, Tag};
 
-/// The call in a block that says two messages.
-const TWO: &[u8] =
-    b"\x00\x00\x00\x0F\x00\x00\x00\x02\xF0\x03\x16\x00\x01\x03S;1\x00\x01\x00\x00\x00\x15";
+/// A call of `twice(1)` with a short header, and its answer.
+const SHORT: &[u8] = b"\x00\x00\x00\x05\x00\x00\x00\x01\x03\x00\x00\x00\x01";
 
-/// The first bytes of the call.
-const FRONT: &[u8] = b"\x00\x00\x00\x0F\x00";
-
-/// A call with a short header.
-const OTHER: &[u8] = b"\x00\x00\x00\x05\x00\x00\x00\x01\x03\x00\x00\x00\x01";
+const DOUBLE_SHORT: &[u8] = b"\x00\x00\x00\x05\x00\x00\x00\x01\x80\x00\x00\x00\x02";
 
 /// The query and the call, and the answers to both.
 const TALK: &[&[u8]] = &[ASK, CALL];
@@ -38,73 +32,60 @@ const CALL_GREATEST: &[u8] =
 
 const TWICE_GREATEST: &[u8] = b"\x00\x00\x00\x05\x00\x00\x00\x01\x80\x7F\xFF\xFF\xFE";
 
-/// The calls with the numbers above and below those whose double is a long, and one of another end's object.
-const CALL_ABOVE: &[u8] =
-    b"\x00\x00\x00\x0F\x00\x00\x00\x01\xF0\x03\x16\x00\x01\x03S;1\x00\x01\x40\x00\x00\x00";
-
-const CALL_BELOW: &[u8] =
-    b"\x00\x00\x00\x0F\x00\x00\x00\x01\xF0\x03\x16\x00\x01\x03S;1\x00\x01\xBF\xFF\xFF\xFF";
-
-const CALL_OTHER: &[u8] =
-    b"\x00\x00\x00\x0F\x00\x00\x00\x01\xF0\x03\x16\x00\x01\x03R;1\x00\x01\x00\x00\x00\x15";
-
 /// Those behind the query, and the answers.
 const NUMBERS: &[&[u8]] = &[ASK, CALL_MINUS_1, CALL_GREATEST];
 
 const ANSWERS: &[&[u8]] = &[OBJECT, MINUS_2, TWICE_GREATEST];
 
-/// What stands in a query before the length byte of its TID, and behind the TID.
-const QUERY: &[u8] = b"\xF8\x00\x96\x00\x00\x1Bcom.sun.star.uno.XInterface\x04echo\x00\x00";
+/// The registry, the plan and the peer of the front page: a counter is asked for and called by `add(20)` and `add(22)`; and what it answers.
+const COUNTER_TYPES: &str =
+    "unoreg 1\ninterface demo.XCount\nbase com.sun.star.uno.XInterface\nmethod add long\nparam in a long\nend\n";
 
-const ECHO: &[u8] = b"\x00\x00\x96\x00\x01\x0Ademo.XEcho";
+const COUNTER_PLAN: &str = "unoplan 1
+behaviour Counter demo.XCount
+field sum long
+method demo.XCount add
+set $.sum = add($.sum,$a)
+return $.sum
+end
+end
+export \"counter\" Counter
+";
 
-/// Queries with TIDs of 254, 255 and no bytes; the first is answered.
-const ASK_254: &[&[u8]] = &[
-    b"\0\0\x01\x37\0\0\0\x01",
-    QUERY,
-    b"\xFE",
-    &[b'T'; 254],
-    ECHO,
+const COUNTED: &[&[u8]] = &[
+    b"\0\0\0\x3E\0\0\0\x01\xF8\0\x96\0\0\x1Bcom.sun.star.uno.XInterface\x07counter\0\0\x01T\0\0\x96\0\x01\x0Bdemo.XCount",
+    b"\0\0\0\x0F\0\0\0\x01\xF0\x03\x16\0\x01\x03S;1\0\x01\0\0\0\x14",
+    b"\0\0\0\x05\0\0\0\x01\x03\0\0\0\x16",
 ];
 
-const OBJECT_254: &[&[u8]] = &[
-    b"\0\0\x01\x16\0\0\0\x01\x88\xFE",
-    &[b'T'; 254],
-    b"\0\0\x96\0\0\x0Ademo.XEcho\x03S;1\0\0",
+const COUNTS: &[&[u8]] = &[
+    b"\0\0\0\x1A\0\0\0\x01\x88\x01T\0\0\x96\0\0\x0Bdemo.XCount\x03S;1\0\0",
+    b"\0\0\0\x05\0\0\0\x01\x80\0\0\0\x14",
+    b"\0\0\0\x05\0\0\0\x01\x80\0\0\0\x2A",
 ];
 
-const ASK_255: &[&[u8]] = &[
-    b"\0\0\x01\x38\0\0\0\x01",
-    QUERY,
-    b"\xFF",
-    &[b'T'; 255],
-    ECHO,
-];
+/// A call of a function that the interface has not.
+const NO_FUNCTION: &[u8] = b"\x00\x00\x00\x01\x00\x00\x00\x01\x3F";
 
-const ASK_0: &[&[u8]] = &[b"\0\0\0\x39\0\0\0\x01", QUERY, b"\0", ECHO];
+/// A block of which the first message breaks the protocol, but which is not whole.
+const NO_FUNCTION_CUT: &[u8] = b"\x00\x00\x00\x02\x00\x00\x00\x01\x3F";
 
-/// The query without its last byte and with one more, and so the call.
-const SHORT_ASK: &[&[u8]] = &[
-    b"\0\0\0\x39\0\0\0\x01",
-    QUERY,
-    b"\x01T\0\0\x96\0\x01\x0Ademo.XEch",
-];
+/// The headers of a block without messages, and of one that is too large.
+const NO_MESSAGES: &[u8] = b"\x00\x00\x00\x00\x00\x00\x00\x00";
 
-const LONG_ASK: &[&[u8]] = &[b"\0\0\0\x3B\0\0\0\x01", QUERY, b"\x01T", ECHO, b"o"];
+const TOO_LARGE: &[u8] = b"\x01\x00\x00\x01\x00\x00\x00\x01";
 
-const SHORT_CALL: &[u8] =
-    b"\x00\x00\x00\x0E\x00\x00\x00\x01\xF0\x03\x16\x00\x01\x03S;1\x00\x01\x00\x00\x00";
+/// A message that ends in its header.
+const SHORT_HEADER: &[u8] = b"\x00\x00\x00\x01\x00\x00\x00\x01\xC0";
 
-const LONG_CALL: &[u8] =
-    b"\x00\x00\x00\x10\x00\x00\x00\x01\xF0\x03\x16\x00\x01\x03S;1\x00\x01\x00\x00\x00\x15\x00";
+/// The first bytes of the call.
+const FRONT: &[u8] = b"\x00\x00\x00\x0F\x00";
 
 /// A run of the end with the tag `S`: its words, what it reads, and what fails; what it writes, how it ends, and what it says of that.
 #[derive(Clone, Copy)]
 struct Row {
     words: &'static [&'static str],
     input: &'static [&'static [u8]],
-    /// The length up to which zeroes stand behind the input.
-    length: usize,
     /// The sizes of the pieces that are read.
     sizes: &'static [usize],
     /// The reads, the writes of the output, and the writes of the line that fail.
@@ -120,7 +101,6 @@ struct Row {
 const EMPTY: Row = Row {
     words: &["answer"],
     input: &[],
-    length: 0,
     sizes: &[],
     failing: [&[], &[], &[]],
     output: &[],
@@ -129,34 +109,17 @@ const EMPTY: Row = Row {
     left: 0,
 };
 
-/// A run that breaks at the first byte.
-const BROKEN: Row = Row {
-    status: Broken(NotBuilt, 0),
-    line: "uno: broken NotBuilt at 0\n",
-    ..EMPTY
-};
-
 /// A run that breaks behind the query.
-const AT_66: Row = Row {
+const BROKEN: Row = Row {
     output: &[OBJECT],
-    status: Broken(NotBuilt, 66),
-    line: "uno: broken NotBuilt at 66\n",
     ..EMPTY
 };
 
-/// A run that breaks behind the query and the call.
-const AT_89: Row = Row {
-    output: BOTH,
-    status: Broken(NotBuilt, 89),
-    line: "uno: broken NotBuilt at 89\n",
-    ..EMPTY
-};
-
-/// A run over what is too long.
-const TOO_LONG: Row = Row {
-    input: TALK,
-    status: Broken(NotBuilt, 65_536),
-    line: "uno: broken NotBuilt at 65536\n",
+/// A run of which the input is cut.
+const IS_CUT: Row = Row {
+    output: &[OBJECT],
+    status: Cut,
+    line: "uno: cut\n",
     ..EMPTY
 };
 
@@ -202,47 +165,81 @@ const ANSWERED: &[Row] = &[
         ..EMPTY
     },
     Row {
-        input: ASK_254,
-        output: OBJECT_254,
+        input: &[ASK, CALL, SHORT],
+        output: &[OBJECT, DOUBLE, DOUBLE_SHORT],
+        ..EMPTY
+    },
+    Row {
+        words: &["answer", "counter.reg", "counter.plan"],
+        input: COUNTED,
+        output: COUNTS,
         ..EMPTY
     },
     EMPTY,
 ];
 
-/// What may not come first breaks at the first byte.
-const NOT_FIRST: &[&[&[u8]]] = &[&[CALL, ASK], ASK_255, ASK_0, SHORT_ASK, LONG_ASK];
-
-/// What may not come behind the query breaks there.
-const NOT_NEXT: &[&[&[u8]]] = &[
-    &[ASK, ASK],
-    &[ASK, TWO],
-    &[ASK, FRONT],
-    &[ASK, SHORT_CALL],
-    &[ASK, LONG_CALL],
-    &[ASK, CALL_ABOVE],
-    &[ASK, CALL_BELOW],
-    &[ASK, CALL_OTHER],
+/// What breaks the protocol does so with its reason, at its place.
+const BREAKS: &[Row] = &[
+    Row {
+        input: &[SHORT],
+        output: &[],
+        status: Broken(Reason::NoLast, 8),
+        line: "uno: broken NoLast at 8\n",
+        ..BROKEN
+    },
+    Row {
+        input: &[NO_MESSAGES],
+        output: &[],
+        status: Broken(Reason::NoMessages, 0),
+        line: "uno: broken NoMessages at 0\n",
+        ..BROKEN
+    },
+    Row {
+        input: &[ASK, NO_FUNCTION, CALL],
+        status: Broken(Reason::UnknownFunction, 74),
+        line: "uno: broken UnknownFunction at 74\n",
+        ..BROKEN
+    },
+    Row {
+        input: &[ASK, NO_FUNCTION],
+        sizes: &[1],
+        status: Broken(Reason::UnknownFunction, 74),
+        line: "uno: broken UnknownFunction at 74\n",
+        ..BROKEN
+    },
+    Row {
+        input: &[ASK, TOO_LARGE],
+        status: Broken(Reason::TooLarge, 66),
+        line: "uno: broken TooLarge at 66\n",
+        ..BROKEN
+    },
+    Row {
+        input: &[ASK, SHORT_HEADER],
+        status: Broken(Reason::ShortMessage, 74),
+        line: "uno: broken ShortMessage at 74\n",
+        ..BROKEN
+    },
 ];
 
-/// What may not come behind the call breaks there, and what is too long is not answered.
-const NOT_LAST: &[Row] = &[
+/// An input that ends inside a block is cut.
+const CUTS: &[Row] = &[
     Row {
-        input: &[ASK, CALL, OTHER],
-        ..AT_89
+        input: &[ASK, FRONT],
+        ..IS_CUT
     },
     Row {
-        input: TALK,
-        length: 65_536,
-        ..AT_89
+        input: &[ASK, FRONT],
+        sizes: &[1],
+        ..IS_CUT
     },
     Row {
-        length: 65_537,
-        ..TOO_LONG
+        input: &[ASK, NO_FUNCTION_CUT],
+        ..IS_CUT
     },
     Row {
-        length: 70_000,
-        left: 100,
-        ..TOO_LONG
+        input: &[FRONT],
+        output: &[],
+        ..IS_CUT
     },
 ];
 
@@ -275,10 +272,10 @@ const HINDERED: &[Row] = &[
         ..EMPTY
     },
     Row {
-        input: &[ASK, OTHER],
+        input: &[ASK, NO_FUNCTION],
         failing: [&[], &[], &[0]],
-        line: "",
-        ..AT_66
+        status: Broken(Reason::UnknownFunction, 74),
+        ..BROKEN
     },
     Row {
         words: &[],
@@ -294,14 +291,11 @@ const HINDERED: &[Row] = &[
     },
 ];
 
-/// The pieces, one behind the other, and zeroes up to a length.
-pub(crate) fn joined(alloc: Global, pieces: &[&[u8]], length: usize) -> Result<Vec<u8>, NoMemory> {
+/// The pieces, one behind the other.
+pub(crate) fn joined(alloc: Global, pieces: &[&[u8]]) -> Result<Vec<u8>, NoMemory> {
     let mut all = Vec::new(alloc);
     for piece in pieces {
         all.extend_from_slice(piece)?;
-    }
-    if all.len() < length {
-        all.resize(length, 0)?;
     }
     Ok(all)
 }
@@ -338,18 +332,32 @@ fn tag_of(alloc: Global) -> Result<Tag, NoMemory> {
     }
 }
 
+/// The files of the front page.
+fn files_of(alloc: Global) -> Result<MemFiles, NoMemory> {
+    let mut files = Vec::new(alloc);
+    files.push(file(alloc, "counter.reg", COUNTER_TYPES)?)?;
+    files.push(file(alloc, "counter.plan", COUNTER_PLAN)?)?;
+    Ok(MemFiles::new(alloc, files, Vec::new(alloc)))
+}
+
+fn file(alloc: Global, name: &str, text: &str) -> Result<MemFile, NoMemory> {
+    let name = String::from_str(alloc, name)?;
+    let bytes = Vec::from_slice(alloc, text.as_bytes())?;
+    Ok(MemFile { name, bytes })
+}
+
 /// Whether a run does what the row says.
 fn goes(
     alloc: Global,
     row: &Row,
     words: &[String],
     tag: &Tag,
+    files: &mut MemFiles,
     input: &mut MemSource,
     output: &mut MemSink,
     errors: &mut MemSink,
 ) -> bool {
-    let mut files = MemFiles::new(alloc, Vec::new(alloc), Vec::new(alloc));
-    let status = run(&(), alloc, words, tag, &mut files, input, output, errors);
+    let status = run(&(), alloc, words, tag, files, input, output, errors);
     if status != row.status || errors.as_bytes() != row.line.as_bytes() {
         return false;
     }
@@ -360,20 +368,23 @@ fn goes(
 /// Whether the run of a row at the end with that tag does what the row says.
 fn is_right(rt: &impl Abort, alloc: Global, tag: &Tag, row: &Row) -> bool {
     let [reads, writes, lines] = row.failing;
-    let bytes = made(rt, joined(alloc, row.input, row.length));
+    let bytes = made(rt, joined(alloc, row.input));
     let mut input = made(rt, source_of(alloc, bytes, row.sizes, reads));
     let mut output = made(rt, sink_of(alloc, writes));
     let mut errors = made(rt, sink_of(alloc, lines));
     let words = made(rt, owned(alloc, row.words));
+    let mut files = made(rt, files_of(alloc));
     let right = goes(
         alloc,
         row,
         &words,
         tag,
+        &mut files,
         &mut input,
         &mut output,
         &mut errors,
     );
+    drop(files);
     drop(words);
     drop(errors);
     drop(output);
@@ -388,42 +399,12 @@ fn judge_all(rt: &impl Abort, alloc: Global, tag: &Tag, what: &str, rows: &[Row]
     }
 }
 
-/// Sees that runs over these inputs end alike.
-fn judge_alike(
-    rt: &impl Abort,
-    alloc: Global,
-    tag: &Tag,
-    what: &str,
-    row: &Row,
-    inputs: &[&'static [&'static [u8]]],
-) {
-    for (number, input) in inputs.iter().enumerate() {
-        let row = Row { input, ..*row };
-        assert!(rt; is_right(rt, alloc, tag, &row), "{what} at {number}");
-    }
-}
-
 #[test]
-fn talks_are_answered_in_any_pieces_or_break_at_their_places(rt: HostRuntime) {
+fn what_comes_is_answered_in_any_pieces_or_ends_the_run_in_its_way(rt: HostRuntime) {
     let tag = made(&rt, tag_of(rt.alloc()));
     judge_all(&rt, rt.alloc(), &tag, "what is answered", ANSWERED);
-    judge_alike(
-        &rt,
-        rt.alloc(),
-        &tag,
-        "what may not come first",
-        &BROKEN,
-        NOT_FIRST,
-    );
-    judge_alike(
-        &rt,
-        rt.alloc(),
-        &tag,
-        "what may not come next",
-        &AT_66,
-        NOT_NEXT,
-    );
-    judge_all(&rt, rt.alloc(), &tag, "what may not come last", NOT_LAST);
+    judge_all(&rt, rt.alloc(), &tag, "what breaks", BREAKS);
+    judge_all(&rt, rt.alloc(), &tag, "what is cut", CUTS);
     judge_all(&rt, rt.alloc(), &tag, "faults and other words", HINDERED);
     drop(tag);
 }
@@ -433,7 +414,9 @@ const CODES: &[(Status, u8)] = &[
     (Words, 1),
     (ReadFault, 4),
     (WriteFault, 5),
-    (Broken(NotBuilt, 0), 6),
+    (Broken(Reason::Deep, 0), 6),
+    (Cut, 7),
+    (Full, 8),
     (Status::NoMemory, 70),
 ];
 

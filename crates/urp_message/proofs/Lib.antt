@@ -1,5 +1,3 @@
-pub mod AnswerLaws
-pub mod FirstLaws
 pub mod ListeningLemmas
 pub mod ParamLemmas
 pub mod RaisedLemmas

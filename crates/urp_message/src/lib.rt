@@ -3,7 +3,6 @@
 
 mod error;
 mod expects;
-pub mod first;
 mod flags;
 mod listener;
 mod message;

@@ -1,4 +1,3 @@
-use Rattle.std.proofs.Common.{◌∙◌, sym}
 use Rattle.plan_types.specs.Frames.{job_of}
 use Rattle.bridge_endpoint.specs.Journals.{setting_at, side_at}
 use Rattle.answering.proofs.JobLaws.{asked_ready}

@@ -1,4 +1,4 @@
-use Rattle.std.proofs.Common.{◌≡◌, ◌∙◌, sym, subst, Ok, map}
+use Rattle.std.proofs.Common.{◌∙◌, sym, subst, Ok, map}
 use Rattle.behaviour.specs.Roots.{run_of}
 use Rattle.answering.specs.Ends.{AppliesFirst, MovesFirst}
 use Rattle.answering.proofs.FirstLaws.{did_method, did_object, did_root, drained_first, past_roots}

@@ -1,4 +1,4 @@
-use Rattle.std.proofs.Common.{◌≡◌, ◌∙◌, sym, ap, subst, vec_len, length, arith}
+use Rattle.std.proofs.Common.{◌≡◌, subst, vec_len, length, arith}
 use Rattle.std.proofs.lemmas.Result.{err_from_is_err_and}
 use Rattle.std.specs.Io.KnownBytes.{Appends}
 use Rattle.uno_io.specs.Fronts.{AppendsFront}

@@ -1,7 +1,7 @@
 use Rattle.std.proofs.Common.{◌∙◌, sym, subst, map}
 use Rattle.std.proofs.lemmas.Result.{err_from_is_err_and}
 use Rattle.behaviour.specs.Roots.{run_of}
-use Rattle.bridge_endpoint.specs.Journals.{setting_at, told_at}
+use Rattle.bridge_endpoint.specs.Journals.{told_at}
 use Rattle.answering.specs.Turning.{AreRoots}
 use Rattle.answering.proofs.EndLaws.{goes_with_roots}
 use Rattle.answering.proofs.PieceLaws.{answered_further, answered_on, answering_halts, no_cause, up_by}

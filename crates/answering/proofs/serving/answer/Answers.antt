@@ -1,5 +1,5 @@
 use Rattle.bridge_endpoint.specs.Journals.{setting_at}
-use Rattle.std.proofs.Common.{Ok, Err}
+use Rattle.std.proofs.Common.{Ok}
 use Rattle.answering.specs.declared.stopped.Halted.TheVariants as halted
 use Rattle.answering.proofs.StoppedLaws.{bridge_at, fault_at, input_at, part_at}
 use Rattle.answering.proofs.serving.answer.Goals as goal

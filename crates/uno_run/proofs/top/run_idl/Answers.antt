@@ -1,5 +1,5 @@
 use Rattle.uno_run.proofs.IdlRuns.{kept_run}
-use Rattle.uno_run.proofs.Obeying.{kept_words}
+use Rattle.uno_run.proofs.Keeping.{kept_words}
 use Rattle.uno_run.proofs.top.run_idl.Goals as goal
 
 pub returns-clause-run : goal.returns-clause-run

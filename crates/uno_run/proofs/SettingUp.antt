@@ -1,0 +1,84 @@
+-- The setting of two texts, and what follows of a run that has it or has none.
+use Rattle.std.proofs.Common.{◌≡◌, ℕ, List, Option, Some, Ok, sym, ap, subst, ◌∙◌, inl, inr}
+use Rattle.uno_io.specs.Files.{Stored}
+use Rattle.uno_model.specs.Entities.{Entity}
+use Rattle.bridge_model.specs.Settings.{Setting}
+use Rattle.command_words.specs.Names.{Text}
+use Rattle.plan_reading_model.specs.TextReading.{verdict}
+use Rattle.registry_reading.specs.Verdicts.{IsAccepted}
+use Rattle.uno_run.specs.Answer.{IsOf}
+use Rattle.uno_run.specs.Idl.{Tells}
+use Rattle.uno_run.specs.Reading.{Unread}
+use Rattle.uno_run.specs.SettingUp.{IsOfFile, IsOfFiles, NotSetUp, RefusedRegistry, RefusedText}
+use Rattle.uno_run.specs.declared.status.Status.{Status}
+use Rattle.uno_run.specs.declared.status.Status.TheVariants.{Done, Words, BadRegistry, BadPlan, ReadFault, WriteFault, Broken, Cut, Full, NoFile, NoMemory}
+
+pub is_of : (types plan tag : List ℕ) (registry : List Entity) (g : Setting) → IsAccepted types registry → g.tag ≡ tag → g.registry ≡ registry → verdict registry plan ≡ Ok g.plan
+    → IsOf types plan tag g
+is_of types plan tag registry g accepted tagged same read = record { accepted = subst (IsAccepted types) (sym same) accepted; read = ap (λ r. verdict r plan) same ∙ read; tagged = tagged }
+
+-- ---- the first file
+
+-- it was not read
+pub unread_types : (store : Option Stored) (types plan : Text) (before now : ℕ) (status : Status) → Unread store types 0 before now status → NotSetUp store types plan before now status
+unread_types store types plan before now Done u = absurd u
+unread_types store types plan before now Words u = absurd u
+unread_types store types plan before now (BadRegistry file line reason) u = absurd u
+unread_types store types plan before now (BadPlan file line reason) u = absurd u
+unread_types store types plan before now ReadFault u = u
+unread_types store types plan before now WriteFault u = absurd u
+unread_types store types plan before now (Broken reason place) u = absurd u
+unread_types store types plan before now Cut u = absurd u
+unread_types store types plan before now Full u = absurd u
+unread_types store types plan before now (NoFile file) u = (inl (u.0, u.1), u.2)
+unread_types store types plan before now NoMemory u = u
+
+-- its text was refused
+pub refused_types : (store : Option Stored) (types plan : Text) (before now : ℕ) (text : List ℕ) (status : Status) → Tells store types (Some text) → now ≡ before
+    → RefusedRegistry text status → NotSetUp store types plan before now status
+refused_types store types plan before now text Done told same r = absurd r
+refused_types store types plan before now text Words told same r = absurd r
+refused_types store types plan before now text (BadRegistry file line reason) told same r = (r.0, record { text = text; told = told; refused = r.1 }, same)
+refused_types store types plan before now text (BadPlan file line reason) told same r = absurd r
+refused_types store types plan before now text ReadFault told same r = absurd r
+refused_types store types plan before now text WriteFault told same r = absurd r
+refused_types store types plan before now text (Broken reason place) told same r = absurd r
+refused_types store types plan before now text Cut told same r = absurd r
+refused_types store types plan before now text Full told same r = absurd r
+refused_types store types plan before now text (NoFile file) told same r = absurd r
+refused_types store types plan before now text NoMemory told same r = same
+
+-- ---- the second
+
+pub unread_plan : (store : Option Stored) (types plan : Text) (before now : ℕ) (status : Status) → Unread store plan 1 before now status → NotSetUp store types plan before now status
+unread_plan store types plan before now Done u = absurd u
+unread_plan store types plan before now Words u = absurd u
+unread_plan store types plan before now (BadRegistry file line reason) u = absurd u
+unread_plan store types plan before now (BadPlan file line reason) u = absurd u
+unread_plan store types plan before now ReadFault u = u
+unread_plan store types plan before now WriteFault u = absurd u
+unread_plan store types plan before now (Broken reason place) u = absurd u
+unread_plan store types plan before now Cut u = absurd u
+unread_plan store types plan before now Full u = absurd u
+unread_plan store types plan before now (NoFile file) u = (inr (u.0, u.1), u.2)
+unread_plan store types plan before now NoMemory u = u
+
+pub refused_plan : (store : Option Stored) (types plan : Text) (before now : ℕ) (registry : List Entity) (text : List ℕ) (status : Status) → IsOfFile store types registry
+    → Tells store plan (Some text) → now ≡ before → RefusedText registry text status → NotSetUp store types plan before now status
+refused_plan store types plan before now registry text Done first told same r = absurd r
+refused_plan store types plan before now registry text Words first told same r = absurd r
+refused_plan store types plan before now registry text (BadRegistry file line reason) first told same r = absurd r
+refused_plan store types plan before now registry text (BadPlan file line reason) first told same r =
+    (r.0, record { types_text = first.text; plan_text = text; registry = registry; types_told = first.told; accepted = first.accepted; plan_told = told; refused = r.1 }, same)
+refused_plan store types plan before now registry text ReadFault first told same r = absurd r
+refused_plan store types plan before now registry text WriteFault first told same r = absurd r
+refused_plan store types plan before now registry text (Broken reason place) first told same r = absurd r
+refused_plan store types plan before now registry text Cut first told same r = absurd r
+refused_plan store types plan before now registry text Full first told same r = absurd r
+refused_plan store types plan before now registry text (NoFile file) first told same r = absurd r
+refused_plan store types plan before now registry text NoMemory first told same r = same
+
+pub both_files : (store : Option Stored) (types plan : Text) (tag text : List ℕ) (registry : List Entity) (g : Setting) → IsOfFile store types registry → Tells store plan (Some text)
+    → ((typed : List ℕ) → IsAccepted typed registry → IsOf typed text tag g) → IsOfFiles store types plan tag g
+both_files store types plan tag text registry g first told is =
+    record { types_text = first.text; plan_text = text; types_told = first.told; plan_told = told; is_of = is first.text first.accepted }
