@@ -53,17 +53,11 @@ impl Endpoint {
             return Err(ApplyError::NoMemory);
         }
         let Done { job, effect } = done;
-        match self.state.is_current(&self.setting, &job) {
-            Ok(true) => self.apply_current(job, effect),
-            Ok(false) => {
-                drop(effect);
-                self.stale(job)
-            }
-            Err(NoMemory) => {
-                drop(effect);
-                drop(job);
-                self.out_of_memory()
-            }
+        if self.state.is_current(&self.setting, &job) {
+            self.apply_current(job, effect)
+        } else {
+            drop(effect);
+            self.stale(job)
         }
     }
 

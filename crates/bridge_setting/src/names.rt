@@ -1,9 +1,11 @@
 //! Names that an end gives: its tag, `;`, and a number.
-ghost use Rattle.std.specs.Prelude.{◌≡◌, ◌++◌, IfOk, IfSome, OnOk, not, nat_lt, ◌&&◌, length, take, string_bytes, codes, slice_get, option_map};
+ghost use Rattle.std.specs.Prelude.{◌≡◌, ◌++◌, ◌↔◌, true, IfOk, IfSome, OnOk, not, nat_lt, ◌&&◌, length, take, string_bytes, codes, slice_get, option_map};
+ghost use Rattle.std.specs.Fmt.{decimal};
 ghost use Rattle.std.specs.Option.{is_some};
 ghost use Rattle.std.specs.Str.{bytes_eq};
 ghost use Rattle.bridge_setting.specs.Naming.{name_of, AreNames};
 
+use itoa::Buffer;
 use std::alloc::Global;
 use std::marker::Model;
 use uno_base::NoMemory;
@@ -35,8 +37,8 @@ impl Names {
         ensures { IfOk result (λ names. (names.tag ≡ tag) × (names.roots ≡ roots)) }
     {
         let prefix = prefix_of(alloc, &tag)?;
-        let release = thread_named(alloc, &tag, 0)?;
-        let roots = threads_named(alloc, &tag, roots)?;
+        let release = thread_named(alloc, &prefix, 0)?;
+        let roots = threads_named(alloc, &tag, &prefix, roots)?;
         Ok(Names {
             tag,
             prefix,
@@ -73,8 +75,18 @@ impl Names {
     pub fn object(&self, alloc: Global, number: u32) -> Result<Text, NoMemory>
         ensures { IfOk result (λ oid. oid ≡ name_of self.now.tag number) }
     {
-        let name = named(alloc, &self.tag, number as u64)?;
+        let name = named(alloc, &self.prefix, number as u64)?;
         Ok(Text::from(name))
+    }
+
+    /// Whether a name is the identity of the object of a number.
+    pub fn is_object(&self, number: u32, name: &str) -> bool
+        ensures { result ≡ true ↔ name.now ≡ name_of self.now.tag number }
+    {
+        match name.strip_prefix(self.prefix.as_str()) {
+            Some(digits) => is_printed(number, digits),
+            None => false,
+        }
     }
 
     /// Whether this end gave a name.
@@ -100,32 +112,48 @@ fn prefix_of(alloc: Global, tag: &Tag) -> Result<Text, NoMemory>
     Ok(Text::from(prefix))
 }
 
-/// The name of a number.
-fn named(alloc: Global, tag: &Tag, number: u64) -> Result<String, NoMemory>
-    ensures { IfOk result (λ name. string_bytes name ≡ name_of tag.now number) }
+/// Whether a number is printed so.
+fn is_printed(number: u32, digits: &str) -> bool
+    ensures { result ≡ true ↔ digits.now ≡ decimal number }
 {
-    let mut name = String::from_str(alloc, tag.as_str())?;
-    name.push_str(";")?;
-    let digits = number.to_string(alloc)?;
-    name.push_str(digits.as_str())?;
+    let mut buffer = Buffer::new();
+    buffer.format(number) == digits
+}
+
+/// The name of a number, behind the tag and `;`.
+fn named(alloc: Global, prefix: &Text, number: u64) -> Result<String, NoMemory>
+    ensures { IfOk result (λ name. string_bytes name ≡ prefix.now ++ decimal number) }
+{
+    let prefix = prefix.as_str();
+    let mut buffer = Buffer::new();
+    let digits = buffer.format(number);
+    let mut name = String::with_capacity(alloc, prefix.len().saturating_add(digits.len()))?;
+    name.push_str(prefix)?;
+    name.push_str(digits)?;
     Ok(name)
 }
 
-/// The thread of a number.
-fn thread_named(alloc: Global, tag: &Tag, number: u64) -> Result<Tid, NoMemory>
-    ensures { IfOk result (λ tid. tid ≡ name_of tag.now number) }
+/// The thread of a number, behind the tag and `;`.
+fn thread_named(alloc: Global, prefix: &Text, number: u64) -> Result<Tid, NoMemory>
+    ensures { IfOk result (λ tid. tid ≡ prefix.now ++ decimal number) }
 {
-    let name = named(alloc, tag, number)?;
+    let name = named(alloc, prefix, number)?;
     Tid::of(alloc, name.as_bytes())
 }
 
 /// The threads of so many roots, in their order.
-fn threads_named(alloc: Global, tag: &Tag, count: usize) -> Result<Vec<Tid>, NoMemory>
+fn threads_named(
+    alloc: Global,
+    tag: &Tag,
+    prefix: &Text,
+    count: usize,
+) -> Result<Vec<Tid>, NoMemory>
+    requires { prefix.now ≡ tag.now ++ codes ";" }
     ensures { IfOk result (λ tids. AreNames tag.now 1 tids.items × (length tids.items ≡ count)) }
 {
     let mut tids = Vec::new(alloc);
     for place in 0..count {
-        let tid = thread_named(alloc, tag, place as u64 + 1)?;
+        let tid = thread_named(alloc, prefix, place as u64 + 1)?;
         tids.push(tid)?;
     }
     Ok(tids)

@@ -1,6 +1,6 @@
 //! What an end of a bridge is set up with.
 ghost use Rattle.std.specs.Option.{is_some};
-ghost use Rattle.std.specs.Prelude.{◌≡◌, ◌&&◌, IfOk, IfSome, length, nat_lt, not};
+ghost use Rattle.std.specs.Prelude.{◌≡◌, ◌↔◌, ◌&&◌, true, IfOk, IfSome, length, nat_lt, not};
 ghost use Rattle.bridge_model.specs.Settings.{own_oid, root_tid, release_tid, is_own};
 ghost use Rattle.bridge_setting.specs.Settings.{setting_of};
 ghost use Rattle.plan_types.specs.Plans.{plan_of};
@@ -62,6 +62,14 @@ impl Setting {
         ensures { IfOk result (λ oid. oid ≡ own_oid (setting_of self.now) number) }
     {
         self.names.object(alloc, number)
+    }
+
+    /// Whether a name is the identity of the object of a number.
+    #[tactic(auto, unfolding(bridge_model::specs::Settings::own_oid))]
+    pub fn is_own_oid(&self, number: u32, name: &str) -> bool
+        ensures { result ≡ true ↔ name.now ≡ own_oid (setting_of self.now) number }
+    {
+        self.names.is_object(number, name)
     }
 
     /// Whether this end gave a name.

@@ -44,11 +44,10 @@ module _ (g : Setting) (tid : List ℕ) (s : Side) (b : Body) (here : top tid s.
   picked_job = ap (λ fs. job_picked g tid s (picked_in fs)) found.1
 
   -- a job is the one that would be picked where it is that of the method at the top
-  pub current_told : {E : Type 0} (r : Result Bool E) (j : Job)
-      → IfOk r (λ x. (c : Body) → (fs : List Frame) → frames_of tid s.stacks ≡ body c ∷ fs → b ≡ c → x ≡ true ↔ job_of g tid c fs s.tables ≡ j)
-      → IfOk r (λ x. x ≡ true ↔ pick g tid s ≡ Some j)
-  current_told (Err e) j told = told
-  current_told (Ok x) j told =
+  pub current_told : (x : Bool) (j : Job)
+      → ((c : Body) → (fs : List Frame) → frames_of tid s.stacks ≡ body c ∷ fs → b ≡ c → x ≡ true ↔ job_of g tid c fs s.tables ≡ j)
+      → x ≡ true ↔ pick g tid s ≡ Some j
+  current_told x j told =
       let same = told b found.0 found.1 refl in (
         λ is. picked_job ∙ ap Some (same.0 is),
         λ is. let one : ◌≡◌ {A = Option Job} (Some (job_of g tid b found.0 s.tables)) (Some j) = sym picked_job ∙ is in let jobs : job_of g tid b found.0 s.tables ≡ j = cc in same.1 jobs,

@@ -85,33 +85,32 @@ impl State {
 
     /// Whether a job is the one that would be picked.
     #[tactic(auto, unfolding(bridge_model::specs::Answers::pick, bridge_model::specs::Steps::picked, bridge_model::specs::Applying::job_of))]
-    pub fn is_current(&self, setting: &Setting, job: &Job) -> Result<bool, NoMemory>
-        ensures { IfOk result (λ b. b ≡ true ↔ pick (setting_of setting.now) job.now.tid self.now.side ≡ Some (frames.job_of job.now)) }
+    pub fn is_current(&self, setting: &Setting, job: &Job) -> bool
+        ensures { result ≡ true ↔ pick (setting_of setting.now) job.now.tid self.now.side ≡ Some (frames.job_of job.now) }
     {
         match body_in(self.stacks.top(&job.tid)) {
             Some(body) => self.is_job_of(setting, body, job),
-            None => Ok(false),
+            None => false,
         }
     }
 
     /// Whether a job is that of the method at the top of its thread.
     #[tactic(auto, unfolding(bridge_model::specs::Applying::job_of))]
-    fn is_job_of(&self, setting: &Setting, body: &Body, job: &Job) -> Result<bool, NoMemory>
-        ensures { IfOk result (λ r. (b : plain.Body) → (fs : List plain.Frame) → frames_of job.now.tid self.now.side.stacks ≡ plain.body b ∷ fs → body_of body.now ≡ b
-            → r ≡ true ↔ job_of (setting_of setting.now) job.now.tid b fs self.now.side.tables ≡ frames.job_of job.now) }
+    fn is_job_of(&self, setting: &Setting, body: &Body, job: &Job) -> bool
+        ensures { (b : plain.Body) → (fs : List plain.Frame) → frames_of job.now.tid self.now.side.stacks ≡ plain.body b ∷ fs → body_of body.now ≡ b
+            → result ≡ true ↔ job_of (setting_of setting.now) job.now.tid b fs self.now.side.tables ≡ frames.job_of job.now }
     {
         let behaviour = self.tables.behaviour_of(body.object);
         if !is_frame_of(body, &job.frame) || job.behaviour != behaviour {
-            return Ok(false);
+            return false;
         }
         if job.depth as u64 != self.stacks.depth(&job.tid) {
-            return Ok(false);
+            return false;
         }
         if !self.has_fields(setting, body.object, behaviour, &job.fields) {
-            return Ok(false);
+            return false;
         }
-        let own = setting.own_oid(self.alloc, body.object)?;
-        Ok(own.as_str() == job.own.as_str())
+        setting.is_own_oid(body.object, job.own.as_str())
     }
 
     /// Whether variables are the fields of an object of a behaviour.

@@ -150,7 +150,7 @@ impl Outgoing {
     }
 }
 
-/// The block of a message.
+/// The block of a message. The speaker stays where it is, and where there is none a new one is put there.
 fn write(
     alloc: Global,
     speaker: &mut Option<Speaker>,
@@ -162,18 +162,13 @@ fn write(
     ensures block { IfOk result (λ block. block.items ≡ spell_block 1 (message_spelling registry.now (message_of message.now) (spoken_by speaker.old))) }
     ensures after { OnOk result (spoken_by speaker.new ≡ after_message registry.now (message_of message.now) (spoken_by speaker.old)) }
 {
-    let mut speaking = speaking(alloc, speaker)?;
-    let block = speaking.write(registry, message)?;
-    *speaker = Some(speaking);
-    Ok(block)
-}
-
-/// Takes the speaker out, or makes a new one where there is none.
-fn speaking(alloc: Global, speaker: &mut Option<Speaker>) -> Result<Speaker, NoMemory>
-    ensures { IfOk result (λ s. s.spoken ≡ spoken_by speaker.old) }
-{
-    match speaker.take() {
-        Some(speaking) => Ok(speaking),
-        None => Speaker::new(alloc),
+    match speaker {
+        Some(speaking) => speaking.write(registry, message),
+        None => {
+            let mut speaking = Speaker::new(alloc)?;
+            let block = speaking.write(registry, message)?;
+            *speaker = Some(speaking);
+            Ok(block)
+        }
     }
 }

@@ -6,8 +6,8 @@ use crate::bases::{bases_in, last_of};
 use crate::own::{Sought, seek_declared};
 use uno_types::Registry;
 
-/// The function of an interface at a number, or how far the number lies past them. There is no answer where an interface has two bases that are not optional,
-/// and where the line has more levels than these.
+/// The function of an interface at a number, or how far the number lies past them. There is no answer where the interface, or one below it in the line, has two
+/// bases that are not optional, and none where the line has more levels than these.
 pub(crate) fn seek_in_line<'a>(
     registry: &'a Registry,
     name: &str,

@@ -7,10 +7,10 @@ use Rattle.bridge_endpoint.proofs.endpoint.Endpoint.apply.Goals as goal
 
 pub apply_current-requires-clause-current : goal.apply_current-requires-clause-current
 apply_current-requires-clause-current c =
-    to_now (λ g s. pick g c.args.done.job.tid s ≡ Some (job_of c.args.done.job)) c.self.invariant c.self.view_is (c.in-Ok-true.ensures.0 c.in-Ok-true.field-0-test)
+    to_now (λ g s. pick g c.args.done.job.tid s ≡ Some (job_of c.args.done.job)) c.self.invariant c.self.view_is (c.is_current.ensures.0 c.if-is_current.true)
 
 pub stale-requires-clause-stale : goal.stale-requires-clause-stale
 stale-requires-clause-stale c is =
     absurd
     (true≢false
-    (sym (c.in-Ok-false.ensures.1 (from_now (λ g s. pick g c.args.done.job.tid s ≡ Some (job_of c.args.done.job)) c.self.invariant c.self.view_is is)) ∙ c.in-Ok-false.field-0-test))
+    (sym (c.is_current.ensures.1 (from_now (λ g s. pick g c.args.done.job.tid s ≡ Some (job_of c.args.done.job)) c.self.invariant c.self.view_is is)) ∙ c.if-is_current.false))
