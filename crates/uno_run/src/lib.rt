@@ -9,8 +9,6 @@ mod reason;
 mod serving;
 mod setting_up;
 mod status;
-#[cfg(test)]
-mod tests;
 mod top;
 
 pub use lines::report;

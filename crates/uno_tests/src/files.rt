@@ -4,7 +4,7 @@ use std::alloc::Global;
 use uno_base::NoMemory;
 use uno_io::{FileError, Files, MemFile, MemFiles, StdFiles};
 
-fn file(alloc: Global, name: &str, bytes: &[u8]) -> Result<MemFile, NoMemory> {
+pub(crate) fn file(alloc: Global, name: &str, bytes: &[u8]) -> Result<MemFile, NoMemory> {
     let name = String::from_str(alloc, name)?;
     let bytes = Vec::from_slice(alloc, bytes)?;
     Ok(MemFile { name, bytes })

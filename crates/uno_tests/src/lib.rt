@@ -12,6 +12,8 @@ mod defaults;
 #[cfg(test)]
 mod entities;
 #[cfg(test)]
+mod file_runs;
+#[cfg(test)]
 mod files;
 #[cfg(test)]
 mod fitting;

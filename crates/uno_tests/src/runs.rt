@@ -1,11 +1,12 @@
 //! That a run answers where memory is ample, with the bytes of the protocol, and says how it ended.
+use crate::files::file;
 use crate::judging::{made, see_number};
 use crate::sources::source_of;
 use crate::talk::{ASK, CALL, DOUBLE, OBJECT};
 use std::alloc::Global;
 use std::process::Abort;
 use uno_base::NoMemory;
-use uno_io::{MemFile, MemFiles, MemSink, MemSource, Source};
+use uno_io::{MemFiles, MemSink, MemSource, Source};
 use uno_run::Status::{Broken, Cut, Done, Full, ReadFault, Words, WriteFault};
 use uno_run::{Status, run};
 use urp_message::{Reason, Tag};
@@ -313,11 +314,11 @@ fn are_joined(bytes: &[u8], pieces: &[&[u8]]) -> bool {
 }
 
 /// A sink of which the writes with these numbers fail.
-fn sink_of(alloc: Global, failing: &[u64]) -> Result<MemSink, NoMemory> {
+pub(crate) fn sink_of(alloc: Global, failing: &[u64]) -> Result<MemSink, NoMemory> {
     Ok(MemSink::new(alloc, Vec::from_slice(alloc, failing)?))
 }
 
-fn owned(alloc: Global, words: &[&str]) -> Result<Vec<String>, NoMemory> {
+pub(crate) fn owned(alloc: Global, words: &[&str]) -> Result<Vec<String>, NoMemory> {
     let mut all = Vec::new(alloc);
     for word in words {
         all.push(String::from_str(alloc, word)?)?;
@@ -325,7 +326,7 @@ fn owned(alloc: Global, words: &[&str]) -> Result<Vec<String>, NoMemory> {
     Ok(all)
 }
 
-fn tag_of(alloc: Global) -> Result<Tag, NoMemory> {
+pub(crate) fn tag_of(alloc: Global) -> Result<Tag, NoMemory> {
     match Tag::read(alloc, "S") {
         Ok(tag) => Ok(tag),
         Err(_) => Err(NoMemory),
@@ -335,15 +336,22 @@ fn tag_of(alloc: Global) -> Result<Tag, NoMemory> {
 /// The files of the front page.
 fn files_of(alloc: Global) -> Result<MemFiles, NoMemory> {
     let mut files = Vec::new(alloc);
-    files.push(file(alloc, "counter.reg", COUNTER_TYPES)?)?;
-    files.push(file(alloc, "counter.plan", COUNTER_PLAN)?)?;
+    files.push(file(alloc, "counter.reg", COUNTER_TYPES.as_bytes())?)?;
+    files.push(file(alloc, "counter.plan", COUNTER_PLAN.as_bytes())?)?;
     Ok(MemFiles::new(alloc, files, Vec::new(alloc)))
 }
 
-fn file(alloc: Global, name: &str, text: &str) -> Result<MemFile, NoMemory> {
-    let name = String::from_str(alloc, name)?;
-    let bytes = Vec::from_slice(alloc, text.as_bytes())?;
-    Ok(MemFile { name, bytes })
+/// How a run over files and streams in memory ends.
+pub(crate) fn status_of(
+    alloc: Global,
+    words: &[String],
+    tag: &Tag,
+    files: &mut MemFiles,
+    input: &mut MemSource,
+    output: &mut MemSink,
+    errors: &mut MemSink,
+) -> Status {
+    run(&(), alloc, words, tag, files, input, output, errors)
 }
 
 /// Whether a run does what the row says.
@@ -357,7 +365,7 @@ fn goes(
     output: &mut MemSink,
     errors: &mut MemSink,
 ) -> bool {
-    let status = run(&(), alloc, words, tag, files, input, output, errors);
+    let status = status_of(alloc, words, tag, files, input, output, errors);
     if status != row.status || errors.as_bytes() != row.line.as_bytes() {
         return false;
     }

@@ -1,12 +1,14 @@
 //! Each status of `idl`, and which of two files `answer` tells, over files and streams in memory.
-use crate::Status::{BadPlan, BadRegistry, Done, NoFile, ReadFault, Words, WriteFault};
-use crate::{RegistryReason, Status, run};
+use crate::files::file;
+use crate::judging::made;
+use crate::runs::{owned, sink_of, status_of, tag_of};
 use plan_model::LineReason;
 use std::alloc::Global;
 use std::process::Abort;
 use uno_base::NoMemory;
-use uno_io::{MemFile, MemFiles, MemSink, MemSource};
-use uno_types::Tag;
+use uno_io::{MemFiles, MemSource};
+use uno_run::Status::{BadPlan, BadRegistry, Done, NoFile, ReadFault, Words, WriteFault};
+use uno_run::{RegistryReason, Status};
 
 /// A constant group, and its canonical UNOIDL.
 const GROUP: &str = "unoreg 1\nconstants demo.Limits\nconst LEAST -1 long\nend\n";
@@ -70,20 +72,6 @@ fn ended(
 
 const IDL: &[&str] = &["idl", "x.reg"];
 
-fn owned(alloc: Global, words: &[&str]) -> Result<Vec<String>, NoMemory> {
-    let mut all = Vec::new(alloc);
-    for word in words {
-        all.push(String::from_str(alloc, word)?)?;
-    }
-    Ok(all)
-}
-
-fn file(alloc: Global, name: &str, bytes: &[u8]) -> Result<MemFile, NoMemory> {
-    let name = String::from_str(alloc, name)?;
-    let bytes = Vec::from_slice(alloc, bytes)?;
-    Ok(MemFile { name, bytes })
-}
-
 /// The file `x.reg` with these bytes, and beside it `bad.reg`, `p.plan` and `bad.plan`.
 fn files_of(alloc: Global, bytes: &[u8], failing: &[u64]) -> Result<MemFiles, NoMemory> {
     let mut files = Vec::new(alloc);
@@ -93,11 +81,6 @@ fn files_of(alloc: Global, bytes: &[u8], failing: &[u64]) -> Result<MemFiles, No
     files.push(file(alloc, "bad.plan", BAD_PLAN.as_bytes())?)?;
     let failing = Vec::from_slice(alloc, failing)?;
     Ok(MemFiles::new(alloc, files, failing))
-}
-
-fn sink_of(alloc: Global, failing: &[u64]) -> Result<MemSink, NoMemory> {
-    let failing = Vec::from_slice(alloc, failing)?;
-    Ok(MemSink::new(alloc, failing))
 }
 
 fn input_of(alloc: Global) -> MemSource {
@@ -111,18 +94,15 @@ fn goes(alloc: Global, row: &Row) -> Result<bool, NoMemory> {
 
 /// The same with these bytes in the file.
 fn goes_with(alloc: Global, row: &Row, file: &[u8]) -> Result<bool, NoMemory> {
-    let Ok(tag) = Tag::read(alloc, "S") else {
-        return Err(NoMemory);
-    };
+    let tag = tag_of(alloc)?;
     let words = owned(alloc, row.words)?;
     let mut files = files_of(alloc, file, row.reads)?;
     let mut input = input_of(alloc);
     let mut output = sink_of(alloc, row.writes)?;
     let mut errors = sink_of(alloc, &[])?;
-    let status = run(
-        &(),
+    let status = status_of(
         alloc,
-        words.as_slice(),
+        &words,
         &tag,
         &mut files,
         &mut input,
@@ -140,13 +120,6 @@ fn long_text(alloc: Global) -> Result<Vec<u8>, NoMemory> {
     let mut bytes = Vec::with_capacity(alloc, 4_194_305)?;
     bytes.resize(4_194_305, b'a')?;
     Ok(bytes)
-}
-
-fn made(rt: &impl Abort, bytes: Result<Vec<u8>, NoMemory>) -> Vec<u8> {
-    match bytes {
-        Ok(bytes) => bytes,
-        Err(_) => panic!(rt; "no memory"),
-    }
 }
 
 fn judge(rt: &impl Abort, alloc: Global, row: &Row) {
