@@ -1,0 +1,155 @@
+//! Roots of a plan, step by step, and the lines that their statements give.
+
+use crate::beginning::is_root_of;
+use crate::bytes::bytes_of;
+use crate::calls::ran;
+use crate::ends::end_of;
+use behaviour::RootRun;
+use bridge_endpoint::{Endpoint, Fed};
+use bridge_roots::{RootMoved, root_step};
+use std::alloc::Global;
+use std::process::Abort;
+use uno_base::NoMemory;
+use uno_types::Text;
+
+/// More steps than a root of these tests has.
+const MANY: u32 = 1000;
+
+/// A root that asks the peer for its node and calls it, and whose other statements are done here. It has two behaviours; `S;1` is exported.
+const TALKS: &str = "unoplan 1\n\
+    behaviour Node demo.XNode\n\
+    method demo.XNode relay\nwhen $depth == 0 return 0\n\
+    call r long = $back.relay($self,sub($depth,1))\nreturn add($r,1)\nend\n\
+    method demo.XNode turn\nreturn $n\nend\n\
+    method demo.XNode check\nwhen $a == 0 return\nraise demo.Refused {\"no\",null,7}\nend\nend\n\
+    export \"node\" Node\n\
+    thread\n\
+    ask n demo.XNode = \"node\"\n\
+    call r long = $n.relay($n,6)\n\
+    call $n.check(1)\n\
+    new o demo.XNode = Node\n\
+    call s long = $o.relay($o,3)\n\
+    call t com.sun.star.uno.XInterface = $o.turn($o)\n\
+    same $o $t\n\
+    same $o $n\n\
+    call $o.check(1)\n\
+    query q demo.XNode = $t\n\
+    query e demo.XEcho = $t\n\
+    call $e.twice(1)\n\
+    drop $t\n\
+    ask m demo.XNode = \"other\"\n\
+    call u long = $m.relay($n,1)\n\
+    dispose\n\
+    call $n.check(1)\n\
+    new p demo.XNode = Node\n\
+    same $o $n\n\
+    end\n";
+
+/// What the peer answers, one block at a time.
+const ANSWERS: &[&str] = &[
+    "0000001B 00000001 88 03 'S;1 0000 96 0000 0A 'demo.XNode 03 'C;1 0000",
+    "00000005 00000001 80 00000006",
+    "0000001B 00000001 A0 93 0001 0C 'demo.Refused 02 'no 00 FFFF 00000007",
+    "00000007 00000001 80 16 0000 00 FFFF",
+];
+
+const LINES: &[&str] = &[
+    "1.1 returned @\"C;1\"<demo.XNode>",
+    "1.2 returned 6",
+    "1.3 raised (demo.Refused){\"no\",null,7}",
+    "1.4 returned @\"S;2\"<demo.XNode>",
+    "1.5 returned 3",
+    "1.6 returned @\"S;2\"<demo.XNode>",
+    "1.7 same",
+    "1.8 different",
+    "1.9 raised (demo.Refused){\"no\",null,7}",
+    "1.10 returned @\"S;2\"<demo.XNode>",
+    "1.11 returned null",
+    "1.12 null",
+    "1.14 returned null",
+    "1.15 null",
+    "1.17 gone",
+    "1.18 gone",
+    "1.19 different",
+];
+
+/// Does what a root can do, until it waits or has finished.
+fn step_all(end: &mut Endpoint, run: &mut RootRun) -> Result<RootMoved, NoMemory> {
+    for _ in 0..MANY {
+        if !is_root_of(end, run.root) {
+            return Err(NoMemory);
+        }
+        match root_step(end, run) {
+            RootMoved::Moved => {}
+            RootMoved::NoMemory => return Err(NoMemory),
+            over => return Ok(over),
+        }
+    }
+    Err(NoMemory)
+}
+
+/// Steps the root and carries out what is ready, until neither can be done.
+fn go_on(alloc: Global, end: &mut Endpoint, run: &mut RootRun) -> Result<RootMoved, NoMemory> {
+    for _ in 0..MANY {
+        let over = step_all(end, run)?;
+        if ran(alloc, end)?.as_str() == "0" {
+            return Ok(over);
+        }
+    }
+    Err(NoMemory)
+}
+
+/// A root of a plan behind these pieces of input, and how its last step ended.
+fn run_of(alloc: Global, plan: &str, pieces: &[&str]) -> Result<(RootRun, RootMoved), NoMemory> {
+    let mut end = end_of(alloc, plan)?;
+    let ran = run_at(alloc, &mut end, pieces);
+    end.close();
+    ran
+}
+
+fn run_at(
+    alloc: Global,
+    end: &mut Endpoint,
+    pieces: &[&str],
+) -> Result<(RootRun, RootMoved), NoMemory> {
+    let mut run = RootRun::new(alloc, 1, Text::of(alloc, "ServiceManager")?);
+    let mut over = go_on(alloc, end, &mut run)?;
+    for piece in pieces {
+        let bytes = bytes_of(alloc, piece)?;
+        let Fed::Taken(_) = end.feed(&bytes) else {
+            return Err(NoMemory);
+        };
+        over = go_on(alloc, end, &mut run)?;
+    }
+    Ok((run, over))
+}
+
+fn see_lines(rt: &impl Abort, alloc: Global, pieces: &[&str], lines: &[&str], wanted: RootMoved) {
+    match run_of(alloc, TALKS, pieces) {
+        Ok((run, over)) => {
+            assert_eq!(rt; over, wanted);
+            assert_eq!(rt; run.lines.len(), lines.len());
+            for (line, wanted) in run.lines.iter().zip(lines.iter()) {
+                assert_eq!(rt; line.as_str(), *wanted);
+            }
+        }
+        Err(NoMemory) => panic!(rt; "no memory"),
+    }
+}
+
+#[test]
+fn a_root_tells_in_its_lines_what_became_of_each_statement(rt: HostRuntime) {
+    see_lines(&rt, rt.alloc(), ANSWERS, LINES, RootMoved::Finished);
+}
+
+#[test]
+fn a_root_waits_for_the_peer_without_a_line(rt: HostRuntime) {
+    see_lines(&rt, rt.alloc(), &[], &[], RootMoved::Waiting);
+    see_lines(
+        &rt,
+        rt.alloc(),
+        &ANSWERS[..1],
+        &LINES[..1],
+        RootMoved::Waiting,
+    );
+}
