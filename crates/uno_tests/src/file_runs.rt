@@ -50,7 +50,7 @@ fn refused(file: &'static [u8], line: u32, reason: RegistryReason, error: &'stat
     }
 }
 
-/// A text that is no refusal's cause, with these words, failing calls, status, output and line.
+/// A run on a text that is taken, with these words, failing calls, status, output and line.
 fn ended(
     words: &'static [&'static str],
     reads: &'static [u64],
