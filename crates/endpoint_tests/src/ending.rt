@@ -9,6 +9,7 @@ const NEW: &[Row] = &[
     ("ready 0", "-"),
     ("pick T", "-"),
     ("counts", "0 0 2"),
+    ("next", "S;3"),
     ("rest", "false true false"),
     ("state 1", "Idle"),
     ("state 2", "Idle"),
@@ -25,6 +26,7 @@ const NEW: &[Row] = &[
 /// A root waits, and another one holds an object; what was asked still goes out.
 const DISPOSED: &[Row] = &[
     ("make 1 1 demo.XNode", "S;3"),
+    ("next", "S;4"),
     ("ask 2 node demo.XNode", "Started"),
     ("dispose", "done"),
     ("state 2", "Answered"),

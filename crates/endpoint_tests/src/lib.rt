@@ -1,7 +1,7 @@
 //! The tests of an endpoint, over its public calls alone: talks, in which each row has a call and what it answers.
 //!
 //! Memory is ample here, and each call that can find none answers something else: `new`, `feed`, `pick`, `apply` and `drain` in `serving`; `ask`, `call`, `query` and
-//! `make` in `roots`; and `root_step` in `stepping`. A talk with another answer fails, so `NoMemory` stands in the rows behind `run_out` alone.
+//! `make` in `roots`; `next_oid` in `ending`; and `root_step` in `stepping`. A talk with another answer fails, so `NoMemory` stands in the rows behind `run_out` alone.
 #![tactic(auto)]
 
 #[cfg(test)]

@@ -15,6 +15,7 @@ pub(crate) fn told(
     match what {
         "ready" => ready_told(alloc, end, number_in(words)),
         "pick" => picked_told(alloc, end, words),
+        "next" => next_told(alloc, end),
         "state" => state_told(alloc, end, number_in(words)),
         "journal" => journal_told(alloc, end.journal()),
         "stamps" => stamps_told(alloc, end.stamps()),
@@ -43,6 +44,11 @@ fn picked_told(alloc: Global, end: &Endpoint, tid: &str) -> Result<String, NoMem
         }
         None => text_of(alloc, "-"),
     }
+}
+
+/// What the next object will be called.
+fn next_told(alloc: Global, end: &Endpoint) -> Result<String, NoMemory> {
+    text_of(alloc, end.next_oid()?.as_str())
 }
 
 fn state_told(alloc: Global, end: &Endpoint, root: u32) -> Result<String, NoMemory> {
