@@ -4,7 +4,7 @@ use urp_message::Reason;
 use urp_stream::Block;
 
 /// Each variant begins with how many bytes of the piece were taken.
-#[derive(Debug, Drop)]
+#[derive(Drop)]
 pub enum Taken {
     /// All of them; they end nothing.
     Part(usize),

@@ -1,7 +1,7 @@
 //! What the words ask.
 
 /// A command with its words, in the order of its written form, and its options; an option that has a default has a number always.
-#[derive(Debug, Drop)]
+#[derive(Drop)]
 pub enum Command {
     /// 1 to 64 files.
     Compile {

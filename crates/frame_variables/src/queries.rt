@@ -17,7 +17,7 @@ use uno_types::{Name, Registry, TypeName};
 use uno_values::{AnyValue, Reference, Value};
 
 /// The reference that a query found, and what it was answered where that is not taken.
-#[derive(Debug, Drop)]
+#[derive(Drop)]
 pub struct Found {
     pub reference: Reference,
     pub rest: Option<Value>,

@@ -6,7 +6,7 @@ use uno_types::{Name, TypeName};
 use uno_values::Value;
 
 /// A value in whose place, or in place of whose parts, words and operations may stand.
-#[derive(Debug, Drop)]
+#[derive(Drop)]
 pub enum Expression {
     Constant(Value),
     Word(Word),
@@ -23,7 +23,7 @@ pub enum Expression {
 }
 
 /// What is given for a parameter: an expression for one that goes in, and the variable that gets the value of one that comes out or goes both ways.
-#[derive(Debug, Drop)]
+#[derive(Drop)]
 pub enum Argument {
     Into(Expression),
     Out(Name),

@@ -4,7 +4,7 @@ use uno_types::{Name, Text, Tid};
 use uno_values::Value;
 
 /// A variable, a parameter or a field, and its value.
-#[derive(Debug, Drop)]
+#[derive(Drop)]
 pub struct Variable {
     pub name: Name,
     pub value: Value,
@@ -12,7 +12,7 @@ pub struct Variable {
 
 /// A method that runs: the number of its call, its object, the interface and function under which it was called, whether the peer called it, its
 /// variables in the order in which they began, parameters first, and the place of its next statement.
-#[derive(Debug, Drop)]
+#[derive(Drop)]
 pub struct Body {
     pub number: u64,
     pub object: u32,
@@ -24,7 +24,7 @@ pub struct Body {
 }
 
 /// A call of the peer's object that is not answered.
-#[derive(Debug, Drop)]
+#[derive(Drop)]
 pub struct Outgoing {
     pub number: u64,
     pub oid: Text,
@@ -33,7 +33,7 @@ pub struct Outgoing {
 }
 
 /// The root that began a chain of calls, a method, or a call that went out.
-#[derive(Debug, Drop)]
+#[derive(Drop)]
 pub enum Frame {
     Base { root: u32 },
     Body(Body),

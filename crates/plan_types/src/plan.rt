@@ -4,7 +4,7 @@ use crate::{RootStatement, Statement};
 use uno_types::{Field, Name, Text};
 
 /// The statements of a function, which the interface `face` declares.
-#[derive(Debug, Drop)]
+#[derive(Drop)]
 pub struct Method {
     pub face: Name,
     pub function: Name,
@@ -12,7 +12,7 @@ pub struct Method {
 }
 
 /// What an object of a behaviour has and does; it supports the interfaces to which one of its faces is assignable.
-#[derive(Debug, Drop)]
+#[derive(Drop)]
 pub struct Behaviour {
     pub name: Name,
     pub faces: Vec<Name>,
@@ -21,21 +21,21 @@ pub struct Behaviour {
 }
 
 /// An object under a name that the peer may ask for, by the number of its behaviour.
-#[derive(Debug, Drop)]
+#[derive(Drop)]
 pub struct Export {
     pub name: Text,
     pub behaviour: u32,
 }
 
 /// A service or a singleton, and the number of the behaviour of its objects.
-#[derive(Debug, Drop)]
+#[derive(Drop)]
 pub struct Offer {
     pub name: Name,
     pub behaviour: u32,
 }
 
 /// Behaviours are numbered from 0, roots from 1, each list in the order of its lines.
-#[derive(Debug, Drop)]
+#[derive(Drop)]
 pub struct Plan {
     pub behaviours: Vec<Behaviour>,
     pub exports: Vec<Export>,

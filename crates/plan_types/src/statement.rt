@@ -5,14 +5,14 @@ use plan_model::Comparison;
 use uno_types::{Field, Name, Text};
 
 /// A function by the interface that declares it and its name.
-#[derive(Debug, Drop)]
+#[derive(Drop)]
 pub struct Callee {
     pub owner: Name,
     pub name: Name,
 }
 
 /// A call: the object, the function, an argument for each parameter in order, and the variable that the result becomes, where it is named.
-#[derive(Debug, Drop)]
+#[derive(Drop)]
 pub struct Call {
     pub target: Word,
     pub callee: Callee,
@@ -21,7 +21,7 @@ pub struct Call {
 }
 
 /// A query: the object, the interface that is asked, and the variable that the answer becomes.
-#[derive(Debug, Drop)]
+#[derive(Drop)]
 pub struct Query {
     pub target: Word,
     pub wanted: Name,
@@ -29,7 +29,7 @@ pub struct Query {
 }
 
 /// A new object: the number of its behaviour, the interface under which it is held, and the variable that it becomes.
-#[derive(Debug, Drop)]
+#[derive(Drop)]
 pub struct Making {
     pub behaviour: u32,
     pub face: Name,
@@ -37,7 +37,7 @@ pub struct Making {
 }
 
 /// A test: what a word stands for against an expression.
-#[derive(Debug, Drop)]
+#[derive(Drop)]
 pub struct Test {
     pub left: Word,
     pub comparison: Comparison,
@@ -45,7 +45,7 @@ pub struct Test {
 }
 
 /// A statement of a method; what is returned is left out where the result is void.
-#[derive(Debug, Drop)]
+#[derive(Drop)]
 pub enum Statement {
     Let(Field, Expression),
     SetVariable(Name, Expression),
@@ -62,7 +62,7 @@ pub enum Statement {
 }
 
 /// A statement of a root.
-#[derive(Debug, Drop)]
+#[derive(Drop)]
 pub enum RootStatement {
     /// Asks the peer for the object of an exported name, which becomes a variable of the wanted interface.
     Ask { to: Name, wanted: Name, name: Text },

@@ -3,7 +3,7 @@
 use uno_types::Name;
 
 /// What a word stands for: a variable or parameter `$ID`, a field `$.ID` of the own object, or the own object `$self`.
-#[derive(Debug, Drop)]
+#[derive(Drop)]
 pub enum Word {
     Variable(Name),
     Field(Name),

@@ -2,7 +2,7 @@
 use uno_entities::{Name, Text};
 
 /// The texts of a proxy's pair, ready for the release that is owed once it goes.
-#[derive(Debug, Drop)]
+#[derive(Drop)]
 pub struct Release {
     pub oid: Text,
     pub face: Name,

@@ -4,7 +4,7 @@ use uno_base::NoMemory;
 use uno_values::Value;
 
 /// What the name of a service or a singleton creates.
-#[derive(Debug, Drop)]
+#[derive(Drop)]
 pub enum Created {
     /// A new object of this behaviour, with the values of its fields in their order.
     Fresh { behaviour: u32, fields: Vec<Value> },

@@ -10,7 +10,7 @@ use uno_entities::{copy_names, copy_params};
 use uno_types::{Attribute, Method, Name, Param, TypeName, Way};
 
 /// A function: a method, or one that reads or writes an attribute. Its owner is the interface that declares it.
-#[derive(Debug, Drop)]
+#[derive(Drop)]
 pub struct Function {
     pub owner: Name,
     pub name: Name,

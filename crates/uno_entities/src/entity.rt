@@ -3,14 +3,14 @@
 use crate::{Flags, Name, TypeName, Way};
 
 /// A member of a struct or an exception, and a parameter of a constructor.
-#[derive(Debug, Drop)]
+#[derive(Drop)]
 pub struct Field {
     pub name: Name,
     pub kind: TypeName,
 }
 
 /// A parameter of a method.
-#[derive(Debug, Drop)]
+#[derive(Drop)]
 pub struct Param {
     pub way: Way,
     pub name: Name,
@@ -18,14 +18,14 @@ pub struct Param {
 }
 
 /// A base of an interface.
-#[derive(Debug, Drop)]
+#[derive(Drop)]
 pub struct Base {
     pub optional: bool,
     pub name: Name,
 }
 
 /// An attribute of an interface, with what its getter and its setter may raise.
-#[derive(Debug, Drop)]
+#[derive(Drop)]
 pub struct Attribute {
     pub name: Name,
     pub read_only: bool,
@@ -35,7 +35,7 @@ pub struct Attribute {
 }
 
 /// A method of an interface.
-#[derive(Debug, Drop)]
+#[derive(Drop)]
 pub struct Method {
     pub name: Name,
     pub oneway: bool,
@@ -45,21 +45,21 @@ pub struct Method {
 }
 
 /// What an interface declares; the order is that of its functions.
-#[derive(Debug, Drop)]
+#[derive(Drop)]
 pub enum Member {
     Attribute(Attribute),
     Method(Method),
 }
 
 /// A member of an enum.
-#[derive(Debug, Drop)]
+#[derive(Drop)]
 pub struct Item {
     pub name: Name,
     pub number: i32,
 }
 
 /// A constant. Its number is wide enough for a `hyper` and for an `unsigned hyper`; that it fits its type is not asked here.
-#[derive(Debug, Drop)]
+#[derive(Drop)]
 pub struct Constant {
     pub name: Name,
     pub number: i128,
@@ -67,7 +67,7 @@ pub struct Constant {
 }
 
 /// A constructor of a service; the rest parameter takes all arguments that follow.
-#[derive(Debug, Drop)]
+#[derive(Drop)]
 pub struct Constructor {
     pub name: Name,
     pub params: Vec<Field>,
@@ -76,7 +76,7 @@ pub struct Constructor {
 }
 
 /// What a service of the old form has.
-#[derive(Debug, Drop)]
+#[derive(Drop)]
 pub enum Part {
     Interface {
         optional: bool,
@@ -94,7 +94,7 @@ pub enum Part {
 }
 
 /// A service: of the new form, over an interface, or of the old one, of parts.
-#[derive(Debug, Drop)]
+#[derive(Drop)]
 pub enum Service {
     New {
         base: Name,
@@ -106,14 +106,14 @@ pub enum Service {
 }
 
 /// A singleton: of an interface, or in the old form of a service.
-#[derive(Debug, Drop)]
+#[derive(Drop)]
 pub enum Singleton {
     New { base: Name },
     Old { service: Name },
 }
 
 /// What an entity is.
-#[derive(Debug, Drop)]
+#[derive(Drop)]
 pub enum Body {
     Interface {
         bases: Vec<Base>,
@@ -141,7 +141,7 @@ pub enum Body {
 }
 
 /// A name with what it stands for.
-#[derive(Debug, Drop)]
+#[derive(Drop)]
 pub struct Entity {
     pub name: Name,
     pub published: bool,

@@ -6,7 +6,7 @@ use std::marker::Model;
 use uno_base::NoMemory;
 
 /// A name: that its bytes are an identifier, or several joined by points, is for the registry to say.
-#[derive(Debug, Drop)]
+#[derive(Drop)]
 pub struct Name {
     text: String,
 }

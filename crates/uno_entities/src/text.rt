@@ -8,7 +8,7 @@ use std::marker::Model;
 use uno_base::NoMemory;
 
 /// A text, as the bytes of its UTF-8.
-#[derive(Debug, Drop)]
+#[derive(Drop)]
 pub struct Text {
     text: String,
 }

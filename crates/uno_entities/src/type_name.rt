@@ -11,7 +11,7 @@ use uno_base::NoMemory;
 use uno_model::TypeClass;
 
 /// A type, by its own word or by the name of its entity.
-#[derive(Debug, Drop)]
+#[derive(Drop)]
 pub enum TypeName {
     Void,
     Char,

@@ -1,7 +1,7 @@
 //! The flags of a property.
 
 /// What a service says of a property, in the order of the grammar.
-#[derive(Clone, Copy, Debug, PartialEq, Eq)]
+#[derive(Clone, Copy, PartialEq, Eq)]
 pub struct Flags {
     pub bound: bool,
     pub constrained: bool,

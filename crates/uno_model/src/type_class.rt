@@ -3,7 +3,7 @@ ghost use Rattle.std.specs.Prelude.{◌≡◌, ◌≢◌, MatchOption};
 ghost use Rattle.uno_model.specs.TypeClasses.{class_code};
 
 /// The class of a type; the classes that no type has here, float, double and typedef, are left out.
-#[derive(Clone, Copy, Debug, PartialEq, Eq, Hash)]
+#[derive(Clone, Copy, PartialEq, Eq)]
 pub enum TypeClass {
     Void,
     Char,

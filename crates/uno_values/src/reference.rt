@@ -7,7 +7,7 @@ use uno_base::NoMemory;
 use uno_types::{Name, Text};
 
 /// Null, or an object by its identity (`oid`) and the interface under which it is held (`face`).
-#[derive(Debug, Drop)]
+#[derive(Drop)]
 pub enum Reference {
     Null,
     /// An object of the own side.

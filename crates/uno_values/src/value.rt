@@ -11,7 +11,7 @@ use uno_types::{Name, Text, TypeName};
 
 /// A value. That it is one of a type of a registry is what `fits` asks.
 #[cycle(value)]
-#[derive(Debug, Drop)]
+#[derive(Drop)]
 pub enum Value {
     Void,
     Char(u16),
@@ -39,7 +39,7 @@ pub enum Value {
 
 /// What an any holds, with its type.
 #[cycle(value)]
-#[derive(Debug, Drop)]
+#[derive(Drop)]
 pub struct AnyValue {
     pub kind: TypeName,
     pub value: Value,

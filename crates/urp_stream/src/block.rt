@@ -2,7 +2,7 @@
 
 /// A block (URP specification, blocks): how many messages its body holds, and the place of its first byte, counted from 0 in all bytes
 /// of the stream.
-#[derive(Debug, Drop)]
+#[derive(Drop)]
 pub struct Block {
     pub place: u64,
     pub count: u32,
