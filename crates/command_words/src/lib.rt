@@ -11,8 +11,6 @@ mod numbers;
 mod option_name;
 mod parts;
 mod reading;
-#[cfg(test)]
-mod tests;
 
 pub use command::Command;
 pub use error::WordsError;

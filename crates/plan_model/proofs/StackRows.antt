@@ -32,6 +32,14 @@ outgoing_row : answerable t stacks ≡ Some sent
 unfolding pushed frames_of
 outgoing_row = refl
 
+abbrev sent_later : Outgoing
+sent_later = record { number = 5; oid = codes "C;2"; face = codes "demo.XNode"; function = 4 }
+
+-- of two calls that wait on a thread the later one is answered
+two_wait_row : answerable t (pushed t (outgoing sent_later) stacks) ≡ Some sent_later
+unfolding pushed frames_of
+two_wait_row = refl
+
 depth_row : depth_of t stacks ≡ 2
 unfolding pushed frames_of
 depth_row = refl
