@@ -9,7 +9,6 @@ mod statement;
 mod threads;
 mod word;
 
-pub use copy::copy_variables;
 pub use expression::{Argument, Expression};
 pub use frame::{Body, Frame, Job, Outgoing, Variable};
 pub use plan::{Behaviour, Export, Method, Offer, Plan};

@@ -1,6 +1,0 @@
-use Rattle.std.proofs.Common.{◌≡◌, map, take}
-use Rattle.uno_entities.specs.Entities.{field_of}
-use Rattle.plan_types.proofs.copy.plans.copy_fields.Given as goal
-
-abbrev pub invariant-loop-field : goal.invariant-loop-field
-invariant-loop-field l = map field_of l.copies.items ≡ map field_of (take l.field-index l.fields)
