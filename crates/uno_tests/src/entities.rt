@@ -16,7 +16,6 @@ use many::{Lines, spelled};
 use parts::{added, all_of};
 use std::alloc::Global;
 use std::process::Abort;
-use texts::KNOWN;
 use uno_base::NoMemory;
 use uno_types::{Body, Entity, Name, Registry, Service, Singleton};
 
@@ -31,13 +30,6 @@ pub(crate) fn registry_of(alloc: Global, lines: Lines) -> Result<Registry, NoMem
 fn registry_of_text(alloc: Global, lines: &str) -> Result<Registry, NoMemory> {
     let mut registry = Registry::new(alloc)?;
     add_lines(alloc, &mut registry, lines)?;
-    Ok(registry)
-}
-
-/// The same with the known entities too.
-pub(crate) fn with_known(alloc: Global, lines: Lines) -> Result<Registry, NoMemory> {
-    let mut registry = registry_of(alloc, lines)?;
-    add_lines(alloc, &mut registry, KNOWN)?;
     Ok(registry)
 }
 

@@ -2,8 +2,6 @@
 #![tactic(auto)]
 
 #[cfg(test)]
-mod blocks;
-#[cfg(test)]
 mod circles;
 #[cfg(test)]
 mod copies;
@@ -16,51 +14,27 @@ mod file_runs;
 #[cfg(test)]
 mod files;
 #[cfg(test)]
-mod fitting;
-#[cfg(test)]
 mod front_page;
 #[cfg(test)]
 mod judging;
 #[cfg(test)]
-mod limits;
-#[cfg(test)]
-mod listening;
-#[cfg(test)]
-mod literals;
-#[cfg(test)]
-mod members;
-#[cfg(test)]
 mod memory;
-#[cfg(test)]
-mod messages;
 #[cfg(test)]
 mod names;
 #[cfg(test)]
-mod nesting;
-#[cfg(test)]
 mod order;
-#[cfg(test)]
-mod refusing;
 #[cfg(test)]
 mod runs;
 #[cfg(test)]
 mod slots;
 #[cfg(test)]
-mod soundness;
-#[cfg(test)]
 mod sources;
-#[cfg(test)]
-mod speaking;
 #[cfg(test)]
 mod standing;
 #[cfg(test)]
 mod streams;
 #[cfg(test)]
-mod tables;
-#[cfg(test)]
 mod talk;
-#[cfg(test)]
-mod telling;
 #[cfg(test)]
 mod types;
 #[cfg(test)]
@@ -69,5 +43,3 @@ mod values;
 mod waiting;
 #[cfg(test)]
 mod weights;
-#[cfg(test)]
-mod wire;

@@ -2,9 +2,8 @@
 use crate::judging::see;
 use crate::types::type_of;
 use std::alloc::Global;
-use std::process::Abort;
 use uno_base::NoMemory;
-use uno_types::{Name, Tag, TagError, Text, Tid, is_entity_name, is_identifier};
+use uno_types::{Name, Tag, TagError, Text, Tid};
 
 fn name_copy(alloc: Global, text: &str) -> Result<bool, NoMemory> {
     let name = Name::of(alloc, text)?;
@@ -77,55 +76,9 @@ const COPIED: &[&str] = &[
     "any",
 ];
 
-/// Texts, and whether they are tags.
-const TAGS: &[(&str, bool)] = &[
-    ("S", true),
-    ("0", true),
-    ("abcdefghijklmnopqrstuvwxyzABC789", true),
-    ("", false),
-    ("a;b", false),
-    (" S", false),
-    ("a_b", false),
-    ("\u{e9}", false),
-    ("abcdefghijklmnopqrstuvwxyzABC7890", false),
-];
-
 #[test]
-fn copies_are_equal_and_a_tag_is_1_to_32_letters_and_digits(rt: HostRuntime) {
+fn copies_are_equal(rt: HostRuntime) {
     for text in COPIED {
         see(&rt, copies(rt.alloc(), text) == Ok(true), text);
-    }
-    for (text, wanted) in TAGS {
-        see(&rt, is_tag(rt.alloc(), text) == Ok(*wanted), text);
-    }
-}
-
-/// Texts, and whether they are identifiers, and names of entities. The first are the quoted words of the grammar, the words
-/// of the simple types, and the truths.
-const NAMES: &[(&str, bool, bool)] = &[
-    (
-        "module published interface struct exception enum constants const typedef service singleton optional oneway get raises set attribute readonly bound in out inout property constrained maybeambiguous maybedefault maybevoid removable transient void boolean byte short long hyper unsigned float double char string type any sequence TRUE True FALSE False",
-        false,
-        false,
-    ),
-    ("", false, false),
-    ("1a a-b \u{e9} a\u{e9} -", false, false),
-    ("a _ _1 Void INOUT true intern A9_z", true, true),
-    ("a.b com.sun.star.uno.XInterface _._", false, true),
-    (". a. .a a..b a.long in.b a::b a.b-c a.1", false, false),
-];
-
-/// Sees that each of the words is an identifier and the name of an entity, as is said, or is not.
-fn judge(rt: &impl Abort, words: &str, identifier: bool, entity: bool) {
-    for word in words.split(' ') {
-        let right = is_identifier(word) == identifier && is_entity_name(word) == entity;
-        see(rt, right, word);
-    }
-}
-
-#[test]
-fn words_of_the_grammar_are_no_identifiers_and_points_join_these(rt: HostRuntime) {
-    for (words, identifier, entity) in NAMES {
-        judge(&rt, words, *identifier, *entity);
     }
 }
