@@ -1,6 +1,6 @@
 //! What breaks the protocol and only an end can tell: why, and the place in all bytes that came in of the first byte of the message.
 use crate::ends::{ECHO, NODE};
-use crate::talks::{Row, see};
+use crate::talks::{Row, Talk, see_talks};
 
 /// The peer asks for the echo, which is `S;1`.
 const ASKED: Row = (
@@ -94,35 +94,39 @@ const WRONG_ANSWER: &[Row] = &[
     ("take 1", "disposed Broken(UnknownOid, 8)"),
 ];
 
-#[test]
-fn a_second_release_is_unowed(rt: HostRuntime) {
-    see(&rt, rt.alloc(), ECHO, RELEASED_TWICE);
-}
+const TALKS: &[Talk] = &[
+    ("a second release is unowed", ECHO, RELEASED_TWICE),
+    (
+        "what was not sent out is an unknown oid",
+        NODE,
+        NOT_SENT_OUT,
+    ),
+    ("what is no object is an unknown oid", ECHO, NO_OBJECT),
+    ("a second request finds the thread busy", ECHO, BUSY),
+    (
+        "a thread of this end is unknown where nothing waits",
+        NODE,
+        NO_THREAD,
+    ),
+    (
+        "an unknown oid comes before an unknown thread",
+        NODE,
+        NEITHER,
+    ),
+    (
+        "an argument is of the wrong interface",
+        NODE,
+        WRONG_ARGUMENT,
+    ),
+    ("an argument is unknown", NODE, UNKNOWN_ARGUMENT),
+    (
+        "an answer with an object that was not sent out",
+        NODE,
+        WRONG_ANSWER,
+    ),
+];
 
 #[test]
-fn what_was_not_sent_out_is_an_unknown_oid(rt: HostRuntime) {
-    see(&rt, rt.alloc(), NODE, NOT_SENT_OUT);
-    see(&rt, rt.alloc(), ECHO, NO_OBJECT);
-}
-
-#[test]
-fn a_second_request_finds_the_thread_busy(rt: HostRuntime) {
-    see(&rt, rt.alloc(), ECHO, BUSY);
-}
-
-#[test]
-fn a_thread_of_this_end_is_unknown_where_nothing_waits(rt: HostRuntime) {
-    see(&rt, rt.alloc(), NODE, NO_THREAD);
-    see(&rt, rt.alloc(), NODE, NEITHER);
-}
-
-#[test]
-fn an_argument_is_of_the_wrong_interface_or_unknown(rt: HostRuntime) {
-    see(&rt, rt.alloc(), NODE, WRONG_ARGUMENT);
-    see(&rt, rt.alloc(), NODE, UNKNOWN_ARGUMENT);
-}
-
-#[test]
-fn an_answer_with_an_object_that_was_not_sent_out(rt: HostRuntime) {
-    see(&rt, rt.alloc(), NODE, WRONG_ANSWER);
+fn what_breaks_the_protocol_does_so_at_its_place(rt: HostRuntime) {
+    see_talks(&rt, rt.alloc(), TALKS);
 }

@@ -1,14 +1,14 @@
 //! Input in pieces of any length: the same bytes go out, and the journal is the same but for the pieces that came in.
 ghost use Rattle.std.specs.Prelude.{◌<◌};
 
-use crate::bytes::{bytes_of, digits_of};
-use crate::calls::ran;
+use crate::bytes::bytes_of;
+use crate::calls::run;
 use crate::ends::{ECHO, end_of};
-use crate::journals::journal_told;
+use crate::journals::show_journal;
+use crate::shown::{Shown, see};
 use bridge_endpoint::{Endpoint, Fed};
 use std::alloc::Global;
 use std::process::Abort;
-use uno_base::NoMemory;
 
 /// The peer asks for the echo, calls it with 21 and with 1, the second time on two threads in one block, and lets it go.
 const INPUT: &str =
@@ -22,85 +22,69 @@ const OUTPUT: &str = "00000019 00000001 88 01 'T 0000 96 0000 0A 'demo.XEcho 03 
     00000005 00000001 80 00000002 \
     00000009 00000001 88 01 'U 0001 00000002";
 
-/// What went out, and the journal.
-#[derive(Debug, PartialEq, Eq, Drop)]
-struct Served {
-    output: String,
-    journal: String,
-}
-
-fn serve(alloc: Global, size: usize) -> Result<Served, NoMemory>
+/// What goes out where the input comes in pieces of so many bytes, and then the journal.
+fn served(rt: &impl Abort, alloc: Global, size: usize) -> Shown
     requires { 0 < size }
 {
-    let mut end = end_of(alloc, ECHO)?;
-    let served = serve_at(alloc, &mut end, size);
-    end.close();
-    served
-}
-
-fn serve_at(alloc: Global, end: &mut Endpoint, size: usize) -> Result<Served, NoMemory>
-    requires { 0 < size }
-{
-    let output = serve_all(alloc, end, size)?;
-    let journal = journal_told(alloc, end.journal())?;
-    Ok(Served { output, journal })
-}
-
-/// Feeds the input in pieces of so many bytes, and gives what goes out.
-fn serve_all(alloc: Global, end: &mut Endpoint, size: usize) -> Result<String, NoMemory>
-    requires { 0 < size }
-{
-    let mut output = Vec::new(alloc);
-    let input = bytes_of(alloc, INPUT)?;
-    for piece in input.chunks(size) {
-        feed_all(alloc, end, piece, &mut output)?;
+    let mut shown = Shown::new(alloc);
+    let mut end = end_of(rt, alloc, ECHO);
+    for piece in bytes_of(alloc, INPUT).chunks(size) {
+        serve(rt, alloc, &mut end, piece, &mut shown);
     }
-    digits_of(alloc, &output)
+    show_journal(end.journal(), &mut shown);
+    end.close();
+    shown
 }
 
 /// Feeds a piece, which may have the ends of several blocks, and serves what it begins.
-fn feed_all(
-    alloc: Global,
-    end: &mut Endpoint,
-    piece: &[u8],
-    output: &mut Vec<u8>,
-) -> Result<(), NoMemory> {
+fn serve(rt: &impl Abort, alloc: Global, end: &mut Endpoint, piece: &[u8], output: &mut Shown) {
     let mut rest = piece;
     for _ in 0..piece.len() {
-        let Fed::Taken(count) = end.feed(rest) else {
-            return Err(NoMemory);
-        };
-        rest = rest.get(count..).unwrap_or(&[]);
-        drop(ran(alloc, end)?);
-        output.extend_from_slice(&end.drain(u32::MAX)?)?;
+        rest = feed(rt, end, rest);
+        run(rt, alloc, end);
+        drain(rt, end, output);
         if rest.is_empty() {
-            return Ok(());
+            return;
         }
     }
-    Ok(())
 }
 
-fn see_cut(rt: &impl Abort, alloc: Global, whole: &Served, size: usize)
-    requires { 0 < size }
-{
-    match serve(alloc, size) {
-        Ok(cut) => assert_eq!(rt; cut, *whole, "in pieces of {size}"),
-        Err(NoMemory) => panic!(rt; "no memory in pieces of {size}"),
+/// What is left of a piece behind a block.
+fn feed<'a>(rt: &impl Abort, end: &mut Endpoint, piece: &'a [u8]) -> &'a [u8] {
+    match end.feed(piece) {
+        Fed::Taken(count) => piece.get(count..).unwrap_or(&[]),
+        _ => panic!(rt; "not taken"),
     }
 }
 
-fn wanted(alloc: Global) -> Result<String, NoMemory> {
-    let bytes = bytes_of(alloc, OUTPUT)?;
-    digits_of(alloc, &bytes)
+fn drain(rt: &impl Abort, end: &mut Endpoint, output: &mut Shown) {
+    let bytes = end.drain(u32::MAX).expect(rt, "no memory");
+    output.bytes(&bytes);
+}
+
+/// The journal begins with what came in.
+fn see_output(rt: &impl Abort, alloc: Global, whole: &Shown) {
+    let mut wanted = Shown::new(alloc);
+    wanted.bytes(&bytes_of(alloc, OUTPUT));
+    wanted.put(" Fed:");
+    assert!(rt; whole.as_str().starts_with(wanted.as_str()));
+}
+
+/// Sees that in pieces of so many bytes the same is served.
+fn see_cut(rt: &impl Abort, alloc: Global, size: usize, whole: &Shown)
+    requires { 0 < size }
+{
+    let cut = served(rt, alloc, size);
+    let mut row = Shown::new(alloc);
+    row.tell(&size);
+    see(rt, &cut, whole, row.as_str(), "the sizes of pieces");
 }
 
 #[test]
 fn input_that_is_cut_gives_the_same_output_and_journal(rt: HostRuntime) {
-    let (Ok(whole), Ok(wanted)) = (serve(rt.alloc(), 1000), wanted(rt.alloc())) else {
-        panic!(rt; "no memory");
-    };
-    assert_eq!(rt; whole.output, wanted);
+    let whole = served(&rt, rt.alloc(), 1000);
+    see_output(&rt, rt.alloc(), &whole);
     for size in 1..130 {
-        see_cut(&rt, rt.alloc(), &whole, size);
+        see_cut(&rt, rt.alloc(), size, &whole);
     }
 }

@@ -1,6 +1,6 @@
 //! New ends, and ends behind their end.
 use crate::ends::NODE;
-use crate::talks::{Row, see};
+use crate::talks::{Row, Talk, see_talks};
 
 const NEW: &[Row] = &[
     ("take 1", "-"),
@@ -111,29 +111,21 @@ const STAMPED: &[Row] = &[
     ("stamps", "[0, 7, 7, 9]"),
 ];
 
-#[test]
-fn nothing_has_happened_at_a_new_end(rt: HostRuntime) {
-    see(&rt, rt.alloc(), NODE, NEW);
-}
+const TALKS: &[Talk] = &[
+    ("nothing has happened at a new end", NODE, NEW),
+    ("what is begun behind the end is gone", NODE, DISPOSED),
+    ("the end of the input is entered once", NODE, ENDED),
+    ("its failure is entered once", NODE, FAILED),
+    ("nothing goes out where memory ran out", NODE, RUN_OUT),
+    (
+        "nor where it ran out behind the end",
+        NODE,
+        RUN_OUT_BEHIND_THE_END,
+    ),
+    ("entries have the stamp that was set last", NODE, STAMPED),
+];
 
 #[test]
-fn what_is_begun_behind_the_end_is_gone(rt: HostRuntime) {
-    see(&rt, rt.alloc(), NODE, DISPOSED);
-}
-
-#[test]
-fn an_end_is_entered_once(rt: HostRuntime) {
-    see(&rt, rt.alloc(), NODE, ENDED);
-    see(&rt, rt.alloc(), NODE, FAILED);
-}
-
-#[test]
-fn nothing_goes_out_where_memory_ran_out(rt: HostRuntime) {
-    see(&rt, rt.alloc(), NODE, RUN_OUT);
-    see(&rt, rt.alloc(), NODE, RUN_OUT_BEHIND_THE_END);
-}
-
-#[test]
-fn entries_have_the_stamp_that_was_set_last(rt: HostRuntime) {
-    see(&rt, rt.alloc(), NODE, STAMPED);
+fn what_has_ended_stays_so(rt: HostRuntime) {
+    see_talks(&rt, rt.alloc(), TALKS);
 }

@@ -4,7 +4,7 @@
 use bridge_endpoint::Endpoint;
 use endpoint_text::{know_names, read_registry, set_up};
 use std::alloc::Global;
-use uno_base::NoMemory;
+use std::process::Abort;
 use uno_types::Tag;
 
 const TYPES: &str = "unoreg 1\n\
@@ -35,17 +35,13 @@ pub(crate) const NODE: &str = "unoplan 1\n\
     thread\nend\nthread\nend\n";
 
 /// An end of this plan; nothing has happened at it.
-pub(crate) fn end_of(alloc: Global, plan: &str) -> Result<Endpoint, NoMemory> {
-    let Ok(registry) = read_registry(alloc, TYPES.as_bytes()) else {
-        return Err(NoMemory);
-    };
-    know_names(&registry);
-    let Ok(tag) = Tag::read(alloc, "S") else {
-        drop(registry);
-        return Err(NoMemory);
-    };
-    match set_up(alloc, tag, registry, plan.as_bytes()) {
-        Ok(end) => Ok(end),
-        Err(_) => Err(NoMemory),
+pub(crate) fn end_of(rt: &impl Abort, alloc: Global, plan: &str) -> Endpoint {
+    match read_registry(alloc, TYPES.as_bytes()) {
+        Ok(registry) => {
+            know_names(&registry);
+            let tag = Tag::read(alloc, "S").expect(rt, "no tag");
+            set_up(alloc, tag, registry, plan.as_bytes()).expect(rt, "no end")
+        }
+        Err(_) => panic!(rt; "no registry"),
     }
 }

@@ -1,22 +1,14 @@
 //! Journals as words: each entry by its name, and bytes as digits; pieces that came in one behind the other stand as one.
-use crate::bytes::push_bytes;
+use crate::shown::Shown;
 use bridge_endpoint::Entry;
-use std::alloc::Global;
-use uno_base::NoMemory;
 
-pub(crate) fn journal_told(alloc: Global, journal: &[Entry]) -> Result<String, NoMemory> {
-    let mut text = String::new(alloc);
+pub(crate) fn show_journal(journal: &[Entry], shown: &mut Shown) {
     let mut was_fed = false;
     for entry in journal {
-        let is_fed = matches!(entry, Entry::Fed(_));
-        if !(was_fed && is_fed) {
-            text.push_str(" ")?;
-            text.push_str(name_of(entry))?;
-        }
-        push_bytes(alloc, &mut text, bytes_in(entry))?;
-        was_fed = is_fed;
+        shown.put(name_of(entry, was_fed));
+        shown.bytes(bytes_in(entry));
+        was_fed = matches!(entry, Entry::Fed(_));
     }
-    Ok(text)
 }
 
 /// The bytes that came in or went out by an entry.
@@ -27,22 +19,23 @@ fn bytes_in(entry: &Entry) -> &[u8] {
     }
 }
 
-fn name_of(entry: &Entry) -> &'static str {
+fn name_of(entry: &Entry, was_fed: bool) -> &'static str {
     match entry {
-        Entry::Fed(_) => "Fed:",
-        Entry::Ended => "Ended",
-        Entry::Failed => "Failed",
-        Entry::Asked { .. } => "Asked",
-        Entry::Called { .. } => "Called",
-        Entry::Queried { .. } => "Queried",
-        Entry::Made { .. } => "Made",
-        Entry::Dropped { .. } => "Dropped",
-        Entry::Applied { .. } => "Applied",
-        Entry::Took { .. } => "Took",
-        Entry::Reaped { .. } => "Reaped",
-        Entry::Drained(_) => "Drained:",
-        Entry::Disposed => "Disposed",
-        Entry::Full => "Full",
-        Entry::NoMemory => "NoMemory",
+        Entry::Fed(_) if was_fed => "",
+        Entry::Fed(_) => " Fed:",
+        Entry::Ended => " Ended",
+        Entry::Failed => " Failed",
+        Entry::Asked { .. } => " Asked",
+        Entry::Called { .. } => " Called",
+        Entry::Queried { .. } => " Queried",
+        Entry::Made { .. } => " Made",
+        Entry::Dropped { .. } => " Dropped",
+        Entry::Applied { .. } => " Applied",
+        Entry::Took { .. } => " Took",
+        Entry::Reaped { .. } => " Reaped",
+        Entry::Drained(_) => " Drained:",
+        Entry::Disposed => " Disposed",
+        Entry::Full => " Full",
+        Entry::NoMemory => " NoMemory",
     }
 }

@@ -27,6 +27,8 @@ mod roots;
 #[cfg(test)]
 mod serving;
 #[cfg(test)]
+mod shown;
+#[cfg(test)]
 mod stale;
 #[cfg(test)]
 mod stepping;

@@ -1,6 +1,6 @@
 //! What roots ask, call, make, take and let go.
 use crate::ends::NODE;
-use crate::talks::{Row, see};
+use crate::talks::{Row, Talk, see_talks};
 
 /// A root asks the peer for an object, calls it, is answered with a value and an exception, asks it for another interface, and lets it go.
 const ASKED: &[Row] = &[
@@ -144,22 +144,14 @@ const CROSSED: &[Row] = &[
     ("take 1", "returned @\"C;2\"<demo.XNode>"),
 ];
 
-#[test]
-fn a_root_asks_calls_queries_and_lets_go(rt: HostRuntime) {
-    see(&rt, rt.alloc(), NODE, ASKED);
-}
+const TALKS: &[Talk] = &[
+    ("a root asks, calls, queries and lets go", NODE, ASKED),
+    ("a root makes an object of its own", NODE, MADE),
+    ("what a root does not hold is not held", NODE, NOT_HELD),
+    ("answers come in the other order", NODE, CROSSED),
+];
 
 #[test]
-fn a_root_makes_an_object_of_its_own(rt: HostRuntime) {
-    see(&rt, rt.alloc(), NODE, MADE);
-}
-
-#[test]
-fn what_a_root_does_not_hold_is_not_held(rt: HostRuntime) {
-    see(&rt, rt.alloc(), NODE, NOT_HELD);
-}
-
-#[test]
-fn answers_come_in_the_other_order(rt: HostRuntime) {
-    see(&rt, rt.alloc(), NODE, CROSSED);
+fn roots_are_answered(rt: HostRuntime) {
+    see_talks(&rt, rt.alloc(), TALKS);
 }

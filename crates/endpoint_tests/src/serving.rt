@@ -1,6 +1,6 @@
 //! What the peer asks, calls and lets go.
 use crate::ends::{ECHO, NODE};
-use crate::talks::{Row, see};
+use crate::talks::{Row, Talk, see_talks};
 
 /// The peer asks for the object, calls its function with 21, and lets it go.
 const ECHOED: &[Row] = &[
@@ -97,22 +97,22 @@ const SHUT: &[Row] = &[
     ("feed 00", "Gone"),
 ];
 
-#[test]
-fn the_peer_asks_for_the_echo_and_is_answered_42(rt: HostRuntime) {
-    see(&rt, rt.alloc(), ECHO, ECHOED);
-}
+const TALKS: &[Talk] = &[
+    (
+        "the peer asks for the echo and is answered 42",
+        ECHO,
+        ECHOED,
+    ),
+    (
+        "an object of the peer goes back to it and is kept",
+        NODE,
+        TURNED,
+    ),
+    ("two threads are served oldest first", ECHO, TWO_THREADS),
+    ("a statement of the plan ends the bridge", NODE, SHUT),
+];
 
 #[test]
-fn an_object_of_the_peer_goes_back_to_it_and_is_kept(rt: HostRuntime) {
-    see(&rt, rt.alloc(), NODE, TURNED);
-}
-
-#[test]
-fn two_threads_are_served_oldest_first(rt: HostRuntime) {
-    see(&rt, rt.alloc(), ECHO, TWO_THREADS);
-}
-
-#[test]
-fn a_statement_of_the_plan_ends_the_bridge(rt: HostRuntime) {
-    see(&rt, rt.alloc(), NODE, SHUT);
+fn the_peer_is_served(rt: HostRuntime) {
+    see_talks(&rt, rt.alloc(), TALKS);
 }

@@ -2,14 +2,14 @@
 
 use crate::beginning::is_root_of;
 use crate::bytes::bytes_of;
-use crate::calls::ran;
+use crate::calls::run;
 use crate::ends::end_of;
+use crate::shown::{Shown, see};
 use behaviour::RootRun;
 use bridge_endpoint::{Endpoint, Fed};
 use bridge_roots::{RootMoved, root_step};
 use std::alloc::Global;
 use std::process::Abort;
-use uno_base::NoMemory;
 use uno_types::Text;
 
 /// More steps than a root of these tests has.
@@ -74,67 +74,80 @@ const LINES: &[&str] = &[
 ];
 
 /// Does what a root can do, until it waits or has finished.
-fn step_all(end: &mut Endpoint, run: &mut RootRun) -> Result<RootMoved, NoMemory> {
+fn step_all(rt: &impl Abort, end: &mut Endpoint, root: &mut RootRun) -> RootMoved {
     for _ in 0..MANY {
-        if !is_root_of(end, run.root) {
-            return Err(NoMemory);
-        }
-        match root_step(end, run) {
+        assert!(rt; is_root_of(end, root.root));
+        match root_step(end, root) {
             RootMoved::Moved => {}
-            RootMoved::NoMemory => return Err(NoMemory),
-            over => return Ok(over),
+            over => return over,
         }
     }
-    Err(NoMemory)
+    RootMoved::Moved
 }
 
 /// Steps the root and carries out what is ready, until neither can be done.
-fn go_on(alloc: Global, end: &mut Endpoint, run: &mut RootRun) -> Result<RootMoved, NoMemory> {
+fn go_on(rt: &impl Abort, alloc: Global, end: &mut Endpoint, root: &mut RootRun) -> RootMoved {
     for _ in 0..MANY {
-        let over = step_all(end, run)?;
-        if ran(alloc, end)?.as_str() == "0" {
-            return Ok(over);
+        let over = step_all(rt, end, root);
+        if run(rt, alloc, end) == 0 {
+            return over;
         }
     }
-    Err(NoMemory)
+    RootMoved::Moved
 }
 
-/// A root of a plan behind these pieces of input, and how its last step ended.
-fn run_of(alloc: Global, plan: &str, pieces: &[&str]) -> Result<(RootRun, RootMoved), NoMemory> {
-    let mut end = end_of(alloc, plan)?;
-    let ran = run_at(alloc, &mut end, pieces);
-    end.close();
-    ran
-}
-
-fn run_at(
+/// The same behind a piece of input.
+fn hear(
+    rt: &impl Abort,
     alloc: Global,
     end: &mut Endpoint,
-    pieces: &[&str],
-) -> Result<(RootRun, RootMoved), NoMemory> {
-    let mut run = RootRun::new(alloc, 1, Text::of(alloc, "ServiceManager")?);
-    let mut over = go_on(alloc, end, &mut run)?;
-    for piece in pieces {
-        let bytes = bytes_of(alloc, piece)?;
-        let Fed::Taken(_) = end.feed(&bytes) else {
-            return Err(NoMemory);
-        };
-        over = go_on(alloc, end, &mut run)?;
-    }
-    Ok((run, over))
+    root: &mut RootRun,
+    piece: &str,
+) -> RootMoved {
+    let bytes = bytes_of(alloc, piece);
+    assert!(rt; matches!(end.feed(&bytes), Fed::Taken(_)));
+    drop(bytes);
+    go_on(rt, alloc, end, root)
 }
 
-fn see_lines(rt: &impl Abort, alloc: Global, pieces: &[&str], lines: &[&str], wanted: RootMoved) {
-    match run_of(alloc, TALKS, pieces) {
-        Ok((run, over)) => {
-            assert_eq!(rt; over, wanted);
-            assert_eq!(rt; run.lines.len(), lines.len());
-            for (line, wanted) in run.lines.iter().zip(lines.iter()) {
-                assert_eq!(rt; line.as_str(), *wanted);
-            }
-        }
-        Err(NoMemory) => panic!(rt; "no memory"),
+/// How the last step of the root ends behind these pieces of input.
+fn hear_all(rt: &impl Abort, alloc: Global, root: &mut RootRun, pieces: &[&str]) -> RootMoved {
+    let mut end = end_of(rt, alloc, TALKS);
+    let mut over = go_on(rt, alloc, &mut end, root);
+    for piece in pieces {
+        over = hear(rt, alloc, &mut end, root, piece);
     }
+    end.close();
+    over
+}
+
+/// Puts lines, and how the last step ended.
+fn put_lines(shown: &mut Shown, lines: &[&str], over: RootMoved) {
+    for line in lines {
+        shown.put(line);
+        shown.put("\n");
+    }
+    shown.tell(&over);
+}
+
+/// The same of the lines of the root behind these pieces of input.
+fn put_found(rt: &impl Abort, alloc: Global, shown: &mut Shown, pieces: &[&str]) {
+    let instance = Text::of(alloc, "ServiceManager").expect(rt, "no memory");
+    let mut root = RootRun::new(alloc, 1, instance);
+    let over = hear_all(rt, alloc, &mut root, pieces);
+    for line in &root.lines {
+        shown.put(line.as_str());
+        shown.put("\n");
+    }
+    shown.tell(&over);
+}
+
+fn see_lines(rt: &impl Abort, alloc: Global, pieces: &[&str], lines: &[&str], over: RootMoved) {
+    let mut shown = Shown::new(alloc);
+    put_found(rt, alloc, &mut shown, pieces);
+    let mut wanted = Shown::new(alloc);
+    put_lines(&mut wanted, lines, over);
+    see(rt, &shown, &wanted, "the lines", "a root");
 }
 
 #[test]
@@ -144,12 +157,7 @@ fn a_root_tells_in_its_lines_what_became_of_each_statement(rt: HostRuntime) {
 
 #[test]
 fn a_root_waits_for_the_peer_without_a_line(rt: HostRuntime) {
+    let (first, line) = (&ANSWERS[..1], &LINES[..1]);
     see_lines(&rt, rt.alloc(), &[], &[], RootMoved::Waiting);
-    see_lines(
-        &rt,
-        rt.alloc(),
-        &ANSWERS[..1],
-        &LINES[..1],
-        RootMoved::Waiting,
-    );
+    see_lines(&rt, rt.alloc(), first, line, RootMoved::Waiting);
 }

@@ -1,45 +1,49 @@
 //! Talks: calls of one end, one a row, and what they answer.
 
-use crate::bytes::{bytes_of, digits_of};
-use crate::calls::answer;
+use crate::bytes::bytes_of;
+use crate::calls::show;
 use crate::ends::end_of;
+use crate::shown::{Shown, see};
 use bridge_endpoint::Endpoint;
 use std::alloc::Global;
 use std::process::Abort;
-use uno_base::NoMemory;
 
 /// A call, and its answer.
 pub(crate) type Row = (&'static str, &'static str);
 
-/// Sees that a new end of this plan answers as the rows say.
-pub(crate) fn see(rt: &impl Abort, alloc: Global, plan: &str, rows: &[Row]) {
-    match end_of(alloc, plan) {
-        Ok(end) => see_rows(rt, alloc, end, rows),
-        Err(NoMemory) => panic!(rt; "no end"),
+/// What a talk shows, the plan of its end, and its rows.
+pub(crate) type Talk = (&'static str, &'static str, &'static [Row]);
+
+/// Sees that new ends answer as the rows of these talks say.
+pub(crate) fn see_talks(rt: &impl Abort, alloc: Global, talks: &[Talk]) {
+    for talk in talks {
+        see_talk(rt, alloc, talk);
     }
 }
 
-fn see_rows(rt: &impl Abort, alloc: Global, end: Endpoint, rows: &[Row]) {
-    let mut end = end;
-    for (call, wanted) in rows {
-        see_row(rt, alloc, &mut end, call, wanted);
+fn see_talk(rt: &impl Abort, alloc: Global, talk: &Talk) {
+    let (what, plan, rows) = talk;
+    let mut end = end_of(rt, alloc, plan);
+    for row in *rows {
+        see_row(rt, alloc, &mut end, row, what);
     }
     end.close();
 }
 
-fn see_row(rt: &impl Abort, alloc: Global, end: &mut Endpoint, call: &str, wanted: &str) {
-    match (answer(alloc, end, call), wanted_of(alloc, call, wanted)) {
-        (Ok(answer), Ok(wanted)) => assert_eq!(rt; answer.as_str(), wanted.as_str(), "at {call}"),
-        _ => panic!(rt; "no memory at {call}"),
-    }
+fn see_row(rt: &impl Abort, alloc: Global, end: &mut Endpoint, row: &Row, talk: &str) {
+    let (call, answer) = row;
+    let mut shown = Shown::new(alloc);
+    show(rt, alloc, end, call, &mut shown);
+    let mut wanted = Shown::new(alloc);
+    show_wanted(alloc, call, answer, &mut wanted);
+    see(rt, &shown, &wanted, call, talk);
 }
 
 /// Bytes that go out are told by their digits.
-fn wanted_of(alloc: Global, call: &str, wanted: &str) -> Result<String, NoMemory> {
-    let is_text = !call.starts_with("drain") || wanted == "NoMemory";
-    if is_text {
-        return Ok(format!(in alloc; "{wanted}")?);
+fn show_wanted(alloc: Global, call: &str, answer: &str, wanted: &mut Shown) {
+    if call.starts_with("drain") && answer != "NoMemory" {
+        wanted.bytes(&bytes_of(alloc, answer));
+    } else {
+        wanted.put(answer);
     }
-    let bytes = bytes_of(alloc, wanted)?;
-    digits_of(alloc, &bytes)
 }

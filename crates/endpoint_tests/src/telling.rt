@@ -1,88 +1,62 @@
 //! What an end tells, as words.
-use crate::calls::{number_in, text_of};
-use crate::journals::journal_told;
+use crate::journals::show_journal;
+use crate::shown::{Shown, number_in};
 use bridge_endpoint::Endpoint;
 use std::alloc::Global;
-use uno_base::NoMemory;
+use std::process::Abort;
 use uno_types::Tid;
 
-pub(crate) fn told(
+pub(crate) fn tell(
+    rt: &impl Abort,
     alloc: Global,
     end: &Endpoint,
     what: &str,
     words: &str,
-) -> Result<String, NoMemory> {
+    shown: &mut Shown,
+) {
     match what {
-        "ready" => ready_told(alloc, end, number_in(words)),
-        "pick" => picked_told(alloc, end, words),
-        "next" => next_told(alloc, end),
-        "state" => state_told(alloc, end, number_in(words)),
-        "journal" => journal_told(alloc, end.journal()),
-        "stamps" => stamps_told(alloc, end.stamps()),
-        "counts" => counts_told(alloc, end),
-        "end" => end_told(alloc, end),
-        "rest" => rest_told(alloc, end),
-        _ => reaping_told(alloc, end),
+        "ready" => shown.put(ready(end, number_in(words))),
+        "pick" => pick(rt, alloc, end, words, shown),
+        "next" => next_oid(rt, end, shown),
+        "state" => shown.tell(&end.root_state(number_in(words))),
+        "journal" => show_journal(end.journal(), shown),
+        "entries" => shown.tell(&end.journal().len()),
+        "stamps" => shown.tell(&end.stamps()),
+        "counts" => counts(end, shown),
+        "end" => shown.tell_or_none(end.end()),
+        "rest" => shown.tell_three(&[end.bytes_wait(), end.at_rest(), end.awaits_input()]),
+        _ => shown.tell_or_none(end.may_reap()),
     }
 }
 
-fn ready_told(alloc: Global, end: &Endpoint, nth: u32) -> Result<String, NoMemory> {
+fn ready(end: &Endpoint, nth: u32) -> &str {
     match end.ready(nth) {
-        Some(tid) => text_of(alloc, str::from_utf8(tid.as_bytes()).unwrap_or("?")),
-        None => text_of(alloc, "-"),
+        Some(tid) => str::from_utf8(tid.as_bytes()).unwrap_or("?"),
+        None => "-",
     }
 }
 
 /// The object and the depth of a job.
-fn picked_told(alloc: Global, end: &Endpoint, tid: &str) -> Result<String, NoMemory> {
-    let tid = Tid::of(alloc, tid.as_bytes())?;
-    match end.pick(&tid)? {
+fn pick(rt: &impl Abort, alloc: Global, end: &Endpoint, tid: &str, shown: &mut Shown) {
+    let tid = Tid::of(alloc, tid.as_bytes()).expect(rt, "no memory");
+    match end.pick(&tid).expect(rt, "no memory") {
         Some(job) => {
-            let own = job.own.as_str();
-            let depth = job.depth;
-            Ok(format!(in alloc; "{own} at {depth}")?)
+            shown.put(job.own.as_str());
+            shown.put(" at ");
+            shown.tell(&job.depth);
         }
-        None => text_of(alloc, "-"),
+        None => shown.put("-"),
     }
 }
 
 /// What the next object will be called.
-fn next_told(alloc: Global, end: &Endpoint) -> Result<String, NoMemory> {
-    text_of(alloc, end.next_oid()?.as_str())
-}
-
-fn state_told(alloc: Global, end: &Endpoint, root: u32) -> Result<String, NoMemory> {
-    let state = end.root_state(root);
-    Ok(format!(in alloc; "{state:?}")?)
-}
-
-fn stamps_told(alloc: Global, stamps: &[u64]) -> Result<String, NoMemory> {
-    Ok(format!(in alloc; "{stamps:?}")?)
+fn next_oid(rt: &impl Abort, end: &Endpoint, shown: &mut Shown) {
+    let oid = end.next_oid().expect(rt, "no memory");
+    shown.put(oid.as_str());
 }
 
 /// How many stubs, proxies and objects there are.
-fn counts_told(alloc: Global, end: &Endpoint) -> Result<String, NoMemory> {
+fn counts(end: &Endpoint, shown: &mut Shown) {
     let counts = end.counts();
-    let (stubs, proxies, objects) = (counts.stubs, counts.proxies, counts.objects);
-    Ok(format!(in alloc; "{stubs} {proxies} {objects}")?)
-}
-
-fn end_told(alloc: Global, end: &Endpoint) -> Result<String, NoMemory> {
-    match end.end() {
-        Some(cause) => Ok(format!(in alloc; "{cause:?}")?),
-        None => text_of(alloc, "-"),
-    }
-}
-
-/// Whether bytes wait, whether it is at rest, and whether it awaits input.
-fn rest_told(alloc: Global, end: &Endpoint) -> Result<String, NoMemory> {
-    let (waits, rests, awaits) = (end.bytes_wait(), end.at_rest(), end.awaits_input());
-    Ok(format!(in alloc; "{waits} {rests} {awaits}")?)
-}
-
-fn reaping_told(alloc: Global, end: &Endpoint) -> Result<String, NoMemory> {
-    match end.may_reap() {
-        Some(object) => Ok(format!(in alloc; "{object}")?),
-        None => text_of(alloc, "-"),
-    }
+    shown.tell_three(&[counts.stubs, counts.proxies, counts.objects]);
 }

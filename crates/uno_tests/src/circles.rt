@@ -2,15 +2,7 @@
 use crate::judging::see_number;
 use circle_search::{Graph, first_on_circle, has_no_circle};
 use std::alloc::Global;
-use uno_base::NoMemory;
-
-/// Adds a node for each row of targets.
-fn add_nodes(alloc: Global, graph: &mut Graph, rows: &[&[u32]]) -> Result<(), NoMemory> {
-    for row in rows {
-        graph.add_node(Vec::from_slice(alloc, row)?)?;
-    }
-    Ok(())
-}
+use std::process::Abort;
 
 /// The targets of each node, and the first that leads back to itself.
 type Row = (&'static [&'static [u32]], Option<usize>);
@@ -36,20 +28,29 @@ const SMALL: &[Row] = &[
     (&[&[], &[2], &[3, 4], &[2], &[1]], Some(1)),
 ];
 
-/// Whether the searches say so of the graph with these rows of targets.
-fn is_right(alloc: Global, row: &Row) -> bool {
-    let (targets, wanted) = row;
+/// A graph with a node for each row of targets.
+fn graph_of(rt: &impl Abort, alloc: Global, rows: &[&[u32]]) -> Graph {
     let mut graph = Graph::new(alloc);
-    let added = add_nodes(alloc, &mut graph, targets);
+    for row in rows {
+        let targets = Vec::from_slice(alloc, row).expect(rt, "no memory");
+        graph.add_node(targets).expect(rt, "no memory");
+    }
+    graph
+}
+
+/// Whether the searches say so of the graph with these rows of targets.
+fn is_right(rt: &impl Abort, alloc: Global, row: &Row) -> bool {
+    let (targets, wanted) = row;
+    let graph = graph_of(rt, alloc, targets);
     let first = first_on_circle(alloc, &graph);
     let free = has_no_circle(alloc, &graph);
     drop(graph);
-    added.is_ok() && first == Ok(*wanted) && free == Ok(wanted.is_none())
+    first == Ok(*wanted) && free == Ok(wanted.is_none())
 }
 
 #[test]
 fn small_graphs(rt: HostRuntime) {
     for (number, row) in SMALL.iter().enumerate() {
-        see_number(&rt, is_right(rt.alloc(), row), number);
+        see_number(&rt, is_right(&rt, rt.alloc(), row), number);
     }
 }

@@ -1,13 +1,13 @@
 //! What the front page shows: what one end writes, the other reads.
+ghost use Rattle.std.specs.Prelude.{[]};
 ghost use Rattle.uno_model.specs.Sound.{IsSound};
 
-use crate::judging::{made, see};
-use crate::waiting::Waiting;
+use crate::judging::see;
 use std::alloc::Global;
 use uno_base::NoMemory;
 use uno_model::the_built_in_entities_are_sound;
 use uno_types::{Name, Registry, Text, Tid};
-use urp_message::{Listener, Message, Speaker, may_be_said, weight_of};
+use urp_message::{Expects, Listener, Message, Speaker, may_be_said, weight_of};
 
 /// The sender holds the object `S;1` once less.
 fn release(alloc: Global) -> Result<Message, NoMemory> {
@@ -21,23 +21,33 @@ fn release(alloc: Global) -> Result<Message, NoMemory> {
 fn written(alloc: Global, registry: &Registry, message: &Message) -> Result<Vec<u8>, NoMemory>
     requires { IsSound registry.now }
 {
-    let mut speaker = Speaker::new(alloc)?;
     if !may_be_said(registry, message) || weight_of(registry, message) > 16_777_216 {
         return Ok(Vec::new(alloc));
     }
+    let mut speaker = Speaker::new(alloc)?;
     speaker.write(registry, message)
+}
+
+/// No call waits for its answer at the other end.
+struct NoCalls;
+
+impl Expects for NoCalls {
+    ghost calls = { λ _. [] };
+
+    fn waits(&self, _: &[u8]) -> Option<(&Name, u16)> {
+        None
+    }
 }
 
 /// Whether the body of a block is heard as a release of `S;1`, to its last byte.
 fn is_heard(alloc: Global, registry: &Registry, body: &[u8]) -> Result<bool, NoMemory>
     requires { IsSound registry.now }
 {
-    let waiting = Waiting::of(alloc, 3)?;
     let mut listener = Listener::new(alloc)?;
-    let Ok((heard, used)) = listener.read(registry, body, &waiting) else {
-        return Ok(false);
-    };
-    Ok(used == body.len() && releases(&heard, "S;1"))
+    match &listener.read(registry, body, &NoCalls) {
+        Ok((heard, used)) => Ok(*used == body.len() && releases(heard, "S;1")),
+        Err(_) => Ok(false),
+    }
 }
 
 fn releases(message: &Message, object: &str) -> bool {
@@ -47,20 +57,28 @@ fn releases(message: &Message, object: &str) -> bool {
     oid.as_str() == object
 }
 
-fn is_said_and_heard(alloc: Global) -> Result<bool, NoMemory> {
-    let registry = Registry::new(alloc)?;
-    the_built_in_entities_are_sound();
-    let message = release(alloc)?;
-    let block = written(alloc, &registry, &message)?;
-    drop(message);
+/// Whether what one end says is heard by the other, which is handed all behind the header of the block.
+fn is_said_and_heard(
+    alloc: Global,
+    registry: &Registry,
+    message: &Message,
+) -> Result<bool, NoMemory>
+    requires { IsSound registry.now }
+{
+    let block = written(alloc, registry, message)?;
     match block.get(8..) {
-        Some(body) => is_heard(alloc, &registry, body),
+        Some(body) => is_heard(alloc, registry, body),
         None => Ok(false),
     }
 }
 
 #[test]
 fn what_one_end_writes_the_other_reads(rt: HostRuntime) {
-    let heard = made(&rt, is_said_and_heard(rt.alloc()));
-    see(&rt, heard, "S;1");
+    let registry = Registry::new(rt.alloc()).expect(&rt, "no memory");
+    the_built_in_entities_are_sound();
+    let message = release(rt.alloc()).expect(&rt, "no memory");
+    let heard = is_said_and_heard(rt.alloc(), &registry, &message);
+    drop(message);
+    drop(registry);
+    see(&rt, heard == Ok(true), "S;1");
 }

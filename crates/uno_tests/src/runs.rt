@@ -1,15 +1,10 @@
 //! That a run answers where memory is ample, with the bytes of the protocol, and says how it ended.
-use crate::files::file;
-use crate::judging::{made, see_number};
-use crate::sources::source_of;
+use crate::judging::see_number;
+use crate::running::{EMPTY, Row, see_runs};
 use crate::talk::{ASK, CALL, DOUBLE, OBJECT};
-use std::alloc::Global;
-use std::process::Abort;
-use uno_base::NoMemory;
-use uno_io::{MemFiles, MemSink, MemSource, Source};
+use uno_run::Status;
 use uno_run::Status::{Broken, Cut, Done, Full, ReadFault, Words, WriteFault};
-use uno_run::{Status, run};
-use urp_message::{Reason, Tag};
+use urp_message::Reason;
 
 /// A call of `twice(1)` with a short header, and its answer.
 const SHORT: &[u8] = b"\x00\x00\x00\x05\x00\x00\x00\x01\x03\x00\x00\x00\x01";
@@ -38,21 +33,7 @@ const NUMBERS: &[&[u8]] = &[ASK, CALL_MINUS_1, CALL_GREATEST];
 
 const ANSWERS: &[&[u8]] = &[OBJECT, MINUS_2, TWICE_GREATEST];
 
-/// The registry, the plan and the peer of the front page: a counter is asked for and called by `add(20)` and `add(22)`; and what it answers.
-const COUNTER_TYPES: &str =
-    "unoreg 1\ninterface demo.XCount\nbase com.sun.star.uno.XInterface\nmethod add long\nparam in a long\nend\n";
-
-const COUNTER_PLAN: &str = "unoplan 1
-behaviour Counter demo.XCount
-field sum long
-method demo.XCount add
-set $.sum = add($.sum,$a)
-return $.sum
-end
-end
-export \"counter\" Counter
-";
-
+/// The peer of the front page: a counter is asked for and called by `add(20)` and `add(22)`; and what it answers.
 const COUNTED: &[&[u8]] = &[
     b"\0\0\0\x3E\0\0\0\x01\xF8\0\x96\0\0\x1Bcom.sun.star.uno.XInterface\x07counter\0\0\x01T\0\0\x96\0\x01\x0Bdemo.XCount",
     b"\0\0\0\x0F\0\0\0\x01\xF0\x03\x16\0\x01\x03S;1\0\x01\0\0\0\x14",
@@ -81,34 +62,6 @@ const SHORT_HEADER: &[u8] = b"\x00\x00\x00\x01\x00\x00\x00\x01\xC0";
 
 /// The first bytes of the call.
 const FRONT: &[u8] = b"\x00\x00\x00\x0F\x00";
-
-/// A run of the end with the tag `S`: its words, what it reads, and what fails; what it writes, how it ends, and what it says of that.
-#[derive(Clone, Copy)]
-struct Row {
-    words: &'static [&'static str],
-    input: &'static [&'static [u8]],
-    /// The sizes of the pieces that are read.
-    sizes: &'static [usize],
-    /// The reads, the writes of the output, and the writes of the line that fail.
-    failing: [&'static [u64]; 3],
-    output: &'static [&'static [u8]],
-    status: Status,
-    line: &'static str,
-    /// How many bytes a read of at most 100 gives behind the run.
-    left: usize,
-}
-
-/// A run over no bytes, of which nothing fails.
-const EMPTY: Row = Row {
-    words: &["answer"],
-    input: &[],
-    sizes: &[],
-    failing: [&[], &[], &[]],
-    output: &[],
-    status: Done,
-    line: "",
-    left: 0,
-};
 
 /// A run that breaks behind the query.
 const BROKEN: Row = Row {
@@ -292,129 +245,12 @@ const HINDERED: &[Row] = &[
     },
 ];
 
-/// The pieces, one behind the other.
-pub(crate) fn joined(alloc: Global, pieces: &[&[u8]]) -> Result<Vec<u8>, NoMemory> {
-    let mut all = Vec::new(alloc);
-    for piece in pieces {
-        all.extend_from_slice(piece)?;
-    }
-    Ok(all)
-}
-
-/// Whether the bytes are these pieces, one behind the other.
-fn are_joined(bytes: &[u8], pieces: &[&[u8]]) -> bool {
-    let mut rest = bytes;
-    for piece in pieces {
-        match rest.strip_prefix(*piece) {
-            Some(behind) => rest = behind,
-            None => return false,
-        }
-    }
-    rest.is_empty()
-}
-
-/// A sink of which the writes with these numbers fail.
-pub(crate) fn sink_of(alloc: Global, failing: &[u64]) -> Result<MemSink, NoMemory> {
-    Ok(MemSink::new(alloc, Vec::from_slice(alloc, failing)?))
-}
-
-pub(crate) fn owned(alloc: Global, words: &[&str]) -> Result<Vec<String>, NoMemory> {
-    let mut all = Vec::new(alloc);
-    for word in words {
-        all.push(String::from_str(alloc, word)?)?;
-    }
-    Ok(all)
-}
-
-pub(crate) fn tag_of(alloc: Global) -> Result<Tag, NoMemory> {
-    match Tag::read(alloc, "S") {
-        Ok(tag) => Ok(tag),
-        Err(_) => Err(NoMemory),
-    }
-}
-
-/// The files of the front page.
-fn files_of(alloc: Global) -> Result<MemFiles, NoMemory> {
-    let mut files = Vec::new(alloc);
-    files.push(file(alloc, "counter.reg", COUNTER_TYPES.as_bytes())?)?;
-    files.push(file(alloc, "counter.plan", COUNTER_PLAN.as_bytes())?)?;
-    Ok(MemFiles::new(alloc, files, Vec::new(alloc)))
-}
-
-/// How a run over files and streams in memory ends.
-pub(crate) fn status_of(
-    alloc: Global,
-    words: &[String],
-    tag: &Tag,
-    files: &mut MemFiles,
-    input: &mut MemSource,
-    output: &mut MemSink,
-    errors: &mut MemSink,
-) -> Status {
-    run(&(), alloc, words, tag, files, input, output, errors)
-}
-
-/// Whether a run does what the row says.
-fn goes(
-    alloc: Global,
-    row: &Row,
-    words: &[String],
-    tag: &Tag,
-    files: &mut MemFiles,
-    input: &mut MemSource,
-    output: &mut MemSink,
-    errors: &mut MemSink,
-) -> bool {
-    let status = status_of(alloc, words, tag, files, input, output, errors);
-    if status != row.status || errors.as_bytes() != row.line.as_bytes() {
-        return false;
-    }
-    let mut piece = [0u8; 100];
-    are_joined(output.as_bytes(), row.output) && input.read(&mut piece) == Ok(row.left)
-}
-
-/// Whether the run of a row at the end with that tag does what the row says.
-fn is_right(rt: &impl Abort, alloc: Global, tag: &Tag, row: &Row) -> bool {
-    let [reads, writes, lines] = row.failing;
-    let bytes = made(rt, joined(alloc, row.input));
-    let mut input = made(rt, source_of(alloc, bytes, row.sizes, reads));
-    let mut output = made(rt, sink_of(alloc, writes));
-    let mut errors = made(rt, sink_of(alloc, lines));
-    let words = made(rt, owned(alloc, row.words));
-    let mut files = made(rt, files_of(alloc));
-    let right = goes(
-        alloc,
-        row,
-        &words,
-        tag,
-        &mut files,
-        &mut input,
-        &mut output,
-        &mut errors,
-    );
-    drop(files);
-    drop(words);
-    drop(errors);
-    drop(output);
-    drop(input);
-    right
-}
-
-/// Sees that runs go as the rows say.
-fn judge_all(rt: &impl Abort, alloc: Global, tag: &Tag, what: &str, rows: &[Row]) {
-    for (number, row) in rows.iter().enumerate() {
-        assert!(rt; is_right(rt, alloc, tag, row), "{what} at {number}");
-    }
-}
-
 #[test]
 fn what_comes_is_answered_in_any_pieces_or_ends_the_run_in_its_way(rt: HostRuntime) {
-    let tag = made(&rt, tag_of(rt.alloc()));
-    judge_all(&rt, rt.alloc(), &tag, "what is answered", ANSWERED);
-    judge_all(&rt, rt.alloc(), &tag, "what breaks", BREAKS);
-    judge_all(&rt, rt.alloc(), &tag, "what is cut", CUTS);
-    judge_all(&rt, rt.alloc(), &tag, "faults and other words", HINDERED);
-    drop(tag);
+    see_runs(&rt, rt.alloc(), "what is answered", ANSWERED);
+    see_runs(&rt, rt.alloc(), "what breaks", BREAKS);
+    see_runs(&rt, rt.alloc(), "what is cut", CUTS);
+    see_runs(&rt, rt.alloc(), "faults and other words", HINDERED);
 }
 
 const CODES: &[(Status, u8)] = &[

@@ -1,5 +1,5 @@
 //! That the caches do what they are said to do where memory is ample, and leave what they say where it is not.
-use crate::judging::{made, see};
+use crate::judging::see;
 use uno_base::NoMemory;
 use urp_cache::{Known, ReadCache, ReadCaches, SendCache, SendCaches};
 
@@ -65,11 +65,11 @@ fn are_meant(caches: &mut ReadCaches) -> Result<bool, NoMemory> {
 
 #[test]
 fn the_least_recent_gives_up_its_slot_and_slots_mean_what_was_announced_last(rt: HostRuntime) {
-    let mut sent = made(&rt, SendCaches::new(rt.alloc()));
+    let mut sent = SendCaches::new(rt.alloc()).expect(&rt, "no memory");
     let right = take_slots(&mut sent);
     drop(sent);
     see(&rt, right, "what is sent");
-    let mut read = made(&rt, ReadCaches::new(rt.alloc()));
+    let mut read = ReadCaches::new(rt.alloc()).expect(&rt, "no memory");
     let right = are_meant(&mut read);
     drop(read);
     see(&rt, right == Ok(true), "what is read");

@@ -1,8 +1,8 @@
 //! That the streams do what they promise where memory is ample, over the readers and writers of std too.
-use crate::judging::{see, see_bytes, see_number};
+use crate::judging::{see, see_number};
 use crate::sources::source_of;
 use std::alloc::Global;
-use uno_base::NoMemory;
+use std::process::Abort;
 use uno_io::{Failed, MemSink, Sink, Source, StdSink, StdSource, write_all};
 
 const TEXT: &[u8] = b"what is sent in pieces";
@@ -58,17 +58,17 @@ fn gives<S: Source>(source: &mut S, pieces: &[&[u8]]) -> bool {
 }
 
 /// Whether a source of the text gives the pieces of a row.
-fn is_right(alloc: Global, row: &Row) -> Result<bool, NoMemory> {
+fn is_right(rt: &impl Abort, alloc: Global, row: &Row) -> bool {
     let (sizes, failing, pieces) = row;
-    let text = Vec::from_slice(alloc, TEXT)?;
-    let mut source = source_of(alloc, text, sizes, failing)?;
-    Ok(gives(&mut source, pieces))
+    let text = Vec::from_slice(alloc, TEXT).expect(rt, "no memory");
+    let mut source = source_of(rt, alloc, text, sizes, failing);
+    gives(&mut source, pieces)
 }
 
 #[test]
 fn sources_give_all_in_order(rt: HostRuntime) {
     for (number, row) in ROWS.iter().enumerate() {
-        see_number(&rt, is_right(rt.alloc(), row) == Ok(true), number);
+        see_number(&rt, is_right(&rt, rt.alloc(), row), number);
     }
     see(&rt, gives(&mut StdSource::new(TEXT), WHOLE), "a reader");
 }
@@ -104,10 +104,10 @@ fn takes_until_closed(sink: &mut MemSink) -> bool {
     open && answers(sink, CLOSED) && sink.as_bytes() == b"first third".as_slice()
 }
 
-fn sink_is_right(alloc: Global) -> Result<bool, NoMemory> {
-    let failing = Vec::from_slice(alloc, &[1])?;
-    let mut sink = MemSink::with_room(alloc, 64, failing)?;
-    Ok(takes_until_closed(&mut sink))
+fn sink_is_right(rt: &impl Abort, alloc: Global) -> bool {
+    let failing = Vec::from_slice(alloc, &[1]).expect(rt, "no memory");
+    let mut sink = MemSink::with_room(alloc, 64, failing).expect(rt, "no memory");
+    takes_until_closed(&mut sink)
 }
 
 /// Whether the text is too long for a room.
@@ -131,25 +131,21 @@ fn writer_is_right(alloc: Global) -> bool {
 }
 
 /// Whether a failure is told by this text.
-fn is_told(alloc: Global, wanted: &str) -> Result<bool, NoMemory> {
-    let text = format!(in alloc; "{}", Failed)?;
-    Ok(text.as_str() == wanted)
+fn is_told(rt: &impl Abort, alloc: Global, wanted: &str) -> bool {
+    let text = format!(in alloc; "{}", Failed).expect(rt, "no memory");
+    text.as_str() == wanted
 }
 
 #[test]
 fn sinks_and_writers_take_what_they_have_room_for_until_they_are_closed(rt: HostRuntime) {
     let mut room = [b'-'; 10];
     see(&rt, is_full(room.as_mut_slice()), "a full writer");
-    see_bytes(
-        &rt,
-        room.as_slice() == b"what is se".as_slice(),
-        room.as_slice(),
-    );
+    see(&rt, room.as_slice() == b"what is se".as_slice(), "its room");
     see(&rt, writer_is_right(rt.alloc()), "a writer");
-    see(&rt, sink_is_right(rt.alloc()) == Ok(true), "a sink");
+    see(&rt, sink_is_right(&rt, rt.alloc()), "a sink");
     see(
         &rt,
-        is_told(rt.alloc(), "the stream failed") == Ok(true),
+        is_told(&rt, rt.alloc(), "the stream failed"),
         "a failure",
     );
 }

@@ -1,76 +1,121 @@
-//! Copies, tags and registries.
-use crate::entities::entity_of;
-use crate::names::{copies, is_tag};
-use crate::standing::may_stand;
+//! Registries.
+ghost use Rattle.uno_model.specs.Sound.{IsSound};
+
+use registry_reading::{RegError, read_registry};
 use std::alloc::Global;
 use uno_base::NoMemory;
-use uno_types::{AddError, Registry};
+use uno_entities::copy_entities;
+use uno_types::{AddError, Entity, Registry, TypeName};
 
 /// Entities whose names stand before, between and behind the built-in ones.
-const LINES: &[&str] = &[
-    "struct t.D A:long",
-    "enum a.A A",
-    "enum t.B A B",
-    "enum com.sun.star.m.M A",
-    "enum a.B A",
-    "enum z.Z A",
-    "interface t.X +com.sun.star.uno.XInterface",
-    "interface t.Y +t.X",
-    "struct b.B A:struct/t.D",
-];
+const TYPES: &str = "unoreg 1\n\
+    enum a.A\nvalue A 0\nend\n\
+    enum a.B\nvalue A 0\nend\n\
+    struct b.B\nmember A t.D\nend\n\
+    enum com.sun.star.m.M\nvalue A 0\nend\n\
+    enum t.B\nvalue A 0\nvalue B 0\nend\n\
+    struct t.D\nmember A long\nend\n\
+    interface t.X\nbase com.sun.star.uno.XInterface\nend\n\
+    interface t.Y\nbase t.X\nend\n\
+    enum z.Z\nvalue A 0\nend\n";
 
-/// Adds an entity, and answers whether the registry then has one more; what finds no memory leaves as many as there were.
-fn add(alloc: Global, registry: &mut Registry, line: &str) -> Result<bool, NoMemory> {
+/// Adds an entity, and answers whether the registry then has one more, or as many where it has the name; what finds no memory leaves as many as there were.
+fn add(registry: &mut Registry, entity: Entity) -> Result<bool, NoMemory> {
     let before = registry.entities().len();
-    let entity = entity_of(alloc, line)?;
+    let had = registry.find(entity.name.as_str()).is_some();
     let added = registry.add(entity);
     let now = registry.entities().len();
     match added {
-        Ok(()) => Ok(now == before.saturating_add(1)),
+        Ok(()) => Ok(!had && now == before.saturating_add(1)),
+        Err(AddError::Twice) => Ok(had && now == before),
         Err(AddError::NoMemory) if now == before => Err(NoMemory),
-        Err(_) => Ok(false),
+        Err(AddError::NoMemory) => Ok(false),
     }
 }
 
-fn add_all(alloc: Global, registry: &mut Registry) -> Result<bool, NoMemory> {
-    for line in LINES {
-        if !add(alloc, registry, line)? {
+/// Adds the entities, the last one first.
+fn add_all(registry: &mut Registry, entities: &mut Vec<Entity>) -> Result<bool, NoMemory> {
+    for _ in 0..entities.len() {
+        let Some(entity) = entities.pop() else {
+            return Ok(false);
+        };
+        if !add(registry, entity)? {
             return Ok(false);
         }
     }
     Ok(true)
 }
 
-const ROOT: &str = "interface/com.sun.star.uno.XInterface";
+/// Adds copies of the entities of another registry.
+fn fill(alloc: Global, registry: &mut Registry, from: &Registry) -> Result<bool, NoMemory> {
+    let mut entities = copy_entities(alloc, from.entities())?;
+    let added = add_all(registry, &mut entities);
+    drop(entities);
+    added
+}
+
+const ROOT: &str = "com.sun.star.uno.XInterface";
 
 /// Whether the registry is sound, asked again where there was no memory for the answer, and `assignable`, which needs none,
 /// answers right both ways.
 fn judge(alloc: Global, registry: &Registry) -> Result<bool, NoMemory> {
     match registry.is_sound() {
-        Ok(true) => {
-            let up = may_stand(alloc, registry, ROOT, "interface/t.Y")?;
-            let down = may_stand(alloc, registry, "interface/t.Y", ROOT)?;
-            Ok(up && !down)
-        }
+        Ok(true) => Ok(
+            stands(alloc, registry, ROOT, "t.Y")? && !stands(alloc, registry, "t.Y", ROOT)?,
+        ),
         Ok(false) => Ok(false),
         Err(NoMemory) => Ok(registry.is_sound() == Ok(true)),
     }
 }
 
-/// All of it, as far as there is memory.
-pub(super) fn run(alloc: Global) -> Result<bool, NoMemory> {
+/// What a name stands for, where there was memory to tell.
+type Found = Result<Option<TypeName>, NoMemory>;
+
+/// Whether one type may stand for the other.
+fn stands(alloc: Global, registry: &Registry, to: &str, from: &str) -> Result<bool, NoMemory>
+    requires { IsSound registry.now }
+{
+    let to = registry.type_named(alloc, to);
+    let from = registry.type_named(alloc, from);
+    let right = stands_for(registry, &to, &from);
+    drop(from);
+    drop(to);
+    right
+}
+
+fn stands_for(registry: &Registry, to: &Found, from: &Found) -> Result<bool, NoMemory>
+    requires { IsSound registry.now }
+{
+    match (to, from) {
+        (Ok(Some(to)), Ok(Some(from))) => Ok(registry.assignable(to, from)),
+        (Err(NoMemory), _) | (_, Err(NoMemory)) => Err(NoMemory),
+        _ => Ok(false),
+    }
+}
+
+fn fill_and_judge(
+    alloc: Global,
+    registry: &mut Registry,
+    from: &Registry,
+) -> Result<bool, NoMemory> {
+    if !fill(alloc, registry, from)? {
+        return Ok(false);
+    }
+    Ok(registry.entities().len() == from.entities().len() && judge(alloc, registry)?)
+}
+
+fn run_from(alloc: Global, from: &Registry) -> Result<bool, NoMemory> {
     let mut registry = Registry::new(alloc)?;
-    let right = match add_all(alloc, &mut registry) {
-        Ok(true) => judge(alloc, &registry),
-        other => other,
-    };
+    let right = fill_and_judge(alloc, &mut registry, from);
     drop(registry);
     right
 }
 
-/// Whether copies and tags are right.
-pub(super) fn texts_are_right(alloc: Global) -> bool {
-    copies(alloc, "[][]interface/t.X") != Ok(false)
-        && is_tag(alloc, "S") != Ok(false)
-        && is_tag(alloc, "a;b") == Ok(false)
+/// All of it, as far as there is memory.
+pub(super) fn run(alloc: Global) -> Result<bool, NoMemory> {
+    match &read_registry(alloc, TYPES.as_bytes()) {
+        Ok(registry) => run_from(alloc, registry),
+        Err(RegError::NoMemory) => Err(NoMemory),
+        Err(_) => Ok(false),
+    }
 }
