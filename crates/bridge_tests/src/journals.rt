@@ -2,11 +2,11 @@
 //!
 //! `reserve`, `unreserve`, `room`, `stamp 7`, and an entry: `reap 3`, `feed`, `ask 1`, `dispose`. An entry and the giving up of room
 //! answer `!` where there is no room, and nothing else. `show` shows the entries with their marks.
-use crate::shown::{Shown, cut, number_in, see};
+use crate::shown::{Shown, cut, number_in};
+use crate::values::{name, text};
 use bridge_journal::{Entry, Journal};
 use std::alloc::Global;
-use uno_base::NoMemory;
-use uno_types::{Name, Text};
+use std::process::Abort;
 
 const ROWS: &[(&str, &str)] = &[
     ("room,show", " 0 -"),
@@ -27,124 +27,118 @@ const ROWS: &[(&str, &str)] = &[
     ),
 ];
 
-fn entry_of(alloc: Global, what: &str, number: u32) -> Result<Entry, NoMemory> {
+fn entry_of(rt: &impl Abort, alloc: Global, what: &str, number: u32) -> Entry {
     match what {
-        "reap" => Ok(Entry::Reaped { object: number }),
-        "feed" => Ok(Entry::Fed(Vec::from_slice(alloc, b"ab")?)),
-        "ask" => asked(alloc, number),
-        _ => Ok(Entry::Disposed),
+        "reap" => Entry::Reaped { object: number },
+        "feed" => Entry::Fed(Vec::from_slice(alloc, b"ab").expect(rt, "no memory")),
+        "ask" => Entry::Asked {
+            root: number,
+            name: text(rt, alloc, "node"),
+            wanted: name(rt, alloc, "demo.XNode"),
+        },
+        "dispose" => Entry::Disposed,
+        _ => panic!(rt; "no such call"),
     }
 }
 
-fn asked(alloc: Global, root: u32) -> Result<Entry, NoMemory> {
-    let name = Text::of(alloc, "node")?;
-    let wanted = Name::of(alloc, "demo.XNode")?;
-    Ok(Entry::Asked { root, name, wanted })
-}
-
-/// Makes an entry, where there is room for it.
-fn enter(journal: &mut Journal, entry: Entry, shown: &mut Shown) -> Result<(), NoMemory> {
-    if journal.room() == 0 {
-        drop(entry);
-        return shown.word("!");
-    }
-    journal.enter(entry);
-    Ok(())
-}
-
-fn unreserve(journal: &mut Journal, shown: &mut Shown) -> Result<(), NoMemory> {
+fn unreserve(journal: &mut Journal, shown: &mut Shown) {
     if journal.room() == 0 {
         return shown.word("!");
     }
     journal.unreserve();
-    Ok(())
 }
 
-fn show_entry(shown: &mut Shown, entry: &Entry) -> Result<(), NoMemory> {
+fn show_entry(shown: &mut Shown, entry: &Entry) {
     match entry {
         Entry::Reaped { object } => {
-            shown.word("reaped:")?;
-            shown.put_number(u64::from(*object))
+            shown.word("reaped:");
+            shown.put_number(u64::from(*object));
         }
         Entry::Fed(bytes) => {
-            shown.word("fed:")?;
-            shown.put(str::from_utf8(bytes).unwrap_or("?"))
+            shown.word("fed:");
+            shown.put(str::from_utf8(bytes).unwrap_or("?"));
         }
         Entry::Asked { root, name, wanted } => {
-            shown.word("asked:")?;
-            shown.put_number(u64::from(*root))?;
-            shown.put(":")?;
-            shown.put(name.as_str())?;
-            shown.put(":")?;
-            shown.put(wanted.as_str())
+            shown.word("asked:");
+            shown.put_number(u64::from(*root));
+            shown.put(":");
+            shown.put(name.as_str());
+            shown.put(":");
+            shown.put(wanted.as_str());
         }
         Entry::Disposed => shown.word("disposed"),
         _ => shown.word("?"),
     }
 }
 
-/// Shows the entries, each with its mark.
-fn show(journal: &Journal, shown: &mut Shown) -> Result<(), NoMemory> {
-    if journal.entries().is_empty() && journal.stamps().is_empty() {
-        return shown.word("-");
+/// Shows the entry and the mark at a place.
+fn show_at(journal: &Journal, place: usize, shown: &mut Shown) {
+    match journal.entries().get(place) {
+        Some(entry) => show_entry(shown, entry),
+        None => shown.word("?"),
     }
-    for (entry, stamp) in journal.entries().iter().zip(journal.stamps()) {
-        show_entry(shown, entry)?;
-        shown.put("@")?;
-        shown.put_number(*stamp)?;
+    shown.put("@");
+    match journal.stamps().get(place) {
+        Some(stamp) => shown.put_number(*stamp),
+        None => shown.put("?"),
     }
-    Ok(())
 }
 
-fn step(
-    alloc: Global,
-    journal: &mut Journal,
-    call: &str,
-    shown: &mut Shown,
-) -> Result<(), NoMemory> {
+/// Shows the entries, each with its mark.
+fn show(journal: &Journal, shown: &mut Shown) {
+    let count = journal.entries().len().max(journal.stamps().len());
+    if count == 0 {
+        return shown.word("-");
+    }
+    for place in 0..count {
+        show_at(journal, place, shown);
+    }
+}
+
+fn step(rt: &impl Abort, alloc: Global, journal: &mut Journal, call: &str, shown: &mut Shown) {
     let (what, number) = cut(call, ' ');
     let number = number_in(number);
     match what {
-        "reserve" => journal.reserve(),
+        "reserve" => shown.done(journal.reserve()),
         "unreserve" => unreserve(journal, shown),
         "room" => shown.number(journal.room() as u64),
-        "stamp" => {
-            journal.stamp(u64::from(number));
-            Ok(())
-        }
+        "stamp" => journal.stamp(u64::from(number)),
         "show" => show(journal, shown),
-        _ => enter(journal, entry_of(alloc, what, number)?, shown),
+        _ => {
+            if journal.room() == 0 {
+                shown.word("!");
+            } else {
+                journal.enter(entry_of(rt, alloc, what, number));
+            }
+        }
     }
 }
 
-/// What the calls of a row answer.
-fn answers(alloc: Global, calls: &str) -> Result<Shown, NoMemory> {
+/// Sees what the calls of a row answer.
+fn see(rt: &impl Abort, alloc: Global, calls: &str, wanted: &str) {
     let mut journal = Journal::new(alloc);
     let mut shown = Shown::new(alloc);
     for call in calls.split(',') {
-        step(alloc, &mut journal, call, &mut shown)?;
+        step(rt, alloc, &mut journal, call, &mut shown);
     }
-    Ok(shown)
+    shown.see(rt, calls, wanted);
 }
 
 #[test]
 fn calls_answer_as_the_rows_say(rt: HostRuntime) {
     for (calls, wanted) in ROWS {
-        see(&rt, answers(rt.alloc(), calls), calls, wanted);
+        see(&rt, rt.alloc(), calls, wanted);
     }
 }
 
 /// Makes so many entries, each with its number as its mark.
-fn filled(alloc: Global, count: u32) -> Result<Journal, NoMemory> {
-    let mut journal = Journal::new(alloc);
+fn fill(rt: &impl Abort, journal: &mut Journal, count: u32) {
     for object in 0..count {
-        journal.reserve()?;
+        journal.reserve().expect(rt, "no memory");
         journal.stamp(u64::from(object));
-        if journal.room() > 0 {
-            journal.enter(Entry::Reaped { object });
-        }
+        assert!(rt; journal.room() > 0);
+        journal.enter(Entry::Reaped { object });
     }
-    Ok(journal)
 }
 
 /// Whether the entry at a place has the place as its number and as its mark.
@@ -156,17 +150,12 @@ fn is_at_its_place(journal: &Journal, place: usize) -> bool {
     }
 }
 
-fn many_are_in_order(alloc: Global, count: u32) -> Result<bool, NoMemory> {
-    let journal = filled(alloc, count)?;
-    for place in 0..count as usize {
-        if !is_at_its_place(&journal, place) {
-            return Ok(false);
-        }
-    }
-    Ok(journal.entries().len() == count as usize)
-}
-
 #[test]
 fn many_entries_stand_in_their_order(rt: HostRuntime) {
-    assert!(rt; many_are_in_order(rt.alloc(), 3000) == Ok(true));
+    let mut journal = Journal::new(rt.alloc());
+    fill(&rt, &mut journal, 3000);
+    for place in 0..3000 {
+        assert!(&rt; is_at_its_place(&journal, place));
+    }
+    assert!(&rt; journal.entries().len() == 3000);
 }

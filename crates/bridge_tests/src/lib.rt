@@ -2,8 +2,6 @@
 #![tactic(auto)]
 
 #[cfg(test)]
-mod calling;
-#[cfg(test)]
 mod journals;
 #[cfg(test)]
 mod objects;

@@ -1,15 +1,18 @@
 //! The objects of an end with the tag `S`, of which the first never goes, by scripts: each row has calls, and what they answer.
 //!
 //! A pair is `S;2/n`, and a holder `f7` (a frame), `o1` (an object) or `r1` (a root). The calls are those of `Objects`, by short names:
-//! `sent` and `released` stand for `sent_one` and `released_one`, `set` for `set_fields`, `named` for `number_named`, and `made` for
-//! `objects_made`. An answer is `y`, `n` or a number, a refusal `!`, none `-`, and fields are their values.
-use crate::shown::{Shown, cut, number_in, see};
-use crate::values::{Pair, reference_of, references_of, show_values, values_of};
+//! `sent` and `released` stand for `sent_one` and `released_one`, `called` for `is_called_out`, `set` for `set_fields`, `named` for
+//! `number_named`, and `made` for `objects_made`. An answer is `y`, `n` or a number, a refusal `!`, none `-`, and fields are their values.
+ghost use Rattle.uno_model.specs.Sound.{IsSound};
+
+use crate::registries::registry;
+use crate::shown::{Shown, cut, number_in};
+use crate::values::{name, reference_of, show_values, text, values_of};
 use bridge_objects::{Holder, Objects};
 use std::alloc::Global;
-use uno_base::NoMemory;
-use uno_types::Tag;
-use uno_values::Value;
+use std::process::Abort;
+use uno_types::{Name, Registry, Tag, Text};
+use uno_values::Reference;
 
 const ROWS: &[(&str, &str)] = &[
     (
@@ -88,6 +91,14 @@ const ROWS: &[(&str, &str)] = &[
         "hold o1 C;1/n,hold f7 C;1/n,sent S;2/n,sent S;2/n,end,holders C;1/n,any_stub S;2/n,released S;2/n",
         " y n 1 n !",
     ),
+    (
+        "make 0,sent S;1/demo.XNode,called S;1/demo.XNode,called S;1/demo.XBase,called S;1/demo.XOther,called S;2/demo.XNode,stubs",
+        " 1 y y n n 1",
+    ),
+    (
+        "make 0,sent S;1/demo.XNode,released S;1/demo.XNode,called S;1/demo.XNode,stubs",
+        " 1 y n 0",
+    ),
 ];
 
 fn holder_of(word: &str) -> Holder {
@@ -100,74 +111,84 @@ fn holder_of(word: &str) -> Holder {
     Holder::Root(number_in(word.trim_start_matches('r')))
 }
 
-/// A call about a holder and a pair.
+/// A call about a pair and its holder.
 fn on_holder(
+    rt: &impl Abort,
     objects: &mut Objects,
     what: &str,
     holder: Holder,
-    pair: &Pair,
+    pair: (&Text, &Name),
     shown: &mut Shown,
-) -> Result<(), NoMemory> {
+) {
+    let (oid, face) = pair;
     match what {
-        "hold" => {
-            let first = objects.hold(holder, &pair.oid, &pair.face)?;
-            shown.yes(first)
-        }
-        "let_go" => {
-            let last = objects.let_go(holder, &pair.oid, &pair.face);
-            shown.yes_or_refused(last.ok())
-        }
-        _ => shown.yes(objects.holds(holder, &pair.oid, &pair.face)),
+        "hold" => shown.yes(objects.hold(holder, oid, face).expect(rt, "no memory")),
+        "let_go" => shown.yes_or_refused(objects.let_go(holder, oid, face).ok()),
+        _ => shown.yes(objects.holds(holder, oid, face)),
+    }
+}
+
+/// A call about a pair.
+fn on_pair(
+    registry: &Registry,
+    objects: &mut Objects,
+    what: &str,
+    pair: (&Text, &Name),
+    shown: &mut Shown,
+)
+    requires { IsSound registry.now }
+{
+    let (oid, face) = pair;
+    match what {
+        "holders" => shown.number(objects.holders(oid, face)),
+        "any_holds" => shown.yes(objects.any_holds(oid)),
+        "sent" => shown.done(objects.sent_one(oid, face)),
+        "released" => shown.yes_or_refused(objects.released_one(oid, face).ok()),
+        "has_stub" => shown.yes(objects.has_stub(oid, face)),
+        "any_stub" => shown.yes(objects.any_stub(oid)),
+        _ => shown.yes(objects.is_called_out(registry, oid, face)),
+    }
+}
+
+/// A call about a holder and a reference.
+fn on_reference(
+    objects: &mut Objects,
+    what: &str,
+    holder: Holder,
+    reference: &Reference,
+    shown: &mut Shown,
+) {
+    match what {
+        "gain" => shown.done(objects.gain(holder, reference)),
+        _ => objects.lose(holder, reference),
     }
 }
 
 /// A call about a holder and references.
 fn on_references(
+    rt: &impl Abort,
     alloc: Global,
     objects: &mut Objects,
     what: &str,
     holder: Holder,
     words: &str,
-) -> Result<(), NoMemory> {
-    if what == "gain" {
-        return objects.gain(holder, &reference_of(alloc, words)?);
-    }
-    if what == "gain_all" {
-        return objects.gain_all(holder, &references_of(alloc, words)?);
-    }
-    if what == "lose" {
-        objects.lose(holder, &reference_of(alloc, words)?);
-    } else {
-        objects.lose_all(holder, &references_of(alloc, words)?);
-    }
-    Ok(())
-}
-
-/// A call about a pair.
-fn on_pair(
-    objects: &mut Objects,
-    what: &str,
-    pair: &Pair,
     shown: &mut Shown,
-) -> Result<(), NoMemory> {
+) {
+    let mut references = Vec::new(alloc);
+    for word in words.split(' ') {
+        references.push(reference_of(rt, alloc, word)).ok();
+    }
     match what {
-        "holders" => shown.number(objects.holders(&pair.oid, &pair.face)),
-        "any_holds" => shown.yes(objects.any_holds(&pair.oid)),
-        "sent" => objects.sent_one(&pair.oid, &pair.face),
-        "released" => {
-            let gone = objects.released_one(&pair.oid, &pair.face);
-            shown.yes_or_refused(gone.ok())
-        }
-        "has_stub" => shown.yes(objects.has_stub(&pair.oid, &pair.face)),
-        _ => shown.yes(objects.any_stub(&pair.oid)),
+        "gain_all" => shown.done(objects.gain_all(holder, &references)),
+        _ => objects.lose_all(holder, &references),
     }
 }
 
-fn show_object(objects: &Objects, number: u32, shown: &mut Shown) -> Result<(), NoMemory> {
+fn show_object(objects: &Objects, number: u32, shown: &mut Shown) {
     match objects.object(number) {
         Some((behaviour, fields)) => {
-            shown.number(u64::from(behaviour))?;
-            show_values(shown, fields)
+            shown.number(u64::from(behaviour));
+            show_values(shown, fields);
         }
         None => shown.word("!"),
     }
@@ -175,110 +196,125 @@ fn show_object(objects: &Objects, number: u32, shown: &mut Shown) -> Result<(), 
 
 /// A call about the object of a number; `make` has that of its behaviour.
 fn on_number(
+    rt: &impl Abort,
+    alloc: Global,
     objects: &mut Objects,
     what: &str,
     number: u32,
-    fields: Vec<Value>,
+    words: &str,
     shown: &mut Shown,
-) -> Result<(), NoMemory> {
+) {
     match what {
         "make" => {
-            let number = objects.make(number, fields)?;
-            shown.number(u64::from(number))
+            let made = objects.make(number, values_of(rt, alloc, words));
+            shown.number(u64::from(made.expect(rt, "no memory")));
         }
-        "set" => show_values(shown, &objects.set_fields(number, fields)),
+        "set" => show_values(
+            shown,
+            &objects.set_fields(number, values_of(rt, alloc, words)),
+        ),
         "remove" => show_values(shown, &objects.remove(number)),
         _ => show_object(objects, number, shown),
     }
 }
 
 /// A call about all objects, or about an identity.
-fn on_all(objects: &mut Objects, what: &str, oid: &str, shown: &mut Shown) -> Result<(), NoMemory> {
+fn on_all(objects: &mut Objects, what: &str, oid: &str, shown: &mut Shown) {
     match what {
         "lowest" => shown.number_or_none(objects.lowest().map(u64::from)),
         "named" => shown.number_or_none(objects.number_named(oid).map(u64::from)),
         "made" => shown.number(u64::from(objects.objects_made())),
         "living" => shown.number(objects.living()),
+        "stubs" => shown.number(objects.stubs()),
         "unmake" => match objects.unmake() {
             Some(fields) => show_values(shown, &fields),
             None => shown.word("!"),
         },
-        _ => {
-            objects.end();
-            Ok(())
-        }
+        "end" => objects.end(),
+        _ => shown.word("?"),
     }
 }
 
 fn step(
+    rt: &impl Abort,
     alloc: Global,
+    registry: &Registry,
     objects: &mut Objects,
     call: &str,
     shown: &mut Shown,
-) -> Result<(), NoMemory> {
+)
+    requires { IsSound registry.now }
+{
     let (what, words) = cut(call, ' ');
     let (first, rest) = cut(words, ' ');
     match what {
         "hold" | "let_go" | "holds" => {
-            let pair = Pair::of(alloc, rest)?;
-            on_holder(objects, what, holder_of(first), &pair, shown)
+            let (oid, face) = cut(rest, '/');
+            let oid = text(rt, alloc, oid);
+            let face = name(rt, alloc, face);
+            on_holder(rt, objects, what, holder_of(first), (&oid, &face), shown);
         }
-        "gain" | "gain_all" | "lose" | "lose_all" => {
-            on_references(alloc, objects, what, holder_of(first), rest)
+        "holders" | "any_holds" | "sent" | "released" | "has_stub" | "any_stub" | "called" => {
+            let (oid, face) = cut(words, '/');
+            let oid = text(rt, alloc, oid);
+            let face = name(rt, alloc, face);
+            on_pair(registry, objects, what, (&oid, &face), shown);
         }
-        "holders" | "any_holds" | "sent" | "released" | "has_stub" | "any_stub" => {
-            let pair = Pair::of(alloc, words)?;
-            on_pair(objects, what, &pair, shown)
+        "gain" | "lose" => {
+            let reference = reference_of(rt, alloc, rest);
+            on_reference(objects, what, holder_of(first), &reference, shown);
+        }
+        "gain_all" | "lose_all" => {
+            on_references(rt, alloc, objects, what, holder_of(first), rest, shown);
         }
         "make" | "set" | "remove" | "object" => {
-            let fields = values_of(alloc, rest)?;
-            on_number(objects, what, number_in(first), fields, shown)
+            on_number(rt, alloc, objects, what, number_in(first), rest, shown);
         }
         _ => on_all(objects, what, words, shown),
     }
 }
 
 /// No objects, of which the first that is made never goes.
-fn no_objects(alloc: Global) -> Result<Objects, NoMemory> {
-    match Tag::read(alloc, "S") {
-        Ok(tag) => Objects::new(alloc, &tag, 1),
-        Err(_) => Err(NoMemory),
-    }
+fn no_objects(rt: &impl Abort, alloc: Global) -> Objects {
+    let tag = Tag::read(alloc, "S").expect(rt, "no tag");
+    Objects::new(alloc, &tag, 1).expect(rt, "no memory")
 }
 
-/// What the calls of a row answer.
-fn answers(alloc: Global, calls: &str) -> Result<Shown, NoMemory> {
-    let mut objects = no_objects(alloc)?;
+/// Sees what the calls of a row answer.
+fn see(rt: &impl Abort, alloc: Global, registry: &Registry, calls: &str, wanted: &str)
+    requires { IsSound registry.now }
+{
+    let mut objects = no_objects(rt, alloc);
     let mut shown = Shown::new(alloc);
     for call in calls.split(',') {
-        step(alloc, &mut objects, call, &mut shown)?;
+        step(rt, alloc, registry, &mut objects, call, &mut shown);
     }
-    Ok(shown)
+    shown.see(rt, calls, wanted);
 }
 
 #[test]
 fn calls_answer_as_the_rows_say(rt: HostRuntime) {
+    let registry = registry(&rt, rt.alloc());
     for (calls, wanted) in ROWS {
-        see(&rt, answers(rt.alloc(), calls), calls, wanted);
+        see(&rt, rt.alloc(), &registry, calls, wanted);
     }
 }
 
-/// Whether so many objects go one after the other, the lowest first, until the first alone is left.
-fn go_in_order(alloc: Global, count: u32) -> Result<bool, NoMemory> {
-    let mut objects = no_objects(alloc)?;
+/// So many objects go one after the other, the lowest first, until the first alone is left.
+fn go_in_order(rt: &impl Abort, alloc: Global, objects: &mut Objects, count: u32) {
     for _ in 0..count {
-        objects.make(0, Vec::new(alloc))?;
+        assert!(rt; objects.make(0, Vec::new(alloc)).is_ok());
     }
     for number in 1..count {
-        if objects.lowest() != Some(number + 1) {
-            return Ok(false);
-        }
+        assert!(rt; objects.lowest() == Some(number + 1));
         drop(objects.remove(number + 1));
     }
-    Ok(objects.lowest().is_none() && objects.living() == 1)
+    assert!(rt; objects.lowest().is_none());
+    assert!(rt; objects.living() == 1);
 }
 
 #[test]
 fn many_objects_go_lowest_first(rt: HostRuntime) {
-    assert!(rt; go_in_order(rt.alloc(), 2000) == Ok(true));
+    let mut objects = no_objects(&rt, rt.alloc());
+    go_in_order(&rt, rt.alloc(), &mut objects, 2000);
 }

@@ -1,109 +1,59 @@
-//! The registry of the tests: `demo.XNode` derives from `demo.XBase`, and `demo.XOther` from neither. The functions of `demo.XNode`
-//! are `twice(in a)`, which is 3 and returns a long, and `swap(in a, out b, inout c)`, 4, which returns nothing; all of them are longs.
-ghost use Rattle.std.specs.Prelude.{IfOk};
+//! The registry of the tests, and plans over it. `demo.XNode` derives from `demo.XBase`, and `demo.XOther` from neither. The functions of
+//! `demo.XNode` are `twice(in a)`, which is 3 and returns a long, `swap(in a, out b, inout c)`, 4, which returns nothing, and `both`, 5,
+//! with the same parameters, which returns a long; all of them are longs.
 ghost use Rattle.uno_model.specs.Sound.{IsSound};
 
+use crate::values::text;
+use behaviour_text::read_plan;
+use plan_types::{Export, Plan};
+use registry_reading::read_registry;
 use std::alloc::Global;
-use uno_base::NoMemory;
-use uno_types::{Base, Body, Entity, Member, Method, Name, Param, Registry, TypeName, Way};
+use std::process::Abort;
+use uno_types::Registry;
 
 pub(crate) const NODE: &str = "demo.XNode";
 
-const BASE: &str = "demo.XBase";
+const TYPES: &str = "unoreg 1\n\
+    service demo.Nodes new demo.XNode\nconstructor create\nend\n\
+    interface demo.XBase\nbase com.sun.star.uno.XInterface\nend\n\
+    interface demo.XNode\nbase demo.XBase\n\
+    method twice long\nparam in a long\n\
+    method swap void\nparam in a long\nparam out b long\nparam inout c long\n\
+    method both long\nparam in a long\nparam out b long\nparam inout c long\nend\n\
+    interface demo.XOther\nbase com.sun.star.uno.XInterface\nend\n\
+    singleton demo.one new demo.XNode\nend\n\
+    singleton demo.two new demo.XNode\nend\n";
 
-const ROOT: &str = "com.sun.star.uno.XInterface";
+/// Two behaviours and two roots; `both` calls itself, once with a name for the result and once without.
+const PLAN: &str = "unoplan 1\n\
+    behaviour Node demo.XNode\n\
+    method demo.XNode both\ncall r long = $self.both(1,$a,$b)\ncall $self.both(1,$a,$b)\nreturn $r\nend\n\
+    end\n\
+    behaviour Other demo.XOther demo.XBase\nend\n\
+    export \"echo\" Node\nexport \"node\" Other\n\
+    thread\nend\nthread\nend\n";
 
-pub(crate) fn sound_registry(alloc: Global) -> Result<Registry, NoMemory>
-    ensures { IfOk result (λ registry. IsSound registry) }
+pub(crate) fn registry(rt: &impl Abort, alloc: Global) -> Registry
+    ensures { IsSound result }
 {
-    let mut registry = Registry::new(alloc)?;
-    add_all(alloc, &mut registry)?;
-    match registry.is_sound() {
-        Ok(true) => Ok(registry),
-        _ => Err(NoMemory),
-    }
+    read_registry(alloc, TYPES.as_bytes()).expect(rt, "no registry")
 }
 
-fn add_all(alloc: Global, registry: &mut Registry) -> Result<(), NoMemory> {
-    add(alloc, registry, BASE, ROOT, Vec::new(alloc))?;
-    add(alloc, registry, "demo.XOther", ROOT, Vec::new(alloc))?;
-    add(alloc, registry, NODE, BASE, members(alloc)?)
+/// The plan with these lines of services and singletons. Its third export has the name of the first, which no text of a plan says.
+pub(crate) fn plan(rt: &impl Abort, alloc: Global, registry: &Registry, offers: &str) -> Plan
+    requires { IsSound registry.now }
+{
+    let mut plan = read(rt, alloc, registry, offers);
+    let name = text(rt, alloc, "echo");
+    plan.exports.push(Export { name, behaviour: 1 }).ok();
+    plan
 }
 
-/// Adds an interface.
-fn add(
-    alloc: Global,
-    registry: &mut Registry,
-    name: &str,
-    base: &str,
-    members: Vec<Member>,
-) -> Result<(), NoMemory> {
-    let body = Body::Interface {
-        bases: bases(alloc, base)?,
-        members,
-    };
-    let name = Name::of(alloc, name)?;
-    match registry.add(Entity {
-        name,
-        published: false,
-        body,
-    }) {
-        Ok(()) => Ok(()),
-        Err(_) => Err(NoMemory),
-    }
-}
-
-fn bases(alloc: Global, name: &str) -> Result<Vec<Base>, NoMemory> {
-    let mut bases = Vec::new(alloc);
-    let name = Name::of(alloc, name)?;
-    bases.push(Base {
-        optional: false,
-        name,
-    })?;
-    Ok(bases)
-}
-
-fn members(alloc: Global) -> Result<Vec<Member>, NoMemory> {
-    let mut members = Vec::new(alloc);
-    members.push(method(alloc, "twice", TypeName::Long, one_param(alloc)?)?)?;
-    members.push(method(alloc, "swap", TypeName::Void, three_params(alloc)?)?)?;
-    Ok(members)
-}
-
-fn method(
-    alloc: Global,
-    name: &str,
-    returns: TypeName,
-    params: Vec<Param>,
-) -> Result<Member, NoMemory> {
-    let name = Name::of(alloc, name)?;
-    Ok(Member::Method(Method {
-        name,
-        oneway: false,
-        result: returns,
-        params,
-        raises: Vec::new(alloc),
-    }))
-}
-
-fn one_param(alloc: Global) -> Result<Vec<Param>, NoMemory> {
-    let mut params = Vec::new(alloc);
-    params.push(param(alloc, "a", Way::Into)?)?;
-    Ok(params)
-}
-
-fn three_params(alloc: Global) -> Result<Vec<Param>, NoMemory> {
-    let mut params = one_param(alloc)?;
-    params.push(param(alloc, "b", Way::Out)?)?;
-    params.push(param(alloc, "c", Way::Both)?)?;
-    Ok(params)
-}
-
-fn param(alloc: Global, name: &str, way: Way) -> Result<Param, NoMemory> {
-    let name = Name::of(alloc, name)?;
-    Ok(Param {
-        way,
-        name,
-        kind: TypeName::Long,
-    })
+fn read(rt: &impl Abort, alloc: Global, registry: &Registry, offers: &str) -> Plan
+    requires { IsSound registry.now }
+{
+    let mut lines = String::new(alloc);
+    lines.push_str(PLAN).ok();
+    lines.push_str(offers).ok();
+    read_plan(alloc, registry, lines.as_bytes()).expect(rt, "no plan")
 }

@@ -1,4 +1,4 @@
-//! The setting of an end with the tag `S`, by rows: how many services and singletons its plan has, questions, and their answers.
+//! The setting of an end with the tag `S`, by rows: the lines of services and singletons of its plan, questions, and their answers.
 //!
 //! The questions are the calls by short names: `release`, `root 1`, `object 7` and `own S;1` of names, `told S;9/n` of an identity,
 //! `home V W` of values and `answer V W` of an answer with the value `V` and with `W` that came out, `raised V` of an exception, `first`,
@@ -6,29 +6,23 @@
 //! none `-`.
 ghost use Rattle.uno_model.specs.Sound.{IsSound};
 
-mod plans;
-
-use crate::registries::sound_registry;
-use crate::shown::{Shown, cut, number_in, see};
+use crate::registries::{plan, registry};
+use crate::shown::{Shown, cut, number_in};
 use crate::values::{
-    Pair, any_of, put_any, put_reference, show_value, show_values, value_of, values_of,
+    any_of, name, put_reference, show_answer, show_values, text, value_of, values_of,
 };
 use bridge_setting::{
     Setting, exported, first_objects, has_offers, home_answer, home_each, is_base_of, supports,
     told,
 };
-use plans::plan;
 use std::alloc::Global;
-use uno_base::NoMemory;
+use std::process::Abort;
 use uno_types::{Registry, Tag, Tid};
 use urp_message::Answer;
 
-/// How many services, and how many singletons.
-type Offered = (u32, u32);
+const NOTHING: &str = "";
 
-const NOTHING: Offered = (0, 0);
-
-const ROWS: &[(Offered, &str, &str)] = &[
+const ROWS: &[(&str, &str, &str)] = &[
     (NOTHING, "tag,release", " S S;0"),
     (NOTHING, "root 0,root 1,root 2,root 3", " - S;1 S;2 -"),
     (
@@ -67,12 +61,20 @@ const ROWS: &[(Offered, &str, &str)] = &[
         " n 3 1 2 - -",
     ),
     (
-        (1, 0),
+        "service demo.Nodes Node\n",
         "offers,first,exported echo,exported ServiceManager",
         " y 4 1 4",
     ),
-    ((0, 1), "offers,first,exported ServiceManager", " y 5 4"),
-    ((1, 2), "offers,first,exported ServiceManager", " y 6 4"),
+    (
+        "singleton demo.one Node\n",
+        "offers,first,exported ServiceManager",
+        " y 5 4",
+    ),
+    (
+        "service demo.Nodes Node\nsingleton demo.one Node\nsingleton demo.two Node\n",
+        "offers,first,exported ServiceManager",
+        " y 6 4",
+    ),
     (
         NOTHING,
         "supports 0 demo.XNode,supports 0 demo.XBase,supports 0 com.sun.star.uno.XInterface,supports 0 demo.XOther",
@@ -95,163 +97,106 @@ const ROWS: &[(Offered, &str, &str)] = &[
     ),
 ];
 
-fn show_tid(shown: &mut Shown, tid: Option<&Tid>) -> Result<(), NoMemory> {
-    let Some(tid) = tid else {
-        return shown.word("-");
-    };
-    shown.word(str::from_utf8(tid.as_bytes()).unwrap_or("?"))
+fn show_tid(shown: &mut Shown, tid: Option<&Tid>) {
+    match tid {
+        Some(tid) => shown.word(str::from_utf8(tid.as_bytes()).unwrap_or("?")),
+        None => shown.word("-"),
+    }
 }
 
-/// A question about names.
+/// A question about names or objects.
 fn of_names(
+    rt: &impl Abort,
     alloc: Global,
     setting: &Setting,
     what: &str,
     word: &str,
     shown: &mut Shown,
-) -> Result<(), NoMemory> {
+) {
     match what {
         "tag" => shown.word(setting.names.tag().as_str()),
         "release" => show_tid(shown, Some(setting.release_tid())),
         "root" => show_tid(shown, setting.root_tid(number_in(word))),
         "object" => {
-            let oid = setting.own_oid(alloc, number_in(word))?;
-            shown.word(oid.as_str())
+            let oid = setting.own_oid(alloc, number_in(word));
+            shown.word(oid.expect(rt, "no memory").as_str());
         }
-        _ => shown.yes(setting.is_own(word.as_bytes())),
-    }
-}
-
-fn of_identity(
-    alloc: Global,
-    setting: &Setting,
-    word: &str,
-    shown: &mut Shown,
-) -> Result<(), NoMemory> {
-    let Pair { oid, face } = Pair::of(alloc, word)?;
-    shown.put(" ")?;
-    put_reference(shown, &told(setting, oid, face))
-}
-
-fn show_answer(shown: &mut Shown, answer: &Answer) -> Result<(), NoMemory> {
-    match answer {
-        Answer::Returned { value, outs } => {
-            show_value(shown, value)?;
-            show_values(shown, outs)
-        }
-        Answer::Raised(any) => {
-            shown.put(" ")?;
-            put_any(shown, any)
-        }
-    }
-}
-
-/// The answer of a value and of values that came out.
-fn returned(alloc: Global, words: &str) -> Result<Answer, NoMemory> {
-    let (word, words) = cut(words, ' ');
-    let outs = values_of(alloc, words)?;
-    let value = value_of(alloc, word)?;
-    Ok(Answer::Returned { value, outs })
-}
-
-/// A question about what came.
-fn of_values(
-    alloc: Global,
-    setting: &Setting,
-    what: &str,
-    words: &str,
-    shown: &mut Shown,
-) -> Result<(), NoMemory> {
-    match what {
-        "home" => show_values(shown, &home_each(setting, values_of(alloc, words)?)),
-        "answer" => show_answer(shown, &home_answer(setting, returned(alloc, words)?)),
-        _ => {
-            let raised = Answer::Raised(any_of(alloc, words)?);
-            show_answer(shown, &home_answer(setting, raised))
-        }
-    }
-}
-
-/// A question about objects.
-fn of_objects(
-    setting: &Setting,
-    what: &str,
-    words: &str,
-    shown: &mut Shown,
-) -> Result<(), NoMemory> {
-    match what {
+        "own" => shown.yes(setting.is_own(word.as_bytes())),
         "first" => shown.number(first_objects(&setting.plan)),
         "offers" => shown.yes(has_offers(&setting.plan)),
-        _ => shown.number_or_none(exported(&setting.plan, words)),
+        "exported" => shown.number_or_none(exported(&setting.plan, word)),
+        _ => shown.word("?"),
+    }
+}
+
+fn of_identity(rt: &impl Abort, alloc: Global, setting: &Setting, word: &str, shown: &mut Shown) {
+    let (oid, face) = cut(word, '/');
+    let oid = text(rt, alloc, oid);
+    let face = name(rt, alloc, face);
+    shown.put(" ");
+    put_reference(shown, &told(setting, oid, face));
+}
+
+/// The answer that came: the any that was raised, or a value and what came out with it.
+fn answer_of(rt: &impl Abort, alloc: Global, what: &str, words: &str) -> Answer {
+    if what == "raised" {
+        return Answer::Raised(any_of(rt, alloc, words));
+    }
+    let (word, words) = cut(words, ' ');
+    Answer::Returned {
+        value: value_of(rt, alloc, word),
+        outs: values_of(rt, alloc, words),
     }
 }
 
 /// A question about interfaces.
-fn of_interfaces(
-    registry: &Registry,
-    setting: &Setting,
-    what: &str,
-    words: &str,
-    shown: &mut Shown,
-) -> Result<(), NoMemory>
+fn of_interfaces(registry: &Registry, setting: &Setting, what: &str, words: &str, shown: &mut Shown)
     requires { IsSound registry.now }
 {
     let (first, wanted) = cut(words, ' ');
     if what == "base" {
         return shown.yes(is_base_of(registry, first, wanted));
     }
-    shown.yes(supports(registry, &setting.plan, number_in(first), wanted))
+    shown.yes(supports(registry, &setting.plan, number_in(first), wanted));
 }
 
-fn step(
-    alloc: Global,
-    setting: &Setting,
-    question: &str,
-    shown: &mut Shown,
-) -> Result<(), NoMemory> {
+fn step(rt: &impl Abort, alloc: Global, setting: &Setting, question: &str, shown: &mut Shown) {
     let (what, words) = cut(question, ' ');
     match what {
-        "told" => of_identity(alloc, setting, words, shown),
-        "home" | "answer" | "raised" => of_values(alloc, setting, what, words, shown),
-        "first" | "offers" | "exported" => of_objects(setting, what, words, shown),
+        "told" => of_identity(rt, alloc, setting, words, shown),
+        "home" => show_values(shown, &home_each(setting, values_of(rt, alloc, words))),
+        "answer" | "raised" => {
+            let answer = answer_of(rt, alloc, what, words);
+            show_answer(shown, &home_answer(setting, answer));
+        }
         "supports" | "base" => match setting.registry.is_sound() {
             Ok(true) => of_interfaces(&setting.registry, setting, what, words, shown),
-            _ => Err(NoMemory),
+            _ => shown.word("unsound"),
         },
-        _ => of_names(alloc, setting, what, words, shown),
+        _ => of_names(rt, alloc, setting, what, words, shown),
     }
 }
 
-fn setting_with(alloc: Global, offered: Offered) -> Result<Setting, NoMemory> {
-    let (services, singletons) = offered;
-    match Tag::read(alloc, "S") {
-        Ok(tag) => {
-            let plan = plan(alloc, services, singletons)?;
-            let registry = sound_registry(alloc)?;
-            Setting::new(alloc, registry, plan, tag)
-        }
-        Err(_) => Err(NoMemory),
-    }
+fn setting_with(rt: &impl Abort, alloc: Global, offers: &str) -> Setting {
+    let registry = registry(rt, alloc);
+    let plan = plan(rt, alloc, &registry, offers);
+    let tag = Tag::read(alloc, "S").expect(rt, "no tag");
+    Setting::new(alloc, registry, plan, tag).expect(rt, "no memory")
 }
 
-/// What the questions of a row are answered.
-fn answers(alloc: Global, offered: Offered, questions: &str) -> Result<Shown, NoMemory> {
-    let setting = setting_with(alloc, offered)?;
+/// Sees what the questions of a row are answered.
+fn see(rt: &impl Abort, alloc: Global, offers: &str, questions: &str, wanted: &str) {
+    let setting = setting_with(rt, alloc, offers);
     let mut shown = Shown::new(alloc);
     for question in questions.split(',') {
-        step(alloc, &setting, question, &mut shown)?;
+        step(rt, alloc, &setting, question, &mut shown);
     }
-    Ok(shown)
+    shown.see(rt, questions, wanted);
 }
 
 #[test]
 fn questions_are_answered_as_the_rows_say(rt: HostRuntime) {
-    for (offered, questions, wanted) in ROWS {
-        see(
-            &rt,
-            answers(rt.alloc(), *offered, questions),
-            questions,
-            wanted,
-        );
+    for (offers, questions, wanted) in ROWS {
+        see(&rt, rt.alloc(), offers, questions, wanted);
     }
 }

@@ -3,7 +3,7 @@ use std::alloc::Global;
 use std::process::Abort;
 use uno_base::NoMemory;
 
-/// Words, each behind a blank.
+/// Words, each behind a blank. What finds no memory is left out, so that its row fails.
 #[derive(Drop)]
 pub(crate) struct Shown {
     alloc: Global,
@@ -19,56 +19,63 @@ impl Shown {
     }
 
     /// Puts a piece of a word behind the others.
-    pub(crate) fn put(&mut self, piece: &str) -> Result<(), NoMemory> {
-        self.text.push_str(piece)?;
-        Ok(())
+    pub(crate) fn put(&mut self, piece: &str) {
+        self.text.push_str(piece).ok();
     }
 
-    pub(crate) fn word(&mut self, word: &str) -> Result<(), NoMemory> {
-        self.put(" ")?;
-        self.put(word)
+    pub(crate) fn word(&mut self, word: &str) {
+        self.put(" ");
+        self.put(word);
     }
 
-    pub(crate) fn put_long(&mut self, number: i32) -> Result<(), NoMemory> {
-        let digits = number.to_string(self.alloc)?;
-        self.put(&digits)
+    pub(crate) fn put_long(&mut self, number: i32) {
+        match number.to_string(self.alloc) {
+            Ok(digits) => self.put(&digits),
+            Err(_) => self.put("no memory"),
+        }
     }
 
-    pub(crate) fn put_number(&mut self, number: u64) -> Result<(), NoMemory> {
-        let digits = number.to_string(self.alloc)?;
-        self.put(&digits)
+    pub(crate) fn put_number(&mut self, number: u64) {
+        match number.to_string(self.alloc) {
+            Ok(digits) => self.put(&digits),
+            Err(_) => self.put("no memory"),
+        }
     }
 
-    pub(crate) fn number(&mut self, number: u64) -> Result<(), NoMemory> {
-        self.put(" ")?;
-        self.put_number(number)
+    pub(crate) fn number(&mut self, number: u64) {
+        self.put(" ");
+        self.put_number(number);
     }
 
-    pub(crate) fn number_or_none(&mut self, number: Option<u64>) -> Result<(), NoMemory> {
+    pub(crate) fn number_or_none(&mut self, number: Option<u64>) {
         match number {
             Some(number) => self.number(number),
             None => self.word("-"),
         }
     }
 
-    pub(crate) fn yes(&mut self, answer: bool) -> Result<(), NoMemory> {
-        self.word(if answer { "y" } else { "n" })
+    pub(crate) fn yes(&mut self, answer: bool) {
+        self.word(if answer { "y" } else { "n" });
     }
 
     /// The same of an answer that may be a refusal.
-    pub(crate) fn yes_or_refused(&mut self, answer: Option<bool>) -> Result<(), NoMemory> {
+    pub(crate) fn yes_or_refused(&mut self, answer: Option<bool>) {
         match answer {
             Some(answer) => self.yes(answer),
             None => self.word("!"),
         }
     }
-}
 
-/// Sees that a row shows what it should; where there is no memory, the test fails.
-pub(crate) fn see(rt: &impl Abort, shown: Result<Shown, NoMemory>, row: &str, wanted: &str) {
-    match shown {
-        Ok(shown) => assert_eq!(rt; shown.text.as_str(), wanted, "at {row}"),
-        Err(NoMemory) => panic!(rt; "no memory at {row}"),
+    /// Shows of a call that answers nothing else whether it found memory.
+    pub(crate) fn done(&mut self, done: Result<(), NoMemory>) {
+        if done.is_err() {
+            self.word("no memory");
+        }
+    }
+
+    /// Sees that a row shows what it should.
+    pub(crate) fn see(&self, rt: &impl Abort, row: &str, wanted: &str) {
+        assert_eq!(rt; self.text.as_str(), wanted, "at {row}");
     }
 }
 

@@ -1,122 +1,122 @@
 //! Values as words: `5` is a long, `own:S;2/n` and `peer:C;1/n` are references under the interface `n`, and `null:/n` is none; `<W` is an
-//! any of `W`, `[V&W` a sequence and `{V&W` a struct of `V` and `W`. They are shown as they are written, but for `null` and `void`.
+//! any of `W`, `[V&W` a sequence and `{V&W` a struct of `V` and `W`. They are shown as they are written, but for `null` and `void`. The
+//! product's own literals have no word for an object of this end.
+ghost use Rattle.std.specs.Prelude.{◌≡◌};
+
 use crate::shown::{Shown, cut};
 use std::alloc::Global;
-use uno_base::NoMemory;
+use std::process::Abort;
 use uno_types::{Name, Text, TypeName};
 use uno_values::{AnyValue, Reference, Value};
+use urp_message::Answer;
 
-/// An identity under an interface, which is written `S;2/n`.
-#[derive(Drop)]
-pub(crate) struct Pair {
-    pub(crate) oid: Text,
-    pub(crate) face: Name,
+pub(crate) fn text(rt: &impl Abort, alloc: Global, word: &str) -> Text
+    ensures { result ≡ word.now }
+{
+    Text::of(alloc, word).expect(rt, "no memory")
 }
 
-impl Pair {
-    pub(crate) fn of(alloc: Global, word: &str) -> Result<Pair, NoMemory> {
-        let (oid, face) = cut(word, '/');
-        let oid = Text::of(alloc, oid)?;
-        let face = Name::of(alloc, face)?;
-        Ok(Pair { oid, face })
-    }
+pub(crate) fn name(rt: &impl Abort, alloc: Global, word: &str) -> Name
+    ensures { result ≡ word.now }
+{
+    Name::of(alloc, word).expect(rt, "no memory")
 }
 
-pub(crate) fn reference_of(alloc: Global, word: &str) -> Result<Reference, NoMemory> {
+pub(crate) fn reference_of(rt: &impl Abort, alloc: Global, word: &str) -> Reference {
     let (whose, pair) = cut(word, ':');
-    let Pair { oid, face } = Pair::of(alloc, pair)?;
-    Ok(match whose {
-        "own" => Reference::Local { oid, face },
-        "peer" => Reference::Remote { oid, face },
-        _ => Reference::Null,
-    })
-}
-
-/// The references of words with a blank between them.
-pub(crate) fn references_of(alloc: Global, words: &str) -> Result<Vec<Reference>, NoMemory> {
-    let mut references = Vec::new(alloc);
-    for word in words.split(' ') {
-        references.push(reference_of(alloc, word)?)?;
+    let (oid, face) = cut(pair, '/');
+    match whose {
+        "own" => Reference::Local {
+            oid: text(rt, alloc, oid),
+            face: name(rt, alloc, face),
+        },
+        "peer" => Reference::Remote {
+            oid: text(rt, alloc, oid),
+            face: name(rt, alloc, face),
+        },
+        "null" => Reference::Null,
+        _ => panic!(rt; "no reference"),
     }
-    Ok(references)
 }
 
 /// The values of words with a blank between them; of no words, none.
-pub(crate) fn values_of(alloc: Global, words: &str) -> Result<Vec<Value>, NoMemory> {
+pub(crate) fn values_of(rt: &impl Abort, alloc: Global, words: &str) -> Vec<Value> {
     let mut values = Vec::new(alloc);
     for word in words.split(' ') {
         if !word.is_empty() {
-            values.push(value_of(alloc, word)?)?;
+            values.push(value_of(rt, alloc, word)).ok();
         }
     }
-    Ok(values)
+    values
 }
 
-pub(crate) fn value_of(alloc: Global, word: &str) -> Result<Value, NoMemory> {
+pub(crate) fn value_of(rt: &impl Abort, alloc: Global, word: &str) -> Value {
     if let Some(words) = word.strip_prefix('[') {
-        return Ok(Value::List(TypeName::Any, parts_of(alloc, words)?));
+        return Value::List(TypeName::Any, parts_of(rt, alloc, words));
     }
     if let Some(words) = word.strip_prefix('{') {
-        let name = Name::of(alloc, "demo.Pair")?;
-        return Ok(Value::Tuple(name, parts_of(alloc, words)?));
+        return Value::Tuple(name(rt, alloc, "demo.Pair"), parts_of(rt, alloc, words));
     }
-    part_of(alloc, word)
+    part_of(rt, alloc, word)
 }
 
-fn parts_of(alloc: Global, words: &str) -> Result<Vec<Value>, NoMemory> {
+fn parts_of(rt: &impl Abort, alloc: Global, words: &str) -> Vec<Value> {
     let mut parts = Vec::new(alloc);
     for word in words.split('&') {
-        parts.push(part_of(alloc, word)?)?;
+        parts.push(part_of(rt, alloc, word)).ok();
     }
-    Ok(parts)
+    parts
 }
 
-fn part_of(alloc: Global, word: &str) -> Result<Value, NoMemory> {
-    match word.strip_prefix('<') {
-        Some(word) => Ok(Value::Any(Box::new(alloc, any_of(alloc, word)?)?)),
-        None => plain_of(alloc, word),
+fn part_of(rt: &impl Abort, alloc: Global, word: &str) -> Value {
+    let Some(inner) = word.strip_prefix('<') else {
+        return plain_of(rt, alloc, word)
+    };
+    match Box::new(alloc, any_of(rt, alloc, inner)) {
+        Ok(any) => Value::Any(any),
+        Err(_) => panic!(rt; "no memory"),
     }
 }
 
 /// An any of a long, or of a reference with the interface under which it stands.
-pub(crate) fn any_of(alloc: Global, word: &str) -> Result<AnyValue, NoMemory> {
-    let kind = kind_of(alloc, word)?;
-    let value = plain_of(alloc, word)?;
-    Ok(AnyValue { kind, value })
-}
-
-fn kind_of(alloc: Global, word: &str) -> Result<TypeName, NoMemory> {
-    match word.split_once('/') {
-        Some((_, face)) => Ok(TypeName::Interface(Name::of(alloc, face)?)),
-        None => Ok(TypeName::Long),
+pub(crate) fn any_of(rt: &impl Abort, alloc: Global, word: &str) -> AnyValue {
+    AnyValue {
+        kind: kind_of(rt, alloc, word),
+        value: plain_of(rt, alloc, word),
     }
 }
 
-fn plain_of(alloc: Global, word: &str) -> Result<Value, NoMemory> {
+fn kind_of(rt: &impl Abort, alloc: Global, word: &str) -> TypeName {
+    match word.split_once('/') {
+        Some((_, face)) => TypeName::Interface(name(rt, alloc, face)),
+        None => TypeName::Long,
+    }
+}
+
+fn plain_of(rt: &impl Abort, alloc: Global, word: &str) -> Value {
     match word.parse::<i32>() {
-        Ok(number) => Ok(Value::Long(number)),
-        Err(_) => Ok(Value::Ref(reference_of(alloc, word)?)),
+        Ok(number) => Value::Long(number),
+        Err(_) => Value::Ref(reference_of(rt, alloc, word)),
     }
 }
 
 /// Shows values, each behind a blank; where there is none, a mark.
-pub(crate) fn show_values(shown: &mut Shown, values: &[Value]) -> Result<(), NoMemory> {
+pub(crate) fn show_values(shown: &mut Shown, values: &[Value]) {
     if values.is_empty() {
         return shown.word("-");
     }
     for value in values {
-        show_value(shown, value)?;
+        show_value(shown, value);
     }
-    Ok(())
 }
 
 /// Shows a value behind a blank.
-pub(crate) fn show_value(shown: &mut Shown, value: &Value) -> Result<(), NoMemory> {
-    shown.put(" ")?;
-    put_value(shown, value)
+pub(crate) fn show_value(shown: &mut Shown, value: &Value) {
+    shown.put(" ");
+    put_value(shown, value);
 }
 
-pub(crate) fn put_value(shown: &mut Shown, value: &Value) -> Result<(), NoMemory> {
+pub(crate) fn put_value(shown: &mut Shown, value: &Value) {
     match value {
         Value::List(_, parts) => put_parts(shown, "[", parts),
         Value::Tuple(_, parts) => put_parts(shown, "{", parts),
@@ -124,29 +124,28 @@ pub(crate) fn put_value(shown: &mut Shown, value: &Value) -> Result<(), NoMemory
     }
 }
 
-fn put_parts(shown: &mut Shown, mark: &str, parts: &[Value]) -> Result<(), NoMemory> {
+fn put_parts(shown: &mut Shown, mark: &str, parts: &[Value]) {
     let mut mark = mark;
     for part in parts {
-        shown.put(mark)?;
-        put_part(shown, part)?;
+        shown.put(mark);
+        put_part(shown, part);
         mark = "&";
     }
-    Ok(())
 }
 
-fn put_part(shown: &mut Shown, part: &Value) -> Result<(), NoMemory> {
+fn put_part(shown: &mut Shown, part: &Value) {
     match part {
         Value::Any(any) => put_any(shown, any),
         plain => put_plain(shown, plain),
     }
 }
 
-pub(crate) fn put_any(shown: &mut Shown, any: &AnyValue) -> Result<(), NoMemory> {
-    shown.put("<")?;
-    put_plain(shown, &any.value)
+fn put_any(shown: &mut Shown, any: &AnyValue) {
+    shown.put("<");
+    put_plain(shown, &any.value);
 }
 
-fn put_plain(shown: &mut Shown, value: &Value) -> Result<(), NoMemory> {
+fn put_plain(shown: &mut Shown, value: &Value) {
     match value {
         Value::Void => shown.put("void"),
         Value::Long(number) => shown.put_long(*number),
@@ -155,7 +154,7 @@ fn put_plain(shown: &mut Shown, value: &Value) -> Result<(), NoMemory> {
     }
 }
 
-pub(crate) fn put_reference(shown: &mut Shown, reference: &Reference) -> Result<(), NoMemory> {
+pub(crate) fn put_reference(shown: &mut Shown, reference: &Reference) {
     match reference {
         Reference::Null => shown.put("null"),
         Reference::Local { oid, face } => put_pair(shown, "own:", oid, face),
@@ -163,9 +162,23 @@ pub(crate) fn put_reference(shown: &mut Shown, reference: &Reference) -> Result<
     }
 }
 
-fn put_pair(shown: &mut Shown, whose: &str, oid: &Text, face: &Name) -> Result<(), NoMemory> {
-    shown.put(whose)?;
-    shown.put(oid.as_str())?;
-    shown.put("/")?;
-    shown.put(face.as_str())
+fn put_pair(shown: &mut Shown, whose: &str, oid: &Text, face: &Name) {
+    shown.put(whose);
+    shown.put(oid.as_str());
+    shown.put("/");
+    shown.put(face.as_str());
+}
+
+/// Shows an answer: its value and what came out with it, or the any that was raised.
+pub(crate) fn show_answer(shown: &mut Shown, answer: &Answer) {
+    match answer {
+        Answer::Returned { value, outs } => {
+            show_value(shown, value);
+            show_values(shown, outs);
+        }
+        Answer::Raised(any) => {
+            shown.put(" ");
+            put_any(shown, any);
+        }
+    }
 }

@@ -6,17 +6,17 @@
 //! too, and none as `-`; `show` shows the variables.
 ghost use Rattle.uno_model.specs.Sound.{IsSound};
 
-use crate::registries::{NODE, sound_registry};
-use crate::shown::{Shown, cut, see};
-use crate::values::{put_reference, put_value, show_value, show_values, value_of, values_of};
+use crate::registries::{NODE, plan, registry};
+use crate::shown::{Shown, cut};
+use crate::values::{name, put_reference, put_value, show_value, show_values, value_of, values_of};
 use frame_variables::{
     Found, add, first_variables, put, sort_answer, take_answer, take_out, take_reference,
 };
-use plan_types::{Argument, Call, Callee, Expression, Variable, Word};
+use plan_types::{Call, Plan, Statement, Variable};
 use std::alloc::Global;
+use std::process::Abort;
 use type_registry::function_numbered;
-use uno_base::NoMemory;
-use uno_types::{Field, Name, Registry, TypeName};
+use uno_types::Registry;
 use uno_values::Value;
 
 const ROWS: &[(&str, &str)] = &[
@@ -59,20 +59,19 @@ const ROWS: &[(&str, &str)] = &[
 ];
 
 /// Shows variables; where there is none, a mark.
-fn show(shown: &mut Shown, variables: &[Variable]) -> Result<(), NoMemory> {
+fn show(shown: &mut Shown, variables: &[Variable]) {
     if variables.is_empty() {
         return shown.word("-");
     }
     for variable in variables {
-        shown.word(variable.name.as_str())?;
-        shown.put("=")?;
-        put_value(shown, &variable.value)?;
+        shown.word(variable.name.as_str());
+        shown.put("=");
+        put_value(shown, &variable.value);
     }
-    Ok(())
 }
 
 /// Shows what a query gave back.
-fn show_rest(shown: &mut Shown, rest: &Option<Value>) -> Result<(), NoMemory> {
+fn show_rest(shown: &mut Shown, rest: &Option<Value>) {
     match rest {
         Some(value) => show_value(shown, value),
         None => shown.word("-"),
@@ -81,169 +80,137 @@ fn show_rest(shown: &mut Shown, rest: &Option<Value>) -> Result<(), NoMemory> {
 
 /// A call about a variable.
 fn on_variable(
+    rt: &impl Abort,
     alloc: Global,
     variables: &mut Vec<Variable>,
     what: &str,
     words: &str,
     shown: &mut Shown,
-) -> Result<(), NoMemory> {
-    let (name, word) = cut(words, ' ');
-    let name = Name::of(alloc, name)?;
+) {
+    let (to, word) = cut(words, ' ');
+    let name = name(rt, alloc, to);
     match what {
-        "add" => add(variables, name, value_of(alloc, word)?),
+        "add" => shown.done(add(variables, name, value_of(rt, alloc, word))),
         "put" => {
-            let was = put(variables, &name, value_of(alloc, word)?);
-            show_value(shown, &was)
+            let was = put(variables, &name, value_of(rt, alloc, word));
+            show_value(shown, &was);
         }
-        _ => {
-            let was = take_out(variables, &name);
-            show_value(shown, &was)
-        }
+        "out" => show_value(shown, &take_out(variables, &name)),
+        _ => shown.word("?"),
     }
 }
 
 /// The variables that a function begins with.
-fn show_first(
-    alloc: Global,
-    registry: &Registry,
-    words: &str,
-    shown: &mut Shown,
-) -> Result<(), NoMemory>
+fn show_first(rt: &impl Abort, alloc: Global, registry: &Registry, words: &str, shown: &mut Shown)
     requires { IsSound registry.now }
 {
     let (number, words) = cut(words, ' ');
-    let Some(function) = function_numbered(registry, NODE, number.parse::<u16>().unwrap_or(0))
-    else {
-        return shown.word("?");
-    };
-    let args = values_of(alloc, words)?;
-    let variables = first_variables(alloc, registry, &function, args)?;
-    show(shown, &variables)
+    let number = number.parse::<u16>().unwrap_or(0);
+    let function = function_numbered(registry, NODE, number).expect(rt, "no function");
+    let args = values_of(rt, alloc, words);
+    let variables = first_variables(alloc, registry, &function, args);
+    show(shown, &variables.expect(rt, "no memory"));
 }
 
-/// An argument that goes in, `a` for one that comes out, and `b` for one that goes both ways.
-fn arguments(alloc: Global) -> Result<Vec<Argument>, NoMemory> {
-    let mut arguments = Vec::new(alloc);
-    arguments.push(Argument::Into(Expression::Word(Word::Own)))?;
-    arguments.push(Argument::Out(Name::of(alloc, "a")?))?;
-    arguments.push(Argument::Both(Name::of(alloc, "b")?))?;
-    Ok(arguments)
-}
-
-/// The variable that the result becomes, where it is named.
-fn named(alloc: Global, to: &str) -> Result<Option<Field>, NoMemory> {
-    if to == "-" {
-        return Ok(None);
+/// The call at a place of the one method of the plan.
+fn call_at(plan: &Plan, place: usize) -> Option<&Call> {
+    let behaviour = plan.behaviours.first()?;
+    let method = behaviour.methods.first()?;
+    match method.body.get(place) {
+        Some(Statement::Call(call)) => Some(call),
+        _ => None,
     }
-    let name = Name::of(alloc, to)?;
-    let kind = TypeName::Long;
-    Ok(Some(Field { name, kind }))
 }
 
-fn callee(alloc: Global) -> Result<Callee, NoMemory> {
-    let owner = Name::of(alloc, NODE)?;
-    let name = Name::of(alloc, "swap")?;
-    Ok(Callee { owner, name })
-}
-
-fn call(alloc: Global, to: &str) -> Result<Call, NoMemory> {
-    let callee = callee(alloc)?;
-    let to = named(alloc, to)?;
-    let arguments = arguments(alloc)?;
-    Ok(Call {
-        target: Word::Own,
-        callee,
-        arguments,
-        to,
-    })
-}
-
-/// The answer to a call.
+/// The answer to the call whose result is named `r`, or is not named.
 fn answered(
+    rt: &impl Abort,
     alloc: Global,
+    plan: &Plan,
     variables: &mut Vec<Variable>,
     words: &str,
     shown: &mut Shown,
-) -> Result<(), NoMemory> {
+) {
     let (to, words) = cut(words, ' ');
     let (value, outs) = cut(words, ' ');
-    let call = call(alloc, to)?;
-    let outs = values_of(alloc, outs)?;
-    let value = value_of(alloc, value)?;
-    let gone = take_answer(alloc, &call, value, outs, variables)?;
-    show_values(shown, &gone)
+    let call = call_at(plan, if to == "-" { 1 } else { 0 }).expect(rt, "no call");
+    let value = value_of(rt, alloc, value);
+    let outs = values_of(rt, alloc, outs);
+    let gone = take_answer(alloc, call, value, outs, variables);
+    show_values(shown, &gone.expect(rt, "no memory"));
 }
 
 /// The answer to a query, which becomes a variable.
 fn taken(
+    rt: &impl Abort,
     alloc: Global,
     registry: &Registry,
     variables: &mut Vec<Variable>,
     words: &str,
     shown: &mut Shown,
-) -> Result<(), NoMemory>
+)
     requires { IsSound registry.now }
 {
     let (to, words) = cut(words, ' ');
     let (wanted, word) = cut(words, ' ');
-    let wanted = Name::of(alloc, wanted)?;
-    let to = Name::of(alloc, to)?;
-    let answer = value_of(alloc, word)?;
-    let rest = take_reference(registry, &wanted, to, answer, variables)?;
-    show_rest(shown, &rest)
+    let wanted = name(rt, alloc, wanted);
+    let to = name(rt, alloc, to);
+    let answer = value_of(rt, alloc, word);
+    let rest = take_reference(registry, &wanted, to, answer, variables);
+    show_rest(shown, &rest.expect(rt, "no memory"));
 }
 
 /// The reference in the answer to a query.
-fn sorted(
-    alloc: Global,
-    registry: &Registry,
-    words: &str,
-    shown: &mut Shown,
-) -> Result<(), NoMemory>
+fn sorted(rt: &impl Abort, alloc: Global, registry: &Registry, words: &str, shown: &mut Shown)
     requires { IsSound registry.now }
 {
     let (wanted, word) = cut(words, ' ');
-    let wanted = Name::of(alloc, wanted)?;
-    let Found { reference, rest } = sort_answer(registry, &wanted, value_of(alloc, word)?);
-    shown.put(" ")?;
-    put_reference(shown, &reference)?;
-    show_rest(shown, &rest)
+    let wanted = name(rt, alloc, wanted);
+    let Found { reference, rest } = sort_answer(registry, &wanted, value_of(rt, alloc, word));
+    shown.put(" ");
+    put_reference(shown, &reference);
+    show_rest(shown, &rest);
 }
 
 fn step(
+    rt: &impl Abort,
     alloc: Global,
     registry: &Registry,
+    plan: &Plan,
     variables: &mut Vec<Variable>,
     call: &str,
     shown: &mut Shown,
-) -> Result<(), NoMemory>
+)
     requires { IsSound registry.now }
 {
     let (what, words) = cut(call, ' ');
     match what {
-        "first" => show_first(alloc, registry, words, shown),
-        "answer" => answered(alloc, variables, words, shown),
-        "take" => taken(alloc, registry, variables, words, shown),
-        "sort" => sorted(alloc, registry, words, shown),
+        "first" => show_first(rt, alloc, registry, words, shown),
+        "answer" => answered(rt, alloc, plan, variables, words, shown),
+        "take" => taken(rt, alloc, registry, variables, words, shown),
+        "sort" => sorted(rt, alloc, registry, words, shown),
         "show" => show(shown, variables),
-        _ => on_variable(alloc, variables, what, words, shown),
+        _ => on_variable(rt, alloc, variables, what, words, shown),
     }
 }
 
-/// What the calls of a row answer.
-fn answers(alloc: Global, calls: &str) -> Result<Shown, NoMemory> {
-    let registry = sound_registry(alloc)?;
+/// Sees what the calls of a row answer.
+fn see(rt: &impl Abort, alloc: Global, registry: &Registry, plan: &Plan, calls: &str, wanted: &str)
+    requires { IsSound registry.now }
+{
     let mut variables = Vec::new(alloc);
     let mut shown = Shown::new(alloc);
     for call in calls.split(',') {
-        step(alloc, &registry, &mut variables, call, &mut shown)?;
+        step(rt, alloc, registry, plan, &mut variables, call, &mut shown);
     }
-    Ok(shown)
+    shown.see(rt, calls, wanted);
 }
 
 #[test]
 fn calls_answer_as_the_rows_say(rt: HostRuntime) {
+    let registry = registry(&rt, rt.alloc());
+    let plan = plan(&rt, rt.alloc(), &registry, "");
     for (calls, wanted) in ROWS {
-        see(&rt, answers(rt.alloc(), calls), calls, wanted);
+        see(&rt, rt.alloc(), &registry, &plan, calls, wanted);
     }
 }

@@ -1,4 +1,5 @@
 //! Tables beside plain lists, over operations that are drawn.
+use crate::calls::{arrive, free, send};
 use env_table::{Environment, Holder};
 use object_store::Store;
 use proxy_table::ProxyTable;
@@ -8,11 +9,12 @@ use rand_pcg::Lcg64Xsh32;
 use std::alloc::Global;
 use std::process::Abort;
 use stub_table::StubTable;
-use uno_base::NoMemory;
 use uno_entities::{Name, Text};
 
+const OPERATIONS: u32 = 3000;
+
 /// One item of a list: a holder, an OID and a face by their numbers.
-#[derive(Clone, Copy, PartialEq)]
+#[derive(Clone, Copy)]
 struct Item {
     holder: u32,
     oid: u32,
@@ -27,42 +29,29 @@ impl Item {
         Item { holder, oid, face }
     }
 
-    fn oid(&self, alloc: Global) -> Result<Text, NoMemory> {
-        let text = match self.oid {
-            0 => "S;1",
-            1 => "S;2",
-            2 => "S;3",
-            _ => "S;4",
-        };
-        Text::of(alloc, text)
+    fn is_pair(&self, other: Item) -> bool {
+        self.oid == other.oid && self.face == other.face
     }
 
-    fn face(&self, alloc: Global) -> Result<Name, NoMemory> {
-        Name::of(
-            alloc,
-            if self.face == 0 {
-                "demo.XEcho"
-            } else {
-                "demo.XNode"
-            },
-        )
+    fn is(&self, other: Item) -> bool {
+        self.holder == other.holder && self.is_pair(other)
     }
 }
 
-fn pairs_like(list: &[Item], item: Item) -> u64 {
-    list.iter()
-        .filter(|other| other.oid == item.oid && other.face == item.face)
-        .count() as u64
+fn oid_of(item: Item) -> &'static str {
+    match item.oid {
+        0 => "S;1",
+        1 => "S;2",
+        2 => "S;3",
+        _ => "S;4",
+    }
 }
 
-fn items_like(list: &[Item], item: Item) -> u64 {
-    list.iter().filter(|other| **other == item).count() as u64
-}
-
-/// Takes an item out of a list, if it is there.
-fn taken_out(list: &mut Vec<Item>, item: Item) {
-    if let Some(place) = list.iter().position(|other| *other == item) {
-        list.remove(place);
+fn face_of(item: Item) -> &'static str {
+    if item.face == 0 {
+        "demo.XEcho"
+    } else {
+        "demo.XNode"
     }
 }
 
@@ -75,105 +64,169 @@ fn holder_of(item: Item) -> Holder {
     }
 }
 
-fn environment_follows(alloc: Global, operations: u32) -> Result<bool, NoMemory> {
+/// How many items have the pair of this one.
+fn pairs_like(list: &[Item], item: Item) -> u64 {
+    let mut count: u64 = 0;
+    for other in list {
+        if other.is_pair(item) {
+            count = count.saturating_add(1);
+        }
+    }
+    count
+}
+
+fn items_like(list: &[Item], item: Item) -> u64 {
+    let mut count: u64 = 0;
+    for other in list {
+        if other.is(item) {
+            count = count.saturating_add(1);
+        }
+    }
+    count
+}
+
+fn place_of(list: &[Item], item: Item) -> usize {
+    let mut place: usize = 0;
+    for other in list {
+        if other.is(item) {
+            return place;
+        }
+        place = place.saturating_add(1);
+    }
+    place
+}
+
+/// Takes an item out of a list, if it is there.
+fn taken_out(list: &mut Vec<Item>, item: Item) {
+    let place = place_of(list, item);
+    if place < list.len() {
+        list.remove(place);
+    }
+}
+
+/// An operation, and the same on the list of what is held.
+fn hold_or_let_go(
+    rt: &impl Abort,
+    environment: &mut Environment,
+    list: &mut Vec<Item>,
+    item: Item,
+    pair: (&Text, &Name),
+    holds: bool,
+) {
+    let (oid, face) = pair;
+    let holder = holder_of(item);
+    let pairs = pairs_like(list, item);
+    let items = items_like(list, item);
+    assert!(rt; environment.holders(oid, face) == pairs);
+    assert!(rt; environment.holds(holder, oid, face) == (items > 0));
+    if holds {
+        assert!(rt; environment.hold(holder, oid, face) == Ok(pairs == 0));
+        assert!(rt; list.push(item).is_ok());
+    } else {
+        let wanted = if items == 0 { None } else { Some(pairs == 1) };
+        assert!(rt; environment.let_go(holder, oid, face).ok() == wanted);
+        taken_out(list, item);
+    }
+}
+
+fn environment_follows(rt: &impl Abort, alloc: Global) {
     let mut rng = Lcg64Xsh32::seed_from_u64(18);
     let mut environment = Environment::new(alloc);
     let mut list = Vec::new(alloc);
-    for _ in 0..operations {
+    for _ in 0..OPERATIONS {
         let item = Item::drawn(&mut rng);
-        let oid = item.oid(alloc)?;
-        let face = item.face(alloc)?;
-        let holder = holder_of(item);
-        let pairs = pairs_like(&list, item);
-        let holders = environment.holders(&oid, &face);
-        if holders != pairs
-            || holders == u64::MAX
-            || environment.holds(holder, &oid, &face) != (items_like(&list, item) > 0)
-        {
-            return Ok(false);
-        }
-        if rng.next_word() % 2 == 0 {
-            if environment.hold(holder, &oid, &face)? != (pairs == 0) {
-                return Ok(false);
-            }
-            list.push(item)?;
-        } else {
-            let wanted = if items_like(&list, item) == 0 {
-                None
-            } else {
-                Some(pairs == 1)
-            };
-            if environment.let_go(holder, &oid, &face).ok() != wanted {
-                return Ok(false);
-            }
-            taken_out(&mut list, item);
-        }
+        let holds = rng.next_word() % 2 == 0;
+        let oid = Text::of(alloc, oid_of(item)).expect(rt, "no memory");
+        let face = Name::of(alloc, face_of(item)).expect(rt, "no memory");
+        hold_or_let_go(rt, &mut environment, &mut list, item, (&oid, &face), holds);
     }
-    Ok(true)
 }
 
-/// The holder of an item is left out: what is listed are sendings that are owed a release.
-fn stubs_follow(alloc: Global, operations: u32) -> Result<bool, NoMemory> {
+fn debt_of(table: &StubTable, oid: &Text, face: &Name) -> u64 {
+    match table.stub(oid, face) {
+        Some(stub) => stub.sent.saturating_sub(stub.released),
+        None => 0,
+    }
+}
+
+/// An operation, and the same on the list of sendings that are owed a release.
+fn send_or_release(
+    rt: &impl Abort,
+    table: &mut StubTable,
+    list: &mut Vec<Item>,
+    item: Item,
+    pair: (&Text, &Name),
+    sends: bool,
+) {
+    let (oid, face) = pair;
+    let owed = items_like(list, item);
+    assert!(rt; debt_of(table, oid, face) == owed);
+    if sends {
+        assert!(rt; list.push(item).is_ok());
+        send(rt, table, oid, face);
+    } else {
+        let wanted = if owed == 0 { None } else { Some(owed == 1) };
+        assert!(rt; table.released_one(oid, face).ok() == wanted);
+        taken_out(list, item);
+    }
+}
+
+/// The holder of an item is left out.
+fn stubs_follow(rt: &impl Abort, alloc: Global) {
     let mut rng = Lcg64Xsh32::seed_from_u64(19);
     let mut table = StubTable::new(alloc);
     let mut list = Vec::new(alloc);
-    for _ in 0..operations {
+    for _ in 0..OPERATIONS {
         let drawn = Item::drawn(&mut rng);
+        let sends = drawn.holder == 0;
         let item = Item { holder: 0, ..drawn };
-        let oid = item.oid(alloc)?;
-        let face = item.face(alloc)?;
-        let owed = items_like(&list, item);
-        let (sent, debt) = match table.stub(&oid, &face) {
-            Some(stub) => (stub.sent, stub.sent.saturating_sub(stub.released)),
-            None => (0, 0),
-        };
-        if debt != owed || sent == u64::MAX {
-            return Ok(false);
-        }
-        if drawn.holder != 0 {
-            let wanted = if owed == 0 { None } else { Some(owed == 1) };
-            if table.released_one(&oid, &face).ok() != wanted {
-                return Ok(false);
-            }
-            taken_out(&mut list, item);
-        } else {
-            list.push(item)?;
-            table.sent_one(&oid, &face)?;
-        }
+        let oid = Text::of(alloc, oid_of(item)).expect(rt, "no memory");
+        let face = Name::of(alloc, face_of(item)).expect(rt, "no memory");
+        send_or_release(rt, &mut table, &mut list, item, (&oid, &face), sends);
     }
-    Ok(true)
 }
 
-/// What is listed are pairs that have a proxy; its number is compared with how many there were.
-fn proxies_follow(alloc: Global, operations: u32) -> Result<bool, NoMemory> {
+/// An operation, and the same on the list of pairs that have a proxy; gives whether a number was made.
+fn arrive_or_free(
+    rt: &impl Abort,
+    table: &mut ProxyTable,
+    list: &mut Vec<Item>,
+    item: Item,
+    pair: (&Text, &Name),
+    arrives: bool,
+) -> bool {
+    let (oid, face) = pair;
+    let there = items_like(list, item) > 0;
+    assert!(rt; table.find(oid, face).is_some() == there);
+    if arrives {
+        let (_, new) = arrive(rt, table, oid, face);
+        assert!(rt; new != there);
+        if new {
+            assert!(rt; list.push(item).is_ok());
+        }
+        return new;
+    }
+    assert!(rt; free(table, oid, face) == there);
+    taken_out(list, item);
+    false
+}
+
+/// How many numbers were made is compared with how many pairs arrived anew.
+fn proxies_follow(rt: &impl Abort, alloc: Global) {
     let mut rng = Lcg64Xsh32::seed_from_u64(20);
     let mut table = ProxyTable::new(alloc);
     let mut list = Vec::new(alloc);
-    let mut made = 0;
-    for _ in 0..operations {
+    let mut made: u64 = 0;
+    for _ in 0..OPERATIONS {
         let drawn = Item::drawn(&mut rng);
+        let arrives = drawn.holder != 0;
         let item = Item { holder: 0, ..drawn };
-        let oid = item.oid(alloc)?;
-        let face = item.face(alloc)?;
-        let there = items_like(&list, item) > 0;
-        if table.made() != made || made == u64::MAX || table.find(&oid, &face).is_some() != there {
-            return Ok(false);
-        }
-        if drawn.holder != 0 {
-            let (_, new) = table.arrive(&oid, &face)?;
-            if new == there {
-                return Ok(false);
-            }
-            if new {
-                list.push(item)?;
-                made += 1;
-            }
-        } else if let Some(proxy) = table.find(&oid, &face) {
-            table.free(proxy);
-            taken_out(&mut list, item);
-        }
+        let oid = Text::of(alloc, oid_of(item)).expect(rt, "no memory");
+        let face = Name::of(alloc, face_of(item)).expect(rt, "no memory");
+        assert!(rt; table.made() == made);
+        let new = arrive_or_free(rt, &mut table, &mut list, item, (&oid, &face), arrives);
+        made = made.saturating_add(u64::from(new));
     }
-    Ok(true)
 }
 
 /// An object with one field: its number, the field, and its mark.
@@ -184,102 +237,126 @@ struct Row {
     may_go: bool,
 }
 
-/// Whether the store has just the objects of a list, of which one is drawn.
-fn has_rows(store: &Store<u32>, list: &[Row], drawn: u32) -> bool {
-    let lowest = list.iter().find(|row| row.may_go).map(|row| row.number);
-    let field = list
-        .iter()
-        .find(|row| row.number == drawn)
-        .map(|row| row.field);
-    let found = store
-        .object(drawn)
-        .and_then(|(_, fields)| fields.first().copied());
-    store.living() == list.len() as u64 && store.lowest() == lowest && found == field
+fn lowest_of(list: &[Row]) -> Option<u32> {
+    for row in list {
+        if row.may_go {
+            return Some(row.number);
+        }
+    }
+    None
+}
+
+/// The place of the object of a number; where there is none, how many objects there are.
+fn place_numbered(list: &[Row], number: u32) -> usize {
+    let mut place: usize = 0;
+    for row in list {
+        if row.number == number {
+            return place;
+        }
+        place = place.saturating_add(1);
+    }
+    place
+}
+
+fn field_of(store: &Store<u32>, number: u32) -> Option<u32> {
+    match store.object(number) {
+        Some((_, fields)) => fields.first().copied(),
+        None => None,
+    }
+}
+
+/// Sets the field of an object, which was as it should be.
+fn set(rt: &impl Abort, store: &mut Store<u32>, row: &mut Row, field: u32) {
+    let is_there = match store.object(row.number) {
+        Some((_, fields)) => !fields.is_empty(),
+        None => false,
+    };
+    assert!(rt; is_there);
+    assert!(rt; store.set_field(row.number, 0, field) == row.field);
+    row.field = field;
+}
+
+/// Marks an object, or takes its mark away.
+fn mark(rt: &impl Abort, store: &mut Store<u32>, row: &mut Row) {
+    row.may_go = !row.may_go;
+    assert!(rt; store.object(row.number).is_some());
+    store.set_may_go(row.number, row.may_go);
+}
+
+fn remove(rt: &impl Abort, store: &mut Store<u32>, number: u32) {
+    assert!(rt; store.object(number).is_some());
+    drop(store.remove(number));
+}
+
+fn make(rt: &impl Abort, alloc: Global, store: &mut Store<u32>, field: u32) -> Row {
+    let mut fields = Vec::new(alloc);
+    assert!(rt; fields.push(field).is_ok());
+    assert!(rt; store.made() < u32::MAX);
+    let number = store.make(0, fields).expect(rt, "no memory");
+    Row {
+        number,
+        field,
+        may_go: false,
+    }
+}
+
+/// An operation on the object of a number, and the same on its row, which is at this place.
+fn change(
+    rt: &impl Abort,
+    store: &mut Store<u32>,
+    list: &mut Vec<Row>,
+    place: usize,
+    what: u32,
+    field: u32,
+) {
+    if what == 0 {
+        assert!(rt; place < list.len());
+        let row = list.remove(place);
+        return remove(rt, store, row.number);
+    }
+    let row = list.get_mut(place).expect(rt, "no row");
+    if what == 1 {
+        return set(rt, store, row, field);
+    }
+    mark(rt, store, row);
+}
+
+/// Sees that the store has just the objects of a list, of which that of a number is looked at.
+fn see_rows(rt: &impl Abort, store: &Store<u32>, list: &[Row], number: u32) {
+    let field = match list.get(place_numbered(list, number)) {
+        Some(row) => Some(row.field),
+        None => None,
+    };
+    assert!(rt; store.living() == list.len() as u64);
+    assert!(rt; store.lowest() == lowest_of(list));
+    assert!(rt; field_of(store, number) == field);
 }
 
 /// What is listed are living objects in the order in which they were made.
-fn objects_follow(alloc: Global, operations: u32) -> Result<bool, NoMemory> {
+fn objects_follow(rt: &impl Abort, alloc: Global) {
     let mut rng = Lcg64Xsh32::seed_from_u64(21);
     let mut store = Store::new(alloc);
     let mut list = Vec::new(alloc);
-    for _ in 0..operations {
+    for _ in 0..OPERATIONS {
         let drawn = rng.next_word() % 8;
         let field = rng.next_word();
+        let what = rng.next_word() % 4;
         let number = store.made().saturating_sub(drawn);
-        let place = list.iter().position(|row: &Row| row.number == number);
-        if !has_rows(&store, &list, number) || store.made() == u32::MAX {
-            return Ok(false);
-        }
-        match (place, rng.next_word() % 4) {
-            (Some(place), 0) => {
-                list.remove(place);
-                if !removes(&mut store, number) {
-                    return Ok(false);
-                }
-            }
-            (Some(place), 1) => {
-                let row = &mut list[place];
-                if !sets(&mut store, number, row.field, field) {
-                    return Ok(false);
-                }
-                row.field = field;
-            }
-            (Some(place), 2) => {
-                let row = &mut list[place];
-                row.may_go = !row.may_go;
-                if !marks(&mut store, number, row.may_go) {
-                    return Ok(false);
-                }
-            }
-            _ => {
-                let mut fields = Vec::new(alloc);
-                fields.push(field)?;
-                let number = store.make(0, fields)?;
-                list.push(Row {
-                    number,
-                    field,
-                    may_go: false,
-                })?;
-            }
+        see_rows(rt, &store, &list, number);
+        let place = place_numbered(&list, number);
+        if place < list.len() && what < 3 {
+            change(rt, &mut store, &mut list, place, what, field);
+        } else {
+            let row = make(rt, alloc, &mut store, field);
+            assert!(rt; list.push(row).is_ok());
         }
     }
-    Ok(true)
-}
-
-/// Takes an object out, if it is there.
-fn removes(store: &mut Store<u32>, number: u32) -> bool {
-    let there = store.object(number).is_some();
-    if there {
-        store.remove(number);
-    }
-    there
-}
-
-/// Sets the field of an object, if it is there and the field was as it should be.
-fn sets(store: &mut Store<u32>, number: u32, old: u32, new: u32) -> bool {
-    let Some((_, fields)) = store.object(number) else {
-        return false;
-    };
-    !fields.is_empty() && store.set_field(number, 0, new) == old
-}
-
-/// Marks an object, or takes its mark away, if it is there.
-fn marks(store: &mut Store<u32>, number: u32, may_go: bool) -> bool {
-    let there = store.object(number).is_some();
-    if there {
-        store.set_may_go(number, may_go);
-    }
-    there
 }
 
 #[test]
 fn tables_answer_as_lists_do(rt: HostRuntime) {
-    see(&rt, environment_follows(rt.alloc(), 3000) == Ok(true));
-    see(&rt, stubs_follow(rt.alloc(), 3000) == Ok(true));
-    see(&rt, proxies_follow(rt.alloc(), 3000) == Ok(true));
-    see(&rt, objects_follow(rt.alloc(), 3000) == Ok(true));
-}
-
-fn see(rt: &impl Abort, right: bool) {
-    assert!(rt; right);
+    environment_follows(&rt, rt.alloc());
+    stubs_follow(&rt, rt.alloc());
+    proxies_follow(&rt, rt.alloc());
+    objects_follow(&rt, rt.alloc());
 }

@@ -4,4 +4,6 @@
 #[cfg(test)]
 mod beside_lists;
 #[cfg(test)]
+mod calls;
+#[cfg(test)]
 mod rows;

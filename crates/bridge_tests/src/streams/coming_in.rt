@@ -5,18 +5,17 @@
 //! a part of a block is held.
 ghost use Rattle.uno_model.specs.Sound.{IsSound};
 
-use super::talk::{BYTES, CALL};
-use crate::registries::{NODE, sound_registry};
-use crate::shown::{Shown, see};
-use crate::values::{show_value, show_values};
+use super::talk::{BYTES, CALL, tid};
+use crate::registries::{NODE, registry};
+use crate::shown::Shown;
+use crate::values::{name, show_answer, show_values, text};
 use bridge_streams::{Incoming, Taken, Waiting};
 use call_stacks::Stacks;
 use plan_types::{Frame, Outgoing};
 use std::alloc::Global;
 use std::process::Abort;
-use uno_base::NoMemory;
-use uno_types::{Name, Registry, Text, Tid};
-use urp_message::{Answer, Expects, Message, ReadError, Reason};
+use uno_types::{Registry, Tid};
+use urp_message::{Expects, Message, ReadError, Reason};
 use urp_stream::Block;
 
 const ROWS: &[(&[u8], &str)] = &[
@@ -44,12 +43,12 @@ const REFUSED: &[(&[u8], &str)] = &[
     (b"\0\0\0\x05\0\0\0\0", " NoMessages"),
 ];
 
-fn show_name(shown: &mut Shown, what: &str, tid: &Tid) -> Result<(), NoMemory> {
-    shown.word(what)?;
-    shown.word(str::from_utf8(tid.as_bytes()).unwrap_or("?"))
+fn show_name(shown: &mut Shown, what: &str, tid: &Tid) {
+    shown.word(what);
+    shown.word(str::from_utf8(tid.as_bytes()).unwrap_or("?"));
 }
 
-fn show_message(shown: &mut Shown, message: &Message) -> Result<(), NoMemory> {
+fn show_message(shown: &mut Shown, message: &Message) {
     match message {
         Message::Request {
             tid,
@@ -58,14 +57,14 @@ fn show_message(shown: &mut Shown, message: &Message) -> Result<(), NoMemory> {
             function,
             args,
         } => {
-            show_name(shown, "call", tid)?;
-            shown.word(oid.as_str())?;
-            shown.number(u64::from(*function))?;
-            show_values(shown, args)
+            show_name(shown, "call", tid);
+            shown.word(oid.as_str());
+            shown.number(u64::from(*function));
+            show_values(shown, args);
         }
         Message::Release { tid, oid, face: _ } => {
-            show_name(shown, "release", tid)?;
-            shown.word(oid.as_str())
+            show_name(shown, "release", tid);
+            shown.word(oid.as_str());
         }
         Message::Reply {
             tid,
@@ -73,24 +72,14 @@ fn show_message(shown: &mut Shown, message: &Message) -> Result<(), NoMemory> {
             function: _,
             answer,
         } => {
-            show_name(shown, "answer", tid)?;
-            show_answer(shown, answer)
+            show_name(shown, "answer", tid);
+            show_answer(shown, answer);
         }
-    }
-}
-
-fn show_answer(shown: &mut Shown, answer: &Answer) -> Result<(), NoMemory> {
-    match answer {
-        Answer::Returned { value, outs } => {
-            show_value(shown, value)?;
-            show_values(shown, outs)
-        }
-        Answer::Raised(_) => shown.word("!"),
     }
 }
 
 /// Those that the rows have.
-fn show_reason(shown: &mut Shown, reason: Reason) -> Result<(), NoMemory> {
+fn show_reason(shown: &mut Shown, reason: Reason) {
     match reason {
         Reason::TooLarge => shown.word("TooLarge"),
         Reason::NoMessages => shown.word("NoMessages"),
@@ -100,16 +89,35 @@ fn show_reason(shown: &mut Shown, reason: Reason) -> Result<(), NoMemory> {
     }
 }
 
-/// What stands behind so many bytes.
-fn behind(bytes: &[u8], count: usize) -> &[u8] {
-    let (_, rest) = bytes.split_at(count.min(bytes.len()));
-    rest
+/// So many bytes at the front, or all, and what stands behind them.
+fn split(bytes: &[u8], count: usize) -> (&[u8], &[u8]) {
+    bytes.split_at(count.min(bytes.len()))
 }
 
-/// So many bytes, or all.
-fn front(bytes: &[u8], count: usize) -> &[u8] {
-    let (front, _) = bytes.split_at(count.min(bytes.len()));
-    front
+/// Reads the message at the front, and tells how many bytes it has; nothing where it is refused.
+fn read(
+    registry: &Registry,
+    stacks: &Stacks,
+    incoming: &mut Incoming,
+    body: &[u8],
+    shown: &mut Shown,
+) -> Option<usize>
+    requires { IsSound registry.now }
+{
+    match incoming.read(registry, stacks, body) {
+        Ok((message, size)) => {
+            show_message(shown, &message);
+            Some(size)
+        }
+        Err(ReadError::Broken(reason)) => {
+            show_reason(shown, reason);
+            None
+        }
+        Err(ReadError::NoMemory) => {
+            shown.word("no memory");
+            None
+        }
+    }
 }
 
 /// Reads the messages that a block says that it has, up to one that is refused.
@@ -119,125 +127,121 @@ fn read_all(
     incoming: &mut Incoming,
     block: &Block,
     shown: &mut Shown,
-) -> Result<(), NoMemory>
+)
     requires { IsSound registry.now }
 {
     let mut rest = block.body.as_slice();
     for _turn in 0..block.count {
-        match incoming.read(registry, stacks, rest) {
-            Ok((message, size)) => {
-                rest = behind(rest, size);
-                let done = show_message(shown, &message);
-                drop(message);
-                done?;
-            }
-            Err(ReadError::NoMemory) => return Err(NoMemory),
-            Err(ReadError::Broken(reason)) => return show_reason(shown, reason),
-        }
+        let Some(size) = read(registry, stacks, incoming, rest, shown) else {
+            return
+        };
+        let (_, behind) = split(rest, size);
+        rest = behind;
     }
-    Ok(())
 }
 
 /// More bytes than a row has.
 const MANY: usize = 1000;
 
 /// Feeds bytes, which are few.
-fn feed(incoming: &mut Incoming, piece: &[u8]) -> Result<Taken, NoMemory> {
-    if piece.len() > MANY || incoming.fed() > MANY as u64 {
-        return Ok(Taken::Part(0));
-    }
-    incoming.feed(piece)
+fn feed(rt: &impl Abort, incoming: &mut Incoming, piece: &[u8]) -> Taken {
+    assert!(rt; piece.len() <= MANY);
+    assert!(rt; incoming.fed() <= MANY as u64);
+    incoming.feed(piece).expect(rt, "no memory")
 }
 
 /// Takes the bytes at the front of a piece, and tells how many.
 fn take(
+    rt: &impl Abort,
     registry: &Registry,
     stacks: &Stacks,
     incoming: &mut Incoming,
     piece: &[u8],
     shown: &mut Shown,
-) -> Result<usize, NoMemory>
+) -> usize
     requires { IsSound registry.now }
 {
-    match feed(incoming, piece)? {
-        Taken::Part(count) => Ok(count),
+    match feed(rt, incoming, piece) {
+        Taken::Part(count) => count,
         Taken::Whole(count, block) => {
-            shown.number(block.place)?;
-            shown.number(u64::from(block.count))?;
-            read_all(registry, stacks, incoming, &block, shown)?;
-            Ok(count)
+            shown.number(block.place);
+            shown.number(u64::from(block.count));
+            read_all(registry, stacks, incoming, &block, shown);
+            count
         }
         Taken::Refused(count, reason) => {
-            show_reason(shown, reason)?;
-            Ok(count)
+            show_reason(shown, reason);
+            count
         }
     }
 }
 
 /// Takes bytes, so many at a time at most.
 fn take_all(
+    rt: &impl Abort,
     registry: &Registry,
     stacks: &Stacks,
     incoming: &mut Incoming,
     bytes: &[u8],
     most: usize,
     shown: &mut Shown,
-) -> Result<(), NoMemory>
+)
     requires { IsSound registry.now }
 {
     let mut rest = bytes;
     for _turn in 0..bytes.len() {
         if rest.is_empty() {
-            return Ok(());
+            return;
         }
-        let count = take(registry, stacks, incoming, front(rest, most), shown)?;
-        rest = behind(rest, count);
+        let (piece, _) = split(rest, most);
+        let count = take(rt, registry, stacks, incoming, piece, shown);
+        let (_, behind) = split(rest, count);
+        rest = behind;
     }
-    Ok(())
 }
 
 /// A call of `twice` waits on the thread `T`.
-fn waiting(alloc: Global) -> Result<Stacks, NoMemory> {
+fn waiting(rt: &impl Abort, alloc: Global) -> Stacks {
     let mut stacks = Stacks::new(alloc);
-    let oid = Text::of(alloc, "S;1")?;
-    let face = Name::of(alloc, NODE)?;
     let frame = Frame::Out(Outgoing {
         number: 0,
-        oid,
-        face,
+        oid: text(rt, alloc, "S;1"),
+        face: name(rt, alloc, NODE),
         function: 3,
     });
-    stacks.push(&Tid::of(alloc, b"T")?, frame)?;
-    Ok(stacks)
+    let tid = tid(rt, alloc, b"T");
+    stacks.push(&tid, frame).expect(rt, "no memory");
+    stacks
 }
 
-fn show_end(incoming: &Incoming, shown: &mut Shown) -> Result<(), NoMemory> {
-    shown.number(incoming.place())?;
-    shown.number(incoming.fed())?;
+fn show_end(incoming: &Incoming, shown: &mut Shown) {
+    shown.number(incoming.place());
+    shown.number(incoming.fed());
     if incoming.holds_part() {
-        return shown.word("+");
+        shown.word("+");
     }
-    Ok(())
 }
 
-/// What bytes show, so many at a time; behind them, how many came where that is asked.
-fn shown_by(
+/// Sees what bytes show, so many at a time; behind them, how many came where that is asked.
+fn see(
+    rt: &impl Abort,
     alloc: Global,
     registry: &Registry,
-    bytes: &[u8],
+    stacks: &Stacks,
+    row: (&[u8], &str),
     most: usize,
     end: bool,
-) -> Result<Shown, NoMemory>
+)
     requires { IsSound registry.now }
 {
-    let stacks = waiting(alloc)?;
-    let mut incoming = Incoming::new(alloc)?;
+    let (bytes, wanted) = row;
+    let mut incoming = Incoming::new(alloc).expect(rt, "no memory");
     let mut shown = Shown::new(alloc);
-    take_all(registry, &stacks, &mut incoming, bytes, most, &mut shown)?;
+    take_all(rt, registry, stacks, &mut incoming, bytes, most, &mut shown);
     if end {
-        show_end(&incoming, &mut shown)?;
+        show_end(&incoming, &mut shown);
     }
-    Ok(shown)
+    shown.see(rt, wanted, wanted);
 }
 
 /// Sees that a row shows what it should at each cut.
@@ -245,104 +249,101 @@ fn see_cuts(
     rt: &impl Abort,
     alloc: Global,
     registry: &Registry,
-    row: &(&'static [u8], &'static str),
+    stacks: &Stacks,
+    row: (&[u8], &str),
     end: bool,
 )
     requires { IsSound registry.now }
 {
-    let (bytes, wanted) = row;
+    let (bytes, _) = row;
     for most in 0..bytes.len() {
-        let shown = shown_by(alloc, registry, bytes, most + 1, end);
-        see(rt, shown, wanted, wanted);
-    }
-}
-
-fn see_rows(rt: &impl Abort, alloc: Global, registry: &Registry)
-    requires { IsSound registry.now }
-{
-    for row in ROWS {
-        see_cuts(rt, alloc, registry, row, true);
-    }
-    for row in REFUSED {
-        see_cuts(rt, alloc, registry, row, false);
+        see(rt, alloc, registry, stacks, row, most + 1, end);
     }
 }
 
 #[test]
 fn bytes_show_what_the_rows_say_at_each_cut(rt: HostRuntime) {
-    match sound_registry(rt.alloc()) {
-        Ok(registry) => see_rows(&rt, rt.alloc(), &registry),
-        Err(NoMemory) => panic!(&rt; "no memory"),
+    let registry = registry(&rt, rt.alloc());
+    let stacks = waiting(&rt, rt.alloc());
+    for row in ROWS {
+        see_cuts(&rt, rt.alloc(), &registry, &stacks, *row, true);
+    }
+    for row in REFUSED {
+        see_cuts(&rt, rt.alloc(), &registry, &stacks, *row, false);
     }
 }
 
 /// A call with a short header, and the front of a block.
-const SHORT: &[u8] = b"\0\0\0\x05\0\0\0\x01\x03\0\0\0\x15";
-
-const PART: &[u8] = b"\0\0\0";
+const FORGOTTEN: &[(&[u8], &str)] = &[
+    (
+        b"\0\0\0\x05\0\0\0\x01\x03\0\0\0\x15",
+        " 0 1 call T S;1 3 21 0 0 0 1 NoLast 0 0 0 1 call T S;1 3 21",
+    ),
+    (
+        b"\0\0\0",
+        " 0 1 call T S;1 3 21 0 0 0 3 + 0 1 call T S;1 3 21",
+    ),
+];
 
 /// Takes a call, forgets it, and takes bytes; at last the call once more.
 fn forget_between(
+    rt: &impl Abort,
     registry: &Registry,
     stacks: &Stacks,
     incoming: &mut Incoming,
     bytes: &[u8],
     shown: &mut Shown,
-) -> Result<(), NoMemory>
+)
     requires { IsSound registry.now }
 {
-    take_all(registry, stacks, incoming, CALL, MANY, shown)?;
+    take_all(rt, registry, stacks, incoming, CALL, MANY, shown);
     incoming.forget();
-    show_end(incoming, shown)?;
-    take_all(registry, stacks, incoming, bytes, MANY, shown)?;
-    show_end(incoming, shown)?;
+    show_end(incoming, shown);
+    take_all(rt, registry, stacks, incoming, bytes, MANY, shown);
+    show_end(incoming, shown);
     incoming.forget();
-    take_all(registry, stacks, incoming, CALL, MANY, shown)
+    take_all(rt, registry, stacks, incoming, CALL, MANY, shown);
 }
 
-/// What is shown where a call is forgotten.
-fn forgotten(alloc: Global, registry: &Registry, bytes: &[u8]) -> Result<Shown, NoMemory>
+/// Sees what is shown where a call is forgotten.
+fn see_forgotten(
+    rt: &impl Abort,
+    alloc: Global,
+    registry: &Registry,
+    stacks: &Stacks,
+    row: (&[u8], &str),
+)
     requires { IsSound registry.now }
 {
-    let stacks = waiting(alloc)?;
-    let mut incoming = Incoming::new(alloc)?;
+    let (bytes, wanted) = row;
+    let mut incoming = Incoming::new(alloc).expect(rt, "no memory");
     let mut shown = Shown::new(alloc);
-    forget_between(registry, &stacks, &mut incoming, bytes, &mut shown)?;
-    Ok(shown)
-}
-
-fn see_forgotten(rt: &impl Abort, alloc: Global, registry: &Registry)
-    requires { IsSound registry.now }
-{
-    let short = forgotten(alloc, registry, SHORT);
-    let wanted = " 0 1 call T S;1 3 21 0 0 0 1 NoLast 0 0 0 1 call T S;1 3 21";
-    see(rt, short, "a short header", wanted);
-    let part = forgotten(alloc, registry, PART);
-    let wanted = " 0 1 call T S;1 3 21 0 0 0 3 + 0 1 call T S;1 3 21";
-    see(rt, part, "a part", wanted);
+    forget_between(rt, registry, stacks, &mut incoming, bytes, &mut shown);
+    shown.see(rt, wanted, wanted);
 }
 
 #[test]
 fn what_is_forgotten_is_as_if_it_never_came(rt: HostRuntime) {
-    match sound_registry(rt.alloc()) {
-        Ok(registry) => see_forgotten(&rt, rt.alloc(), &registry),
-        Err(NoMemory) => panic!(&rt; "no memory"),
+    let registry = registry(&rt, rt.alloc());
+    let stacks = waiting(&rt, rt.alloc());
+    for row in FORGOTTEN {
+        see_forgotten(&rt, rt.alloc(), &registry, &stacks, *row);
     }
 }
 
-/// Whether calls wait as they should.
-fn waits_are_right(alloc: Global) -> Result<bool, NoMemory> {
-    let stacks = waiting(alloc)?;
-    let waiting = Waiting { stacks: &stacks };
-    let nobody = waiting.waits(b"V").is_none();
-    let called = match waiting.waits(b"T") {
+/// Whether a call of `twice` waits on a thread.
+fn waits(stacks: &Stacks, tid: &[u8]) -> bool {
+    match (Waiting { stacks }).waits(tid) {
         Some((face, function)) => face.as_str() == NODE && function == 3,
         None => false,
-    };
-    Ok(nobody && called && stacks.any_waits() && !Stacks::new(alloc).any_waits())
+    }
 }
 
 #[test]
 fn the_call_at_the_top_of_a_stack_waits(rt: HostRuntime) {
-    assert!(rt; waits_are_right(rt.alloc()) == Ok(true));
+    let stacks = waiting(&rt, rt.alloc());
+    assert!(&rt; Waiting { stacks: &stacks }.waits(b"V").is_none());
+    assert!(&rt; waits(&stacks, b"T"));
+    assert!(&rt; stacks.any_waits());
+    assert!(&rt; !Stacks::new(rt.alloc()).any_waits());
 }

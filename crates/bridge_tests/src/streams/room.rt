@@ -2,14 +2,14 @@
 //!
 //! `push` says a message, `keep` and `unkeep` are for `keep_one` and `unkeep`, and `release`, `clear`, `kept` and `empty` as they are called. Where there
 //! is no room, `unkeep` and `release` answer `!`.
-use super::talk::message;
+use super::talk::{message, tid};
 use crate::registries::NODE;
-use crate::shown::{Shown, see};
+use crate::shown::Shown;
+use crate::values::{name, text};
 use bridge_streams::Unsaid;
 use proxy_table::Release;
 use std::alloc::Global;
-use uno_base::NoMemory;
-use uno_types::{Name, Text, Tid};
+use std::process::Abort;
 
 const ROWS: &[(&str, &str)] = &[
     ("kept,empty,unkeep,release,empty", " 0 y ! ! y"),
@@ -25,52 +25,49 @@ const ROWS: &[(&str, &str)] = &[
     ),
 ];
 
-fn release(alloc: Global, unsaid: &mut Unsaid, shown: &mut Shown) -> Result<(), NoMemory> {
-    let oid = Text::of(alloc, "S;1")?;
-    let face = Name::of(alloc, NODE)?;
+fn release(rt: &impl Abort, alloc: Global, unsaid: &mut Unsaid, shown: &mut Shown) {
     if unsaid.kept() == 0 {
         return shown.word("!");
     }
-    unsaid.release(Release { oid, face });
-    Ok(())
+    unsaid.release(Release {
+        oid: text(rt, alloc, "S;1"),
+        face: name(rt, alloc, NODE),
+    });
 }
 
-fn unkeep(unsaid: &mut Unsaid, shown: &mut Shown) -> Result<(), NoMemory> {
+fn unkeep(unsaid: &mut Unsaid, shown: &mut Shown) {
     if unsaid.kept() == 0 {
         return shown.word("!");
     }
     unsaid.unkeep();
-    Ok(())
 }
 
-fn step(alloc: Global, unsaid: &mut Unsaid, what: &str, shown: &mut Shown) -> Result<(), NoMemory> {
+fn step(rt: &impl Abort, alloc: Global, unsaid: &mut Unsaid, what: &str, shown: &mut Shown) {
     match what {
-        "push" => unsaid.push(message(alloc, "call")?),
-        "keep" => unsaid.keep_one(),
+        "push" => shown.done(unsaid.push(message(rt, alloc, "call"))),
+        "keep" => shown.done(unsaid.keep_one()),
         "unkeep" => unkeep(unsaid, shown),
-        "release" => release(alloc, unsaid, shown),
+        "release" => release(rt, alloc, unsaid, shown),
         "kept" => shown.number(unsaid.kept() as u64),
         "empty" => shown.yes(unsaid.is_empty()),
-        _ => {
-            unsaid.clear();
-            Ok(())
-        }
+        "clear" => unsaid.clear(),
+        _ => shown.word("?"),
     }
 }
 
-/// What the calls of a row answer.
-fn answers(alloc: Global, calls: &str) -> Result<Shown, NoMemory> {
-    let mut unsaid = Unsaid::new(alloc, Tid::of(alloc, b"U")?);
+/// Sees what the calls of a row answer.
+fn see(rt: &impl Abort, alloc: Global, calls: &str, wanted: &str) {
+    let mut unsaid = Unsaid::new(alloc, tid(rt, alloc, b"U"));
     let mut shown = Shown::new(alloc);
     for call in calls.split(',') {
-        step(alloc, &mut unsaid, call, &mut shown)?;
+        step(rt, alloc, &mut unsaid, call, &mut shown);
     }
-    Ok(shown)
+    shown.see(rt, calls, wanted);
 }
 
 #[test]
 fn calls_answer_as_the_rows_say(rt: HostRuntime) {
     for (calls, wanted) in ROWS {
-        see(&rt, answers(rt.alloc(), calls), calls, wanted);
+        see(&rt, rt.alloc(), calls, wanted);
     }
 }

@@ -1,13 +1,14 @@
 //! A talk of five messages: a call of `twice` of the object `S;1` on the thread `T`, its answer, a release of the object on the thread
 //! `U`, and answer and call once more.
-ghost use Rattle.std.specs.Prelude.{◌≡◌, IfOk};
+ghost use Rattle.std.specs.Prelude.{◌≡◌};
 ghost use Rattle.message_model.specs.Messages.{release};
 ghost use Rattle.urp_message.specs.Messages.{message_of};
 
 use crate::registries::NODE;
+use crate::values::{name, text};
 use std::alloc::Global;
-use uno_base::NoMemory;
-use uno_types::{Name, Text, Tid};
+use std::process::Abort;
+use uno_types::Tid;
 use uno_values::Value;
 use urp_message::{Answer, Message};
 
@@ -25,49 +26,59 @@ pub(crate) const BYTES: &[u8] =
 pub(crate) const CALL: &[u8] =
     b"\0\0\0\x1E\0\0\0\x01\xF8\x03\x96\0\0\x0Ademo.XNode\x03S;1\0\0\x01T\0\0\0\0\0\x15";
 
+pub(crate) fn tid(rt: &impl Abort, alloc: Global, bytes: &[u8]) -> Tid
+    ensures { result ≡ bytes.now }
+{
+    Tid::of(alloc, bytes).expect(rt, "no memory")
+}
+
 /// A message of the talk.
-pub(crate) fn message(alloc: Global, what: &str) -> Result<Message, NoMemory> {
+pub(crate) fn message(rt: &impl Abort, alloc: Global, what: &str) -> Message {
     match what {
-        "call" => call(alloc),
-        "release" => release(alloc, b"U", "S;1", NODE),
-        _ => answer(alloc),
+        "call" => call(rt, alloc),
+        "release" => release(rt, alloc, b"U", "S;1", NODE),
+        "answer" => answer(rt, alloc),
+        _ => panic!(rt; "no message"),
     }
 }
 
-fn call(alloc: Global) -> Result<Message, NoMemory> {
-    let tid = Tid::of(alloc, b"T")?;
-    let oid = Text::of(alloc, "S;1")?;
-    let face = Name::of(alloc, NODE)?;
+fn call(rt: &impl Abort, alloc: Global) -> Message {
     let mut args = Vec::new(alloc);
-    args.push(Value::Long(21))?;
-    Ok(Message::Request {
-        tid,
-        oid,
-        face,
+    args.push(Value::Long(21)).ok();
+    Message::Request {
+        tid: tid(rt, alloc, b"T"),
+        oid: text(rt, alloc, "S;1"),
+        face: name(rt, alloc, NODE),
         function: 3,
         args,
-    })
+    }
 }
 
 /// A release on a thread.
-pub(crate) fn release(alloc: Global, tid: &[u8], oid: &str, face: &str) -> Result<Message, NoMemory>
-    ensures { IfOk result (λ message. message_of message ≡ release tid.now oid.now face.now) }
+pub(crate) fn release(
+    rt: &impl Abort,
+    alloc: Global,
+    thread: &[u8],
+    oid: &str,
+    face: &str,
+) -> Message
+    ensures { message_of result ≡ release thread.now oid.now face.now }
 {
-    let tid = Tid::of(alloc, tid)?;
-    let oid = Text::of(alloc, oid)?;
-    let face = Name::of(alloc, face)?;
-    Ok(Message::Release { tid, oid, face })
+    Message::Release {
+        tid: tid(rt, alloc, thread),
+        oid: text(rt, alloc, oid),
+        face: name(rt, alloc, face),
+    }
 }
 
-fn answer(alloc: Global) -> Result<Message, NoMemory> {
-    let tid = Tid::of(alloc, b"T")?;
-    let face = Name::of(alloc, NODE)?;
-    let value = Value::Long(42);
-    let outs = Vec::new(alloc);
-    Ok(Message::Reply {
-        tid,
-        face,
+fn answer(rt: &impl Abort, alloc: Global) -> Message {
+    Message::Reply {
+        tid: tid(rt, alloc, b"T"),
+        face: name(rt, alloc, NODE),
         function: 3,
-        answer: Answer::Returned { value, outs },
-    })
+        answer: Answer::Returned {
+            value: Value::Long(42),
+            outs: Vec::new(alloc),
+        },
+    }
 }
