@@ -1,283 +1,395 @@
-//! The effects of statements, by rows: a job, the one statement of its method, and what is asked.
-//!
-//! A statement is `let x E`, `set a E`, `keep last E` (the field), `call W E`, `call W E x` (with a result), `query W x`, `new x`,
-//! `drop x`, `when W == E E`, `when W < E E`, `return E`, `raise NAME` (with a message), `raise NAME E`, `dispose`, or nothing, so that
-//! the end follows. A word W is `$x`, `.last` or `self`; an expression E is a word, a digit, or `+x`, one more than `$x`. A value is
-//! shown as its number, its text in quotes or its object's identity, an any as `<5>`, null as `-`, and another one as `?`.
+//! The effects of statements, by rows: a case, the statement of its method, and what is asked. Values are shown by their literals, objects
+//! that are called by their identities.
 ghost use Rattle.uno_model.specs.Sound.{IsSound};
 
-mod faces;
 mod jobs;
 mod leaving;
 mod manager;
-mod plans;
 mod showing;
 
-use behaviour::next;
-use faces::sound_registry;
-use jobs::job;
+use crate::texts::{FACE, plan_of, registry_of};
+use jobs::{Called, asked};
 use plan_types::Plan;
-use plans::plan;
-use showing::shown;
 use std::alloc::Global;
 use std::process::Abort;
-use uno_base::NoMemory;
 use uno_types::Registry;
 
-/// The number of the called function, the frames of the stack, and the value of `$a`.
+pub(crate) const ENTITIES: &str = "unoreg 1\n\
+    exception t.Refused com.sun.star.uno.Exception\nmember what any\nend\n\
+    exception t.Worse t.Refused\nend\n\
+    interface t.XNode\nbase com.sun.star.uno.XInterface\n\
+    method ask long\nparam in a long\nparam out b long\nraises t.Refused\n\
+    method idle long\nparam in a long\nparam out b long\nraises t.Refused\n\
+    method pass any\nparam in it any\nparam out b long\nraises t.Refused\n\
+    method meet long\nparam in node t.XNode\nparam out b long\nraises t.Refused\n\
+    method rest void\nparam in a long\nparam out b long\nraises t.Refused\n\
+    end\n";
+
+/// The written method, the number of the called one, the place of the statement, the frames of the stack, and what `$what` is.
 #[derive(Clone, Copy)]
-pub(crate) struct Case {
-    pub(crate) function: u16,
-    pub(crate) frames: u32,
-    pub(crate) given: &'static str,
+struct Case {
+    written: &'static str,
+    function: u16,
+    place: u32,
+    frames: u32,
+    what: &'static str,
 }
 
 /// A call of `ask`, for which the one method is written.
 const ASKED: Case = Case {
+    written: "ask",
     function: 3,
+    place: 4,
     frames: 1,
-    given: "5",
+    what: "(void)",
 };
 
 /// A call of `idle`, for which none is written.
 const IDLE: Case = Case {
+    written: "ask",
     function: 4,
+    place: 4,
     frames: 1,
-    given: "5",
+    what: "(void)",
+};
+
+/// A call of `rest`, whose result is void, at the end behind its last statement.
+const RESTED: Case = Case {
+    written: "rest",
+    function: 7,
+    place: 6,
+    frames: 1,
+    what: "(void)",
 };
 
 /// On a stack with one frame less than it may have when it calls, and on one with all.
 const HIGH: Case = Case {
+    written: "ask",
     function: 3,
+    place: 4,
     frames: 999,
-    given: "5",
+    what: "(void)",
 };
 
 const FULL: Case = Case {
+    written: "ask",
     function: 3,
+    place: 4,
     frames: 1000,
-    given: "5",
+    what: "(void)",
 };
 
-/// `$a` weighs more, or is nested deeper, than a value may.
+/// `$what` weighs more, or is nested deeper, than a value may.
 const LARGE: Case = Case {
-    function: 3,
+    written: "pass",
+    function: 5,
+    place: 4,
     frames: 1,
-    given: "large",
+    what: "*16777217",
 };
 
 const DEEP: Case = Case {
-    function: 3,
+    written: "pass",
+    function: 5,
+    place: 4,
     frames: 1,
-    given: "deep",
+    what: "deep",
 };
 
 /// The same on a stack that is full.
 const FULL_AND_LARGE: Case = Case {
-    function: 3,
+    written: "pass",
+    function: 5,
+    place: 4,
     frames: 1000,
-    given: "large",
+    what: "*16777217",
 };
 
-/// `$a` weighs just what a value may, or is nested just as deep: a message with it is too much.
+/// `$what` weighs just what a value may, or is nested just as deep: a message with it is too much.
 const HEAVIEST: Case = Case {
-    function: 3,
+    written: "pass",
+    function: 5,
+    place: 4,
     frames: 1,
-    given: "heaviest",
+    what: "*16777216",
 };
 
 const DEEPEST: Case = Case {
-    function: 3,
+    written: "pass",
+    function: 5,
+    place: 4,
     frames: 1,
-    given: "deepest",
+    what: "deepest",
 };
 
-const ROWS: &[(Case, &str, &str)] = &[
-    (ASKED, "let x 5", "lets x 5"),
-    (ASKED, "let x $a", "lets x 5"),
-    (ASKED, "let x +a", "lets x 6"),
-    (ASKED, "let x .last", "lets x 8"),
-    (ASKED, "let x self", "lets x S;1"),
-    (ASKED, "set a 6", "sets a 6"),
-    (ASKED, "keep last +a", "keeps last 6"),
-    (ASKED, "call $peer 6", "calls C;2 3 to - with 6"),
-    (ASKED, "call $peer +a x", "calls C;2 3 to x with 6"),
-    (ASKED, "call self self x", "calls S;1 3 to x with S;1"),
-    (ASKED, "query $peer x", "queries C;2 t.XNode to x"),
-    (ASKED, "new x", "makes 0 t.XNode x"),
-    (ASKED, "drop a", "drops a"),
-    (ASKED, "when $a == 5 6", "returns 6 with 7"),
-    (ASKED, "when $a == 4 6", "skips"),
-    (ASKED, "when $a < 6 +a", "returns 6 with 7"),
-    (ASKED, "when $a < 5 +most", "skips"),
-    (ASKED, "when .last == 8 6", "returns 6 with 7"),
-    (ASKED, "when .last == $a 6", "skips"),
-    (ASKED, "when .last < 9 6", "returns 6 with 7"),
-    (ASKED, "when .last < .last 6", "skips"),
-    (ASKED, "when self == self 6", "returns 6 with 7"),
-    (ASKED, "when self == $peer 6", "skips"),
-    (ASKED, "when $none == self 6", "skips"),
-    (ASKED, "when $none == $none 6", "returns 6 with 7"),
-    (ASKED, "return +a", "returns 6 with 7"),
-    (ASKED, "raise t.Refused", "raises t.Refused: 'no' -"),
-    (ASKED, "raise t.Worse", "raises t.Worse: 'no' -"),
+/// An exception with `$what` weighs just what a value may, or is nested just as deep.
+const HEAVIEST_RAISED: Case = Case {
+    written: "pass",
+    function: 5,
+    place: 4,
+    frames: 1,
+    what: "*16777210",
+};
+
+const DEEPEST_RAISED: Case = Case {
+    written: "pass",
+    function: 5,
+    place: 4,
+    frames: 1,
+    what: "deepest raised",
+};
+
+/// It is nested one less deep, as deep as what is raised may be.
+const DEEPEST_LEAVING: Case = Case {
+    written: "pass",
+    function: 5,
+    place: 4,
+    frames: 1,
+    what: "deepest leaving",
+};
+
+/// A case, a statement, and what is asked, where `$what` stands for its literal.
+type Row = (Case, &'static str, &'static str);
+
+const ROWS: &[Row] = &[
+    (ASKED, "let x long = 5", "lets x 5"),
+    (ASKED, "let x long = $a", "lets x 5"),
+    (ASKED, "let x long = add($a,1)", "lets x 6"),
+    (ASKED, "let x long = $.last", "lets x 8"),
+    (ASKED, "let x t.XNode = $self", "lets x @\"S;1\"<t.XNode>"),
+    (ASKED, "set $a = 6", "sets a 6"),
+    (ASKED, "set $.last = add($a,1)", "keeps last 6"),
+    (ASKED, "call $peer.ask(6,$b)", "calls C;2 3 to - with 6"),
     (
         ASKED,
-        "raise com.sun.star.lang.DisposedException",
-        "raises com.sun.star.lang.DisposedException: 'no' -",
+        "call x long = $peer.ask(add($a,1),$b)",
+        "calls C;2 3 to x with 6",
     ),
     (
         ASKED,
-        "raise com.sun.star.uno.Exception",
-        "raises com.sun.star.uno.RuntimeException: 'undeclared com.sun.star.uno.Exception' -",
+        "call x long = $self.meet($self,$b)",
+        "calls S;1 6 to x with @\"S;1\"<t.XNode>",
+    ),
+    (ASKED, "query x t.XNode = $peer", "queries C;2 t.XNode to x"),
+    (ASKED, "new x t.XNode = Node", "makes 0 t.XNode x"),
+    (ASKED, "drop $a", "drops a"),
+    (ASKED, "when $a == 5 return 6", "returns 6 with 7"),
+    (ASKED, "when $a == 4 return 6", "skips"),
+    (ASKED, "when $a < 6 return add($a,1)", "returns 6 with 7"),
+    (ASKED, "when $a < 5 return add($most,1)", "skips"),
+    (ASKED, "when $.last == 8 return 6", "returns 6 with 7"),
+    (ASKED, "when $.last == $a return 6", "skips"),
+    (ASKED, "when $.last < 9 return 6", "returns 6 with 7"),
+    (ASKED, "when $.last < $.last return 6", "skips"),
+    (ASKED, "when $self == $self return 6", "returns 6 with 7"),
+    (ASKED, "when $self == $peer return 6", "skips"),
+    (ASKED, "when $none == $self return 6", "skips"),
+    (ASKED, "when $none == $none return 6", "returns 6 with 7"),
+    (ASKED, "return add($a,1)", "returns 6 with 7"),
+    (
+        ASKED,
+        "raise t.Refused {\"no\",null,(long)7}",
+        "raises (t.Refused){\"no\",null,(long)7}",
+    ),
+    (
+        ASKED,
+        "raise t.Worse {\"no\",null,(long)7}",
+        "raises (t.Worse){\"no\",null,(long)7}",
+    ),
+    (
+        ASKED,
+        "raise com.sun.star.lang.DisposedException {\"no\",null}",
+        "raises (com.sun.star.lang.DisposedException){\"no\",null}",
+    ),
+    (
+        ASKED,
+        "raise com.sun.star.uno.Exception {\"no\",null}",
+        "raises (com.sun.star.uno.RuntimeException){\"undeclared com.sun.star.uno.Exception\",null}",
     ),
     (ASKED, "dispose", "disposes"),
-    (ASKED, "", "returns ? with 7"),
+    (RESTED, "dispose", "returns void with 7"),
     (IDLE, "return 5", "returns 0 with 0"),
     (
         ASKED,
-        "call $none +most",
-        "raises com.sun.star.uno.RuntimeException: 'null' -",
+        "call $none.ask(add($most,1),$b)",
+        "raises (com.sun.star.uno.RuntimeException){\"null\",null}",
     ),
     (
         ASKED,
-        "query $none x",
-        "raises com.sun.star.uno.RuntimeException: 'null' -",
+        "query x t.XNode = $none",
+        "raises (com.sun.star.uno.RuntimeException){\"null\",null}",
     ),
     (
         ASKED,
-        "let x +most",
-        "raises com.sun.star.uno.RuntimeException: 'range' -",
+        "let x long = add($most,1)",
+        "raises (com.sun.star.uno.RuntimeException){\"range\",null}",
     ),
     (
         FULL,
-        "call $peer +most",
-        "raises com.sun.star.uno.RuntimeException: 'range' -",
+        "call $peer.ask(add($most,1),$b)",
+        "raises (com.sun.star.uno.RuntimeException){\"range\",null}",
     ),
-    (HIGH, "call $peer 6", "calls C;2 3 to - with 6"),
+    (HIGH, "call $peer.ask(6,$b)", "calls C;2 3 to - with 6"),
     (
         FULL,
-        "call $peer 6",
-        "raises com.sun.star.uno.RuntimeException: 'depth' -",
+        "call $peer.ask(6,$b)",
+        "raises (com.sun.star.uno.RuntimeException){\"depth\",null}",
     ),
     (
         FULL,
-        "query $peer x",
-        "raises com.sun.star.uno.RuntimeException: 'depth' -",
+        "query x t.XNode = $peer",
+        "raises (com.sun.star.uno.RuntimeException){\"depth\",null}",
     ),
     (
         DEEP,
-        "let x $a",
-        "raises com.sun.star.uno.RuntimeException: 'too deep' -",
+        "let x any = $what",
+        "raises (com.sun.star.uno.RuntimeException){\"too deep\",null}",
     ),
     (
         ASKED,
-        "when $a == +most 6",
-        "raises com.sun.star.uno.RuntimeException: 'range' -",
+        "when $a == add($most,1) return 6",
+        "raises (com.sun.star.uno.RuntimeException){\"range\",null}",
     ),
     (
         ASKED,
-        "when $a == 5 +most",
-        "raises com.sun.star.uno.RuntimeException: 'range' -",
+        "when $a == 5 return add($most,1)",
+        "raises (com.sun.star.uno.RuntimeException){\"range\",null}",
     ),
     (
         ASKED,
-        "raise t.Refused +most",
-        "raises com.sun.star.uno.RuntimeException: 'range' -",
+        "raise t.Refused {\"no\",null,(long)add($most,1)}",
+        "raises (com.sun.star.uno.RuntimeException){\"range\",null}",
     ),
-    (DEEPEST, "let x $a", "lets x <?>"),
-    (DEEPEST, "call $peer $a", "calls C;2 3 to - with <?>"),
-    (
-        DEEP,
-        "call $peer $a",
-        "raises com.sun.star.uno.RuntimeException: 'too deep' -",
-    ),
-    (DEEPEST, "return $a", "returns <?> with 7"),
+    (DEEPEST, "let x any = $what", "lets x $what"),
     (
         DEEPEST,
-        "raise t.Refused $a",
-        "raises com.sun.star.uno.RuntimeException: 'too deep' -",
+        "call $peer.pass($what,$b)",
+        "calls C;2 5 to - with $what",
+    ),
+    (
+        DEEP,
+        "call $peer.pass($what,$b)",
+        "raises (com.sun.star.uno.RuntimeException){\"too deep\",null}",
+    ),
+    (DEEPEST, "return $what", "returns $what with 7"),
+    (
+        DEEPEST_RAISED,
+        "raise t.Refused {\"no\",null,$what}",
+        "raises (com.sun.star.uno.RuntimeException){\"too deep\",null}",
+    ),
+    (
+        DEEPEST_LEAVING,
+        "raise t.Refused {\"no\",null,$what}",
+        "raises (t.Refused){\"no\",null,$what}",
     ),
 ];
 
 /// Rows of large values.
-const LARGE_ROWS: &[(Case, &str, &str)] = &[
+const LARGE_ROWS: &[Row] = &[
     (
         LARGE,
-        "let x $a",
-        "raises com.sun.star.uno.RuntimeException: 'too large' -",
+        "let x any = $what",
+        "raises (com.sun.star.uno.RuntimeException){\"too large\",null}",
     ),
-    (HEAVIEST, "let x $a", "lets x ?"),
+    (HEAVIEST, "let x any = $what", "lets x weighing 16777216"),
     (
         HEAVIEST,
-        "call $peer $a",
-        "raises com.sun.star.uno.RuntimeException: 'too large' -",
+        "call $peer.pass($what,$b)",
+        "raises (com.sun.star.uno.RuntimeException){\"too large\",null}",
     ),
     (
         FULL_AND_LARGE,
-        "call $peer $a",
-        "raises com.sun.star.uno.RuntimeException: 'depth' -",
+        "call $peer.pass($what,$b)",
+        "raises (com.sun.star.uno.RuntimeException){\"depth\",null}",
     ),
     (
         HEAVIEST,
-        "return $a",
-        "raises com.sun.star.uno.RuntimeException: 'too large' -",
+        "return $what",
+        "raises (com.sun.star.uno.RuntimeException){\"too large\",null}",
     ),
     (
-        HEAVIEST,
-        "raise t.Refused $a",
-        "raises com.sun.star.uno.RuntimeException: 'too large' -",
+        HEAVIEST_RAISED,
+        "raise t.Refused {\"no\",null,$what}",
+        "raises (com.sun.star.uno.RuntimeException){\"too large\",null}",
     ),
 ];
 
-/// The effect of a job in a plan.
-fn asked(alloc: Global, registry: &Registry, plan: &Plan, case: Case) -> Result<String, NoMemory>
-    requires { IsSound registry.now }
-{
-    let done = next(alloc, plan, registry, job(alloc, case)?)?;
-    shown(alloc, &done)
+/// The literal of so many anys in one another, each of a sequence, round a last one. Each is nested two deep.
+fn nested(rt: &impl Abort, alloc: Global, anys: usize, last: &str) -> String {
+    let front = "([]any)[".repeat(alloc, anys).expect(rt, "no memory");
+    let back = "]".repeat(alloc, anys).expect(rt, "no memory");
+    format!(in alloc; "{front}{last}{back}").expect(rt, "no memory")
 }
 
-/// The same in a plan of this statement.
-fn asked_by(alloc: Global, registry: &Registry, case: Case, text: &str) -> Result<String, NoMemory>
-    requires { IsSound registry.now }
-{
-    let plan = plan(alloc, text)?;
-    asked(alloc, registry, &plan, case)
-}
-
-fn see(
-    rt: &impl Abort,
-    alloc: Global,
-    registry: &Registry,
-    row: &(Case, &'static str, &'static str),
-)
-    requires { IsSound registry.now }
-{
-    let (case, text, wanted) = row;
-    match asked_by(alloc, registry, *case, text) {
-        Ok(said) => assert_eq!(rt; said.as_str(), *wanted, "at {text}"),
-        Err(NoMemory) => panic!(rt; "no memory at {text}"),
+/// The literal of `$what`. A value is nested 64 deep at most.
+fn literal(rt: &impl Abort, alloc: Global, what: &str) -> String {
+    match what {
+        "deep" => nested(rt, alloc, 31, "([]long)[5]"),
+        "deepest" => nested(rt, alloc, 31, "(long)5"),
+        "deepest raised" => nested(rt, alloc, 30, "([]long)[5]"),
+        "deepest leaving" => nested(rt, alloc, 30, "(long)5"),
+        _ => nested(rt, alloc, 0, what),
     }
 }
 
-fn see_all(
+/// A plan whose one behaviour has a method of this statement, behind four that begin variables.
+fn plan(rt: &impl Abort, alloc: Global, registry: &Registry, case: &Case, statement: &str) -> Plan
+    requires { IsSound registry.now }
+{
+    let method = case.written;
+    let text = format!(in alloc;
+        "unoplan 1\nbehaviour Node t.XNode\nfield last long\nmethod t.XNode {method}\n\
+        let most long = 2147483647\nlet none t.XNode = null\nlet peer t.XNode = null\nlet what any = (void)\n\
+        {statement}\nraise t.Refused {{\"end\",null,(void)}}\nend\nend\n"
+    );
+    plan_of(rt, alloc, registry, &text.expect(rt, "no memory"))
+}
+
+/// What a case asks where the literal of `$what` is this.
+fn asked_by(
     rt: &impl Abort,
     alloc: Global,
     registry: &Registry,
-    rows: &[(Case, &'static str, &'static str)],
-)
+    case: &Case,
+    statement: &str,
+    what: &str,
+) -> String
     requires { IsSound registry.now }
 {
+    let plan = plan(rt, alloc, registry, case, statement);
+    let called = Called {
+        face: FACE,
+        function: case.function,
+        place: case.place,
+        frames: case.frames,
+        behaviour: 0,
+        fields: &[("last", "long", "8")],
+    };
+    let words = [
+        ("a", "long", "5"),
+        ("b", "long", "7"),
+        ("most", "long", "2147483647"),
+        ("none", "t.XNode", "null"),
+        ("peer", "t.XNode", "@C;2"),
+        ("what", "any", what),
+    ];
+    asked(rt, alloc, registry, &plan, &called, &words)
+}
+
+fn see(rt: &impl Abort, alloc: Global, registry: &Registry, row: &Row)
+    requires { IsSound registry.now }
+{
+    let (case, statement, wanted) = row;
+    let what = literal(rt, alloc, case.what);
+    let said = asked_by(rt, alloc, registry, case, statement, &what);
+    let wanted = wanted.replace(alloc, "$what", &what);
+    assert_eq!(rt; said, wanted.expect(rt, "no memory"), "at {statement}");
+}
+
+fn see_rows(rt: &impl Abort, alloc: Global, rows: &[Row]) {
+    let registry = registry_of(rt, alloc, ENTITIES);
     for row in rows {
-        see(rt, alloc, registry, row);
-    }
-}
-
-fn see_rows(rt: &impl Abort, alloc: Global, rows: &[(Case, &'static str, &'static str)]) {
-    match sound_registry(alloc) {
-        Ok(registry) => see_all(rt, alloc, &registry, rows),
-        Err(NoMemory) => panic!(rt; "no registry"),
+        see(rt, alloc, &registry, row);
     }
 }
 

@@ -10,4 +10,8 @@ mod roots;
 #[cfg(test)]
 mod services;
 #[cfg(test)]
+mod shown;
+#[cfg(test)]
 mod stacks;
+#[cfg(test)]
+mod texts;

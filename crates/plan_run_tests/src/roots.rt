@@ -1,12 +1,11 @@
 //! A root at its beginning.
+use crate::texts::text_of;
 use behaviour::RootRun;
 use std::process::Abort;
-use uno_base::NoMemory;
-use uno_types::Text;
 
 #[test]
-fn a_root_begins_with_its_name_and_nothing_else(rt: HostRuntime) -> Result<(), NoMemory> {
-    let root = RootRun::new(rt.alloc(), 2, Text::of(rt.alloc(), "node")?);
+fn a_root_begins_with_its_name_and_nothing_else(rt: HostRuntime) {
+    let root = RootRun::new(rt.alloc(), 2, text_of(&rt, rt.alloc(), "node"));
     assert_eq!(rt; root.root, 2);
     assert_eq!(rt; root.place, 0);
     assert_eq!(rt; root.instance.as_str(), "node");
@@ -14,5 +13,4 @@ fn a_root_begins_with_its_name_and_nothing_else(rt: HostRuntime) -> Result<(), N
     assert!(rt; root.lines.is_empty());
     assert!(rt; root.loose.is_empty());
     assert!(rt; root.letting.is_empty());
-    Ok(())
 }

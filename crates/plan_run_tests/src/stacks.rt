@@ -4,12 +4,13 @@
 //! `answer a`, `waits a`, `set a b1`, `depth a`, `nth 0`, `ready 0`, `any`. A frame is answered as it is written, a call that waits by its
 //! function, which is 3, a TID by its letter, none as `-`, `NobodyWaits` as `!`, whether any stack waits as `w1` or `w0`; a push and a set
 //! answer nothing.
+use crate::shown::Shown;
+use crate::texts::{FACE, name_of, text_of, tid_of};
 use call_stacks::{NobodyWaits, Stacks};
 use plan_types::{Body, Frame, Outgoing};
 use std::alloc::Global;
 use std::process::Abort;
-use uno_base::NoMemory;
-use uno_types::{Name, Text, Tid};
+use uno_types::{Name, Tid};
 
 const ROWS: &[(&str, &str)] = &[
     ("answer a", " !"),
@@ -54,10 +55,6 @@ const ROWS: &[(&str, &str)] = &[
     ),
 ];
 
-fn tid_of(alloc: Global, word: &str) -> Result<Tid, NoMemory> {
-    Tid::of(alloc, word.as_bytes())
-}
-
 /// The number of a word behind its letter; there is one below 10 in each row.
 fn number_in(word: &str) -> u32 {
     match word.as_bytes().last() {
@@ -66,157 +63,118 @@ fn number_in(word: &str) -> u32 {
     }
 }
 
-fn frame_of(alloc: Global, word: &str) -> Result<Frame, NoMemory> {
+fn frame_of(rt: &impl Abort, alloc: Global, word: &str) -> Frame {
     let number = number_in(word);
-    if word.starts_with('b') {
-        return Ok(Frame::Base { root: number });
+    match word.as_bytes().first() {
+        Some(b'b') => Frame::Base { root: number },
+        Some(b'o') => outgoing(rt, alloc, u64::from(number)),
+        _ => method(rt, alloc, u64::from(number)),
     }
-    if word.starts_with('o') {
-        return outgoing(alloc, u64::from(number));
-    }
-    method(alloc, u64::from(number))
 }
 
-fn outgoing(alloc: Global, number: u64) -> Result<Frame, NoMemory> {
-    let oid = Text::of(alloc, "C;1")?;
-    let face = Name::of(alloc, "t.XNode")?;
-    Ok(Frame::Out(Outgoing {
+fn outgoing(rt: &impl Abort, alloc: Global, number: u64) -> Frame {
+    Frame::Out(Outgoing {
         number,
-        oid,
-        face,
+        oid: text_of(rt, alloc, "C;1"),
+        face: name_of(rt, alloc, FACE),
         function: 3,
-    }))
+    })
 }
 
-fn method(alloc: Global, number: u64) -> Result<Frame, NoMemory> {
-    let face = Name::of(alloc, "t.XNode")?;
-    Ok(Frame::Body(Body {
+fn method(rt: &impl Abort, alloc: Global, number: u64) -> Frame {
+    Frame::Body(Body {
         number,
         object: 1,
-        face,
+        face: name_of(rt, alloc, FACE),
         function: 3,
         from_peer: true,
         variables: Vec::new(alloc),
         place: 0,
-    }))
+    })
 }
 
-fn say_frame(said: &mut String, frame: Option<&Frame>) -> Result<(), NoMemory> {
+fn put(said: &mut Shown, letter: &str, number: u64) {
+    said.put(letter);
+    said.put_number(number);
+}
+
+fn put_frame(said: &mut Shown, frame: Option<&Frame>) {
     match frame {
-        Some(Frame::Base { root }) => say(said, 'b', u64::from(*root)),
-        Some(Frame::Body(body)) => say(said, 'm', body.number),
-        Some(Frame::Out(out)) => say(said, 'o', out.number),
-        None => {
-            said.push_str(" -")?;
-            Ok(())
-        }
+        Some(Frame::Base { root }) => put(said, " b", u64::from(*root)),
+        Some(Frame::Body(body)) => put(said, " m", body.number),
+        Some(Frame::Out(out)) => put(said, " o", out.number),
+        None => said.put(" -"),
     }
 }
 
-fn say(said: &mut String, letter: char, number: u64) -> Result<(), NoMemory> {
-    said.push(' ')?;
-    said.push(letter)?;
-    say_digit(said, number)
-}
-
-fn say_function(said: &mut String, call: Option<(&Name, u16)>) -> Result<(), NoMemory> {
-    said.push(' ')?;
+fn put_call(said: &mut Shown, call: Option<(&Name, u16)>) {
     match call {
-        Some((_, function)) => say_digit(said, u64::from(function)),
-        None => {
-            said.push('-')?;
-            Ok(())
-        }
+        Some((_, function)) => put(said, " ", u64::from(function)),
+        None => said.put(" -"),
     }
 }
 
-fn say_digit(said: &mut String, number: u64) -> Result<(), NoMemory> {
-    let digit = char::from(b'0' + (number % 10) as u8);
-    said.push(digit)?;
-    Ok(())
-}
-
-fn say_tid(said: &mut String, tid: Option<&Tid>) -> Result<(), NoMemory> {
-    said.push(' ')?;
-    let letter = match tid {
-        Some(tid) => tid.as_bytes().first().copied(),
-        None => None,
-    };
-    said.push(char::from(letter.unwrap_or(b'-')))?;
-    Ok(())
-}
-
-/// Carries out a call that has no frame.
-fn ask(stacks: &mut Stacks, what: &str, tid: &Tid, said: &mut String) -> Result<(), NoMemory> {
-    match what {
-        "pop" => {
-            let frame = stacks.pop(tid);
-            say_frame(said, frame.as_ref())
-        }
-        "top" => say_frame(said, stacks.top(tid)),
-        "waits" => say_function(said, stacks.waiting_call(tid.as_bytes())),
-        "depth" => {
-            said.push(' ')?;
-            say_digit(said, stacks.depth(tid))
-        }
-        _ => answer(stacks, tid, said),
+fn put_tid(said: &mut Shown, tid: Option<&Tid>) {
+    said.put(" ");
+    match tid {
+        Some(tid) => said.put(str::from_utf8(tid.as_bytes()).unwrap_or("?")),
+        None => said.put("-"),
     }
 }
 
-fn answer(stacks: &mut Stacks, tid: &Tid, said: &mut String) -> Result<(), NoMemory> {
-    match stacks.answer(tid) {
-        Ok(frame) => say_frame(said, Some(&frame)),
-        Err(NobodyWaits) => {
-            said.push_str(" !")?;
-            Ok(())
-        }
-    }
-}
-
-/// Carries out a call that has a frame.
-fn put(stacks: &mut Stacks, what: &str, tid: &Tid, frame: Frame) -> Result<(), NoMemory> {
-    if what == "push" || stacks.top(tid).is_none() {
-        return stacks.push(tid, frame);
-    }
+/// Puts a frame in the place of the top one.
+fn set(rt: &impl Abort, stacks: &mut Stacks, tid: &Tid, frame: Frame) {
+    assert!(rt; stacks.top(tid).is_some(), "no stack to set");
     drop(stacks.set_top(tid, frame));
-    Ok(())
 }
 
-fn step(alloc: Global, stacks: &mut Stacks, call: &str, said: &mut String) -> Result<(), NoMemory> {
+/// Carries out a call that names a stack.
+fn step_of(
+    rt: &impl Abort,
+    alloc: Global,
+    stacks: &mut Stacks,
+    words: [&str; 3],
+    said: &mut Shown,
+) {
+    let [what, who, frame] = words;
+    let tid = tid_of(rt, alloc, who.as_bytes());
+    match what {
+        "push" => stacks
+            .push(&tid, frame_of(rt, alloc, frame))
+            .expect(rt, "no memory"),
+        "set" => set(rt, stacks, &tid, frame_of(rt, alloc, frame)),
+        "pop" => put_frame(said, stacks.pop(&tid).as_ref()),
+        "top" => put_frame(said, stacks.top(&tid)),
+        "waits" => put_call(said, stacks.waiting_call(tid.as_bytes())),
+        "depth" => put(said, " ", stacks.depth(&tid)),
+        "answer" => match stacks.answer(&tid) {
+            Ok(frame) => put_frame(said, Some(&frame)),
+            Err(NobodyWaits) => said.put(" !"),
+        },
+        _ => said.put(" ?"),
+    }
+}
+
+fn step(rt: &impl Abort, alloc: Global, stacks: &mut Stacks, call: &str, said: &mut Shown) {
     let mut words = call.split(' ');
     let what = words.next().unwrap_or("");
     let who = words.next().unwrap_or("");
-    if what == "nth" {
-        return say_tid(said, stacks.nth(u64::from(number_in(who))));
+    let frame = words.next().unwrap_or("");
+    match what {
+        "nth" => put_tid(said, stacks.nth(u64::from(number_in(who)))),
+        "ready" => put_tid(said, stacks.ready(u64::from(number_in(who)))),
+        "any" => put(said, " w", u64::from(stacks.any_waits())),
+        _ => step_of(rt, alloc, stacks, [what, who, frame], said),
     }
-    if what == "ready" {
-        return say_tid(said, stacks.ready(u64::from(number_in(who))));
-    }
-    if what == "any" {
-        return say(said, 'w', u64::from(stacks.any_waits()));
-    }
-    let tid = tid_of(alloc, who)?;
-    match words.next() {
-        Some(word) => put(stacks, what, &tid, frame_of(alloc, word)?),
-        None => ask(stacks, what, &tid, said),
-    }
-}
-
-/// What the calls of a row answer.
-fn answers(alloc: Global, calls: &str) -> Result<String, NoMemory> {
-    let mut stacks = Stacks::new(alloc);
-    let mut said = String::new(alloc);
-    for call in calls.split(',') {
-        step(alloc, &mut stacks, call, &mut said)?;
-    }
-    Ok(said)
 }
 
 fn see(rt: &impl Abort, alloc: Global, calls: &str, wanted: &str) {
-    match answers(alloc, calls) {
-        Ok(said) => assert_eq!(rt; said.as_str(), wanted),
-        Err(NoMemory) => panic!(rt; "no memory"),
+    let mut stacks = Stacks::new(alloc);
+    let mut said = Shown::new(alloc);
+    for call in calls.split(',') {
+        step(rt, alloc, &mut stacks, call, &mut said);
     }
+    assert_eq!(rt; said.text.as_str(), wanted, "at {calls}");
 }
 
 #[test]
@@ -226,77 +184,63 @@ fn calls_answer_as_the_rows_say(rt: HostRuntime) {
     }
 }
 
-/// Begins a stack with so many calls that went out.
-fn begin(alloc: Global, stacks: &mut Stacks, number: u32, calls: u32) -> Result<(), NoMemory> {
-    let tid = Tid::of(alloc, &number.to_be_bytes())?;
-    for call in 0..calls {
-        stacks.push(&tid, outgoing(alloc, u64::from(call))?)?;
+/// Begins so many stacks, each with so many calls that went out.
+fn begin(rt: &impl Abort, alloc: Global, stacks: &mut Stacks, count: u32, calls: u32) {
+    for number in 0..count {
+        let tid = tid_of(rt, alloc, &number.to_be_bytes());
+        for call in 0..calls {
+            stacks
+                .push(&tid, outgoing(rt, alloc, u64::from(call)))
+                .expect(rt, "no memory");
+        }
     }
-    Ok(())
 }
 
-/// Whether the oldest stack is that of the number, and all its calls are answered.
-fn ends_oldest(
-    alloc: Global,
-    stacks: &mut Stacks,
-    number: u32,
-    calls: u32,
-) -> Result<bool, NoMemory> {
-    let tid = Tid::of(alloc, &number.to_be_bytes())?;
-    let oldest = match stacks.nth(0) {
-        Some(oldest) => oldest.as_bytes() == tid.as_bytes(),
-        None => false,
-    };
+/// Sees that the oldest stack is that of the number, and answers all its calls.
+fn end_oldest(rt: &impl Abort, alloc: Global, stacks: &mut Stacks, number: u32, calls: u32) {
+    let tid = tid_of(rt, alloc, &number.to_be_bytes());
+    assert!(rt; is_tid(stacks.nth(0), &tid), "the oldest is not {number}");
     for _ in 0..calls {
-        if stacks.answer(&tid).is_err() {
-            return Ok(false);
-        }
+        assert!(rt; stacks.answer(&tid).is_ok(), "nobody waits at {number}");
     }
-    Ok(oldest && stacks.top(&tid).is_none())
+    assert!(rt; stacks.top(&tid).is_none(), "{number} is left");
 }
 
-/// Whether so many stacks, each of so many calls, are answered oldest first, and none is left.
-fn all_end(alloc: Global, count: u32, calls: u32) -> Result<bool, NoMemory> {
+fn is_tid(found: Option<&Tid>, tid: &Tid) -> bool {
+    match found {
+        Some(found) => found.as_bytes() == tid.as_bytes(),
+        None => false,
+    }
+}
+
+/// Sees that so many stacks, each of so many calls, are answered oldest first, and none is left.
+fn see_end(rt: &impl Abort, alloc: Global, count: u32, calls: u32) {
     let mut stacks = Stacks::new(alloc);
+    begin(rt, alloc, &mut stacks, count, calls);
     for number in 0..count {
-        begin(alloc, &mut stacks, number, calls)?;
+        end_oldest(rt, alloc, &mut stacks, number, calls);
     }
-    for number in 0..count {
-        if !ends_oldest(alloc, &mut stacks, number, calls)? {
-            return Ok(false);
-        }
-    }
-    Ok(stacks.nth(0).is_none())
+    assert!(rt; stacks.nth(0).is_none(), "a stack is left");
 }
 
 #[test]
 fn many_stacks_and_high_ones_end_oldest_first(rt: HostRuntime) {
-    assert!(rt; all_end(rt.alloc(), 20_000, 1) == Ok(true));
-    assert!(rt; all_end(rt.alloc(), 2, 1_000) == Ok(true));
-}
-
-/// Whether the one stack that can go on is found behind so many that wait, as often as there are such.
-fn found_behind(alloc: Global, count: u32) -> Result<bool, NoMemory> {
-    let mut stacks = Stacks::new(alloc);
-    for number in 0..count {
-        begin(alloc, &mut stacks, number, 1)?;
-    }
-    let tid = Tid::of(alloc, b"last")?;
-    stacks.push(&tid, method(alloc, 1)?)?;
-    for _ in 0..count {
-        let found = match stacks.ready(0) {
-            Some(found) => found.as_bytes() == tid.as_bytes(),
-            None => false,
-        };
-        if !found {
-            return Ok(false);
-        }
-    }
-    drop(stacks.pop(&tid));
-    Ok(stacks.ready(0).is_none() && stacks.any_waits())
+    see_end(&rt, rt.alloc(), 20_000, 1);
+    see_end(&rt, rt.alloc(), 2, 1_000);
 }
 
 #[test]
 fn a_stack_that_can_go_on_is_found_behind_many_that_wait(rt: HostRuntime) {
-    assert!(rt; found_behind(rt.alloc(), 20_000) == Ok(true));
+    let alloc = rt.alloc();
+    let mut stacks = Stacks::new(alloc);
+    begin(&rt, alloc, &mut stacks, 20_000, 1);
+    let tid = tid_of(&rt, alloc, b"last");
+    stacks
+        .push(&tid, method(&rt, alloc, 1))
+        .expect(&rt, "no memory");
+    for _ in 0..20_000 {
+        assert!(rt; is_tid(stacks.ready(0), &tid), "the last is not found");
+    }
+    drop(stacks.pop(&tid));
+    assert!(rt; stacks.ready(0).is_none() && stacks.any_waits());
 }

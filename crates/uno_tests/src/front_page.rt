@@ -7,7 +7,7 @@ use std::alloc::Global;
 use uno_base::NoMemory;
 use uno_model::the_built_in_entities_are_sound;
 use uno_types::{Name, Registry, Text, Tid};
-use urp_message::{Expects, Listener, Message, Speaker, may_be_said, weight_of};
+use urp_message::{Expects, Listener, Message, ReadError, Speaker, may_be_said, weight_of};
 
 /// The sender holds the object `S;1` once less.
 fn release(alloc: Global) -> Result<Message, NoMemory> {
@@ -40,13 +40,27 @@ impl Expects for NoCalls {
 }
 
 /// Whether the body of a block is heard as a release of `S;1`, to its last byte.
-fn is_heard(alloc: Global, registry: &Registry, body: &[u8]) -> Result<bool, NoMemory>
+fn is_heard(
+    alloc: Global,
+    registry: &Registry,
+    body: &[u8],
+    waiting: &impl Expects,
+) -> Result<bool, NoMemory>
     requires { IsSound registry.now }
 {
     let mut listener = Listener::new(alloc)?;
-    match &listener.read(registry, body, &NoCalls) {
-        Ok((heard, used)) => Ok(*used == body.len() && releases(heard, "S;1")),
-        Err(_) => Ok(false),
+    let heard = listener.read(registry, body, waiting);
+    drop(listener);
+    let right = is_release(&heard, body.len());
+    drop(heard);
+    Ok(right)
+}
+
+/// Whether all of so many bytes was a release of `S;1`.
+fn is_release(heard: &Result<(Message, usize), ReadError>, len: usize) -> bool {
+    match heard {
+        Ok((message, used)) => *used == len && releases(message, "S;1"),
+        Err(_) => false,
     }
 }
 
@@ -67,7 +81,7 @@ fn is_said_and_heard(
 {
     let block = written(alloc, registry, message)?;
     match block.get(8..) {
-        Some(body) => is_heard(alloc, registry, body),
+        Some(body) => is_heard(alloc, registry, body, &NoCalls),
         None => Ok(false),
     }
 }
