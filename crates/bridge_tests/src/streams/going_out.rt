@@ -12,6 +12,7 @@ use bridge_streams::{Outgoing, Unsaid};
 use proxy_table::Release;
 use std::alloc::Global;
 use std::process::Abort;
+use uno_base::NoMemory;
 use uno_types::Registry;
 use urp_message::{Message, may_be_said, weight_of};
 
@@ -35,6 +36,20 @@ fn is_sayable(registry: &Registry, message: &Message) -> bool
     weight_of(registry, message) <= MOST
 }
 
+/// Says a message, if it may be said.
+fn push_sayable(registry: &Registry, unsaid: &mut Unsaid, message: Message) -> Result<(), NoMemory>
+    requires sound { IsSound registry.now }
+    requires sayable { AreSayable registry.now unsaid.old.said }
+    ensures { AreSayable registry.now unsaid.new.said }
+{
+    if !is_sayable(registry, &message) {
+        drop(message);
+        return Ok(());
+    }
+    unsaid.push(message)?;
+    Ok(())
+}
+
 /// Says a message, which may be said.
 fn says(rt: &impl Abort, alloc: Global, registry: &Registry, unsaid: &mut Unsaid, what: &str)
     requires sound { IsSound registry.now }
@@ -42,8 +57,7 @@ fn says(rt: &impl Abort, alloc: Global, registry: &Registry, unsaid: &mut Unsaid
     ensures { AreSayable registry.now unsaid.new.said }
 {
     let message = message(rt, alloc, what);
-    assert!(rt; is_sayable(registry, &message));
-    unsaid.push(message).expect(rt, "no memory");
+    push_sayable(registry, unsaid, message).expect(rt, "no memory");
 }
 
 fn says_all(

@@ -3,4 +3,4 @@ use Rattle.bridge_tests.proofs.streams.going_out.says_all.Given as goal
 
 -- what waits may be said
 abbrev pub invariant-loop-what : goal.invariant-loop-what
-invariant-loop-what l = AreSayable l.registry l.unsaid.said
+invariant-loop-what g l = AreSayable l.registry l.unsaid.said

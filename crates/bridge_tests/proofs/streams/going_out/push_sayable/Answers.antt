@@ -1,7 +1,7 @@
 use Rattle.std.proofs.Common.{rules}
 use Rattle.urp_message.specs.Messages.{message_of}
 use Rattle.bridge_tests.proofs.SayingLemmas.{sayable_more}
-use Rattle.bridge_tests.proofs.streams.going_out.says.Goals as goal
+use Rattle.bridge_tests.proofs.streams.going_out.push_sayable.Goals as goal
 
 -- the message is behind what may be said, and may be said
 pub returns : goal.returns
