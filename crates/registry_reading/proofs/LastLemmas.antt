@@ -1,6 +1,5 @@
 -- The last of a list, changed; and the words of a line in another order.
-use Rattle.std.proofs.Common.{◌≡◌, subst, ℕ, Bool, true, false, List, [], ◌∷◌, ◌++◌, map, Option, None, Some, Result, Ok, Err, refl, sym, ap, ◌∙◌, codes, if◌then◌else◌}
-use Rattle.std.proofs.lemmas.List.{map-append}
+use Rattle.std.proofs.Common.{◌≡◌, ◌<◌, ◌-◌, arith, length, get_or, set, subst, ℕ, Bool, true, false, List, [], ◌∷◌, ◌++◌, map, Option, None, Some, Result, Ok, Err, refl, sym, ap, ◌∙◌, codes, if◌then◌else◌}
 use Rattle.std.specs.Str.{bytes_eq}
 use Rattle.std.proofs.lemmas.Slice.Eq.{bytes_eq-Decides}
 use Rattle.uno_model.specs.Entities.{Member, Base, interface, attribute, method, Constructor}
@@ -11,32 +10,38 @@ use Rattle.std.specs.Prelude.{IfOk}
 use Rattle.registry_reading.specs.Taken.{IsTaken}
 use Rattle.registry_reading.specs.Members.{member_line, added_under, added_to}
 
-last_pushed : {X : Type 0} (y : X) (xs : List X) (x : X) → (last_of y (xs ++ x ∷ []) ≡ x) × (all_but_last y (xs ++ x ∷ []) ≡ y ∷ xs)
-last_pushed y [] x = (refl, refl)
-last_pushed y (z ∷ zs) x = let rest = last_pushed z zs x in (rest.0, ap (λ l. y ∷ l) rest.1)
-
--- the last of a list to which one was put
-pub change_last : {X : Type 0} (f : X → Option X) (xs : List X) (x : X) → last_changed f (xs ++ x ∷ []) ≡ on_some (f x) (λ y. Some (xs ++ y ∷ []))
-unfolding last_changed
-change_last f [] x = refl
-change_last f (y ∷ ys) x = let last = last_pushed y ys x in λ i. on_some (f (last.0 i)) (λ z. Some (last.1 i ++ z ∷ []))
-
--- the same of what is kept of a list
+-- what is made of the last of a list, seen as what it is
 module _ {X Y : Type 0} (g : X → Y) (f : Y → Option Y) where
-  pub none_left : (xs : List X) → xs ≡ [] → last_changed f (map g xs) ≡ None
+  pub none_left : (xs : List X) (len : ℕ) → len ≡ length xs → (0 < len → false ≡ true) → last_changed f (map g xs) ≡ None
   unfolding last_changed
-  none_left xs empty = ap (λ l. last_changed f (map g l)) empty
+  none_left [] len long none = refl
+  none_left (y ∷ ys) len long none = let clash : false ≡ true = none (omega (arith, long)) in absurd cc
 
-  whole : (old new : List X) (x : X) → old ≡ new ++ x ∷ [] → last_changed f (map g old) ≡ on_some (f (g x)) (λ y. Some (map g new ++ y ∷ []))
-  whole old new x is = ap (λ l. last_changed f (map g l)) is ∙ ap (last_changed f) (map-append g new (x ∷ [])) ∙ change_last f (map g new) (g x)
+  last_set : (y : X) (ys : List X) (z d : X) → (last_of (g y) (map g ys) ≡ g (get_or (y ∷ ys) (length ys) d)) × (map g (set (y ∷ ys) (length ys) z) ≡ all_but_last (g y) (map g ys) ++ g z ∷ [])
+  last_set y [] z d = (refl, refl)
+  last_set y (w ∷ ys) z d = let rest = last_set w ys z d in (rest.0, ap (λ l. g y ∷ l) rest.1)
 
-  pub none_made : (old new : List X) (x : X) (y : Option Y) → old ≡ new ++ x ∷ [] → y ≡ f (g x) → y ≡ None → last_changed f (map g old) ≡ None
-  none_made old new x y is made none = whole old new x is ∙ ap (λ o. on_some o (λ z. Some (map g new ++ z ∷ []))) (sym made ∙ none)
+  at_last : {E : Type 0} (y : X) (ys : List X) (x z : X) (r : Result Bool E) → x ≡ get_or (y ∷ ys) (length ys) x → IfOk r (λ taken. IsTaken taken (g z) (f (g x)))
+      → IfOk r (λ taken. IsTaken taken (map g (set (y ∷ ys) (length ys) z)) (last_changed f (map g (y ∷ ys))))
+  unfolding last_changed
+  at_last y ys x z (Err e) is taken = tt
+  at_last y ys x z (Ok true) is taken =
+      let last = last_set y ys z x in
+      ap (λ l. on_some (f l) (λ w. Some (all_but_last (g y) (map g ys) ++ w ∷ []))) (last.0 ∙ ap g (sym is))
+      ∙ ap (λ o. on_some o (λ w. Some (all_but_last (g y) (map g ys) ++ w ∷ []))) taken ∙ ap Some (sym last.1)
+  at_last y ys x z (Ok false) is taken =
+      let last = last_set y ys z x in
+      ap (λ l. on_some (f l) (λ w. Some (all_but_last (g y) (map g ys) ++ w ∷ []))) (last.0 ∙ ap g (sym is))
+      ∙ ap (λ o. on_some o (λ w. Some (all_but_last (g y) (map g ys) ++ w ∷ []))) taken
 
-  pub one_made : (old new after : List X) (x z : X) (y : Option Y) → old ≡ new ++ x ∷ [] → y ≡ f (g x) → y ≡ Some (g z) → after ≡ new ++ z ∷ []
-      → last_changed f (map g old) ≡ Some (map g after)
-  one_made old new after x z y is made some put =
-      whole old new x is ∙ ap (λ o. on_some o (λ w. Some (map g new ++ w ∷ []))) (sym made ∙ some) ∙ ap Some (sym (map-append g new (z ∷ [])) ∙ ap (map g) (sym put))
+  -- what is made of the last one stands at its place
+  pub last_taken : {E : Type 0} (xs : List X) (len : ℕ) (x z : X) (r : Result Bool E) → len ≡ length xs → 0 < len → x ≡ get_or xs (len - 1) x → IfOk r (λ taken. IsTaken taken (g z) (f (g x)))
+      → IfOk r (λ taken. IsTaken taken (map g (set xs (len - 1) z)) (last_changed f (map g xs)))
+  last_taken [] len x z r long some is taken = let bad : ⊥ = omega (arith, long) in absurd bad
+  last_taken (y ∷ ys) len x z r long some is taken =
+      let here : len - 1 ≡ length ys = omega (arith, long) in
+      subst (λ n. IfOk r (λ taken. IsTaken taken (map g (set (y ∷ ys) n z)) (last_changed f (map g (y ∷ ys))))) (sym here)
+      (at_last y ys x z r (is ∙ ap (λ n. get_or (y ∷ ys) n x) here) taken)
 
 pub differs : (word w : List ℕ) → (word ≡ w → ⊥) → bytes_eq word w ≡ false
 differs word w other = by_test (bytes_eq word w) refl

@@ -1,3 +1,4 @@
+pub mod FieldLemmas
 pub mod FlagLemmas
 pub mod HeadLemmas
 pub mod JudgeLemmas
@@ -5,6 +6,8 @@ pub mod KindLemmas
 pub mod LastLemmas
 pub mod LineLemmas
 pub mod NumberLemmas
+pub mod PushLemmas
 pub mod ReadLemmas
 pub mod ReaderLemmas
+pub mod SimpleNames
 pub mod SplitLemmas

@@ -64,6 +64,10 @@ pub long_read : (o : Option ℤ) (z : ℤ) → Some z ≡ option_map clamped o �
 long_read None z is = absurd cc
 long_read (Some y) z is = ap (option_map long_or_zero) is ∙ ap Some (long_clamped y)
 
+pub long_none : (o : Option ℤ) → None ≡ option_map clamped o → None ≡ option_map long_or_zero o
+long_none None is = refl
+long_none (Some y) is = absurd cc
+
 pub beyond_some : (o : Option ℤ) (z : ℤ) → Some z ≡ option_map clamped o → not (is_long z) ≡ is_beyond o
 beyond_some None z is = absurd cc
 beyond_some (Some y) z is = ap is_beyond is ∙ ap not (long_alike y)

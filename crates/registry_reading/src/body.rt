@@ -11,6 +11,7 @@ ghost use Rattle.registry_reading.specs.Taken.{IsTaken};
 use crate::fields::{push_constant, push_field, push_item};
 use crate::heads::Heads;
 use crate::interface::interface_line;
+use crate::pushing::push_read;
 use crate::service::{constructor_line, part};
 use crate::words::word;
 use std::alloc::Global;
@@ -93,9 +94,6 @@ fn push_part(
     let Some((word, behind)) = word(line) else {
         return Ok(false);
     };
-    let Some(part) = part(alloc, heads, word, behind)? else {
-        return Ok(false);
-    };
-    parts.push(part)?;
-    Ok(true)
+    let read = part(alloc, heads, word, behind)?;
+    push_read(parts, read)
 }

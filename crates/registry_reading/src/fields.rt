@@ -12,6 +12,7 @@ ghost use Rattle.registry_reading.specs.Taken.{IsTaken};
 use crate::heads::Heads;
 use crate::kind::kind;
 use crate::number::number;
+use crate::pushing::push_read;
 use crate::words::{behind, identifier, word};
 use std::alloc::Global;
 use uno_base::NoMemory;
@@ -25,11 +26,11 @@ pub(crate) fn field(alloc: Global, heads: &Heads<'_>, text: &str) -> Result<Opti
     let Some((name, behind)) = identifier(text) else {
         return Ok(None);
     };
-    let Some(kind) = kind(alloc, heads, behind)? else {
-        return Ok(None);
-    };
     let name = Name::of(alloc, name)?;
-    Ok(Some(Field { name, kind }))
+    match kind(alloc, heads, behind)? {
+        Some(kind) => Ok(Some(Field { name, kind })),
+        None => Ok(None),
+    }
 }
 
 /// `member NAME TYPE`.
@@ -45,11 +46,8 @@ pub(crate) fn push_field(
     let Some(text) = behind(line, "member ") else {
         return Ok(false);
     };
-    let Some(field) = field(alloc, heads, text)? else {
-        return Ok(false);
-    };
-    members.push(field)?;
-    Ok(true)
+    let read = field(alloc, heads, text)?;
+    push_read(members, read)
 }
 
 /// `NAME NUMBER`.
@@ -68,12 +66,13 @@ fn item(alloc: Global, heads: &Heads<'_>, text: &str) -> Result<Option<Item>, No
 }
 
 /// The number that a text spells; one beyond those of `long` stands as 0, and the headers know of it.
-#[tactic(auto, using(crate::proofs::NumberLemmas::long_read))]
 fn long(text: &str) -> Option<i32>
     ensures { result ≡ option_map long_or_zero (number_of text.now) }
 {
-    let value = number(text)?;
-    Some(long_or_zero(value))
+    match number(text) {
+        Some(value) => Some(long_or_zero(value)),
+        None => None,
+    }
 }
 
 #[tactic(auto, unfolding(registry_reading_model::specs::Kept::long_or_zero))]
@@ -98,11 +97,8 @@ pub(crate) fn push_item(
     let Some(text) = behind(line, "value ") else {
         return Ok(false);
     };
-    let Some(item) = item(alloc, heads, text)? else {
-        return Ok(false);
-    };
-    items.push(item)?;
-    Ok(true)
+    let read = item(alloc, heads, text)?;
+    push_read(items, read)
 }
 
 /// `NAME NUMBER TYPE`.
@@ -119,11 +115,11 @@ fn constant(alloc: Global, heads: &Heads<'_>, text: &str) -> Result<Option<Const
     let Some(number) = number(digits) else {
         return Ok(None);
     };
-    let Some(kind) = kind(alloc, heads, behind)? else {
-        return Ok(None);
-    };
     let name = Name::of(alloc, name)?;
-    Ok(Some(Constant { name, number, kind }))
+    match kind(alloc, heads, behind)? {
+        Some(kind) => Ok(Some(Constant { name, number, kind })),
+        None => Ok(None),
+    }
 }
 
 /// `const NAME NUMBER TYPE`.
@@ -138,9 +134,6 @@ pub(crate) fn push_constant(
     let Some(text) = behind(line, "const ") else {
         return Ok(false);
     };
-    let Some(constant) = constant(alloc, heads, text)? else {
-        return Ok(false);
-    };
-    constants.push(constant)?;
-    Ok(true)
+    let read = constant(alloc, heads, text)?;
+    push_read(constants, read)
 }

@@ -71,15 +71,15 @@ fn alone(
     if !is_free_name(heads, name) {
         return Ok(None);
     }
-    let Some(body) = opened_alone(alloc, first) else {
-        return Ok(None);
-    };
     let name = Name::of(alloc, name)?;
-    Ok(Some(Entity {
-        name,
-        published,
-        body,
-    }))
+    match opened_alone(alloc, first) {
+        Some(body) => Ok(Some(Entity {
+            name,
+            published,
+            body,
+        })),
+        None => Ok(None),
+    }
 }
 
 #[tactic(auto, unfolding(registry_reading_model::specs::Headers::opened_alone))]
@@ -123,15 +123,15 @@ fn with_rest(
     if !is_free_name(heads, name) {
         return Ok(None);
     }
-    let Some(body) = opened_with(alloc, heads, first, rest)? else {
-        return Ok(None);
-    };
     let name = Name::of(alloc, name)?;
-    Ok(Some(Entity {
-        name,
-        published,
-        body,
-    }))
+    match opened_with(alloc, heads, first, rest)? {
+        Some(body) => Ok(Some(Entity {
+            name,
+            published,
+            body,
+        })),
+        None => Ok(None),
+    }
 }
 
 #[tactic(auto, unfolding(registry_reading_model::specs::Headers::opened_with))]

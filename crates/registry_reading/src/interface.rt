@@ -11,19 +11,20 @@ ghost use Rattle.registry_reading_model.specs.Words.{on_some};
 ghost use Rattle.registry_reading.specs.Taken.{IsTaken};
 ghost use Rattle.registry_reading.specs.Members.{member_line, added_under};
 
+use crate::fields::field;
 use crate::heads::Heads;
 use crate::kind::kind;
-use crate::last::take_last;
 use crate::names::{entity_name, identifier_alone, push_entity_name};
+use crate::pushing::push_read;
 use crate::words::{identifier, is_read_only, way, word};
 use std::alloc::Global;
 use uno_base::NoMemory;
-use uno_types::{Attribute, Base, Member, Method, Name, Param, TypeName};
+use uno_types::{Attribute, Base, Field, Member, Method, Name, Param, TypeName};
 
 /// `NAME rw TYPE`, or `ro`.
 #[tactic(auto, unfolding(registry_reading_model::specs::Bodies::attribute_of))]
-fn attribute(alloc: Global, heads: &Heads<'_>, text: &str) -> Result<Option<Attribute>, NoMemory>
-    ensures { IfOk result (λ a. option_map attribute_of a ≡ model.attribute_of (kept (named_in heads.now)) text.now) }
+fn attribute(alloc: Global, heads: &Heads<'_>, text: &str) -> Result<Option<Member>, NoMemory>
+    ensures { IfOk result (λ m. option_map member_of m ≡ on_some (model.attribute_of (kept (named_in heads.now)) text.now) (λ a. Some (plain.attribute a))) }
 {
     let Some((name, behind)) = identifier(text) else {
         return Ok(None);
@@ -34,38 +35,33 @@ fn attribute(alloc: Global, heads: &Heads<'_>, text: &str) -> Result<Option<Attr
     let Some(read_only) = is_read_only(access) else {
         return Ok(None);
     };
-    let Some(kind) = kind(alloc, heads, behind)? else {
-        return Ok(None);
-    };
     let name = Name::of(alloc, name)?;
-    Ok(Some(Attribute {
-        name,
-        read_only,
-        kind,
-        get_raises: Vec::new(alloc),
-        set_raises: Vec::new(alloc),
-    }))
+    match kind(alloc, heads, behind)? {
+        Some(kind) => Ok(Some(Member::Attribute(Attribute {
+            name,
+            read_only,
+            kind,
+            get_raises: Vec::new(alloc),
+            set_raises: Vec::new(alloc),
+        }))),
+        None => Ok(None),
+    }
 }
 
 /// `NAME TYPE`.
-#[tactic(auto, unfolding(registry_reading_model::specs::Bodies::method_of))]
-fn method(alloc: Global, heads: &Heads<'_>, text: &str) -> Result<Option<Method>, NoMemory>
-    ensures { IfOk result (λ m. option_map method_of m ≡ model.method_of (kept (named_in heads.now)) text.now) }
+fn method(alloc: Global, heads: &Heads<'_>, text: &str) -> Result<Option<Member>, NoMemory>
+    ensures { IfOk result (λ m. option_map member_of m ≡ on_some (model.method_of (kept (named_in heads.now)) text.now) (λ m. Some (plain.method m))) }
 {
-    let Some((name, behind)) = identifier(text) else {
-        return Ok(None);
-    };
-    let Some(kind) = kind(alloc, heads, behind)? else {
-        return Ok(None);
-    };
-    let name = Name::of(alloc, name)?;
-    Ok(Some(new_method(alloc, name, false, kind)))
+    match field(alloc, heads, text)? {
+        Some(Field { name, kind }) => Ok(Some(new_method(alloc, name, false, kind))),
+        None => Ok(None),
+    }
 }
 
 /// A one-way method, whose result is void.
 #[tactic(auto, unfolding(registry_reading_model::specs::Bodies::oneway_of, registry_reading_model::specs::Kept::resolved, registry_reading_model::specs::Kept::cut, registry_reading_model::specs::Kept::innermost, registry_reading_model::specs::Kinds::sequences))]
-fn oneway(alloc: Global, heads: &Heads<'_>, text: &str) -> Result<Option<Method>, NoMemory>
-    ensures { IfOk result (λ m. option_map method_of m ≡ model.oneway_of (kept (named_in heads.now)) text.now) }
+fn oneway(alloc: Global, heads: &Heads<'_>, text: &str) -> Result<Option<Member>, NoMemory>
+    ensures { IfOk result (λ m. option_map member_of m ≡ on_some (model.oneway_of (kept (named_in heads.now)) text.now) (λ m. Some (plain.method m))) }
 {
     match identifier_alone(alloc, text)? {
         Some(name) => Ok(Some(new_method(alloc, name, true, TypeName::Void))),
@@ -73,16 +69,16 @@ fn oneway(alloc: Global, heads: &Heads<'_>, text: &str) -> Result<Option<Method>
     }
 }
 
-fn new_method(alloc: Global, name: Name, oneway: bool, kind: TypeName) -> Method
-    ensures { method_of result ≡ record { name = name; oneway = oneway; result_kind = kind_of kind; params = []; raises = [] } }
+fn new_method(alloc: Global, name: Name, oneway: bool, kind: TypeName) -> Member
+    ensures { member_of result ≡ plain.method (record { name = name; oneway = oneway; result_kind = kind_of kind; params = []; raises = [] }) }
 {
-    Method {
+    Member::Method(Method {
         name,
         oneway,
         result: kind,
         params: Vec::new(alloc),
         raises: Vec::new(alloc),
-    }
+    })
 }
 
 /// `in NAME TYPE`, or `out` or `inout`.
@@ -96,96 +92,83 @@ fn param(alloc: Global, heads: &Heads<'_>, text: &str) -> Result<Option<Param>, 
     let Some(way) = way(first) else {
         return Ok(None);
     };
-    let Some((name, behind)) = identifier(behind) else {
-        return Ok(None);
-    };
-    let Some(kind) = kind(alloc, heads, behind)? else {
-        return Ok(None);
-    };
-    let name = Name::of(alloc, name)?;
-    Ok(Some(Param { way, name, kind }))
+    match field(alloc, heads, behind)? {
+        Some(Field { name, kind }) => Ok(Some(Param { way, name, kind })),
+        None => Ok(None),
+    }
 }
 
 // ---- lines under a member
 
 /// What reading an attribute raises, before what writing it raises.
 #[tactic(auto, unfolding(registry_reading_model::specs::Bodies::get_raises_added))]
-fn with_get_raises(
+fn push_get_raises(
     alloc: Global,
     heads: &Heads<'_>,
-    member: Member,
+    member: &mut Member,
     text: &str,
-) -> Result<Option<Member>, NoMemory>
-    ensures { IfOk result (λ m. option_map member_of m ≡ model.get_raises_added text.now (member_of member)) }
+) -> Result<bool, NoMemory>
+    ensures { IfOk result (λ taken. IsTaken taken (member_of member.new) (model.get_raises_added text.now (member_of member.old))) }
 {
-    let Member::Attribute(mut attribute) = member else {
-        return Ok(None);
+    let Member::Attribute(attribute) = member else {
+        return Ok(false);
     };
-    if !attribute.set_raises.is_empty()
-        || !push_entity_name(alloc, heads, &mut attribute.get_raises, text)?
-    {
-        return Ok(None);
+    if !attribute.set_raises.is_empty() {
+        return Ok(false);
     }
-    Ok(Some(Member::Attribute(attribute)))
+    push_entity_name(alloc, heads, &mut attribute.get_raises, text)
 }
 
 #[tactic(auto, unfolding(registry_reading_model::specs::Bodies::set_raises_added))]
-fn with_set_raises(
+fn push_set_raises(
     alloc: Global,
     heads: &Heads<'_>,
-    member: Member,
+    member: &mut Member,
     text: &str,
-) -> Result<Option<Member>, NoMemory>
-    ensures { IfOk result (λ m. option_map member_of m ≡ model.set_raises_added text.now (member_of member)) }
+) -> Result<bool, NoMemory>
+    ensures { IfOk result (λ taken. IsTaken taken (member_of member.new) (model.set_raises_added text.now (member_of member.old))) }
 {
-    let Member::Attribute(mut attribute) = member else {
-        return Ok(None);
-    };
-    if !push_entity_name(alloc, heads, &mut attribute.set_raises, text)? {
-        return Ok(None);
+    match member {
+        Member::Attribute(attribute) => {
+            push_entity_name(alloc, heads, &mut attribute.set_raises, text)
+        }
+        Member::Method(_) => Ok(false),
     }
-    Ok(Some(Member::Attribute(attribute)))
 }
 
 /// A parameter of a method, before what it raises.
 #[tactic(auto, unfolding(registry_reading_model::specs::Bodies::param_added))]
-fn with_param(
+fn push_param(
     alloc: Global,
     heads: &Heads<'_>,
-    member: Member,
+    member: &mut Member,
     text: &str,
-) -> Result<Option<Member>, NoMemory>
-    ensures { IfOk result (λ m. option_map member_of m ≡ model.param_added (kept (named_in heads.now)) text.now (member_of member)) }
+) -> Result<bool, NoMemory>
+    ensures { IfOk result (λ taken. IsTaken taken (member_of member.new) (model.param_added (kept (named_in heads.now)) text.now (member_of member.old))) }
 {
-    let Member::Method(mut method) = member else {
-        return Ok(None);
+    let Member::Method(method) = member else {
+        return Ok(false);
     };
     if !method.raises.is_empty() {
-        return Ok(None);
+        return Ok(false);
     }
-    let Some(param) = param(alloc, heads, text)? else {
-        return Ok(None);
-    };
-    method.params.push(param)?;
-    Ok(Some(Member::Method(method)))
+    let read = param(alloc, heads, text)?;
+    push_read(&mut method.params, read)
 }
 
 #[tactic(auto, unfolding(registry_reading_model::specs::Bodies::raises_added))]
-fn with_raises(
+fn push_raises(
     alloc: Global,
     heads: &Heads<'_>,
-    member: Member,
+    member: &mut Member,
     text: &str,
-) -> Result<Option<Member>, NoMemory>
-    ensures { IfOk result (λ m. option_map member_of m ≡ model.raises_added text.now (member_of member)) }
+) -> Result<bool, NoMemory>
+    ensures { IfOk result (λ taken. IsTaken taken (member_of member.new) (model.raises_added text.now (member_of member.old))) }
 {
-    let Member::Method(mut method) = member else {
-        return Ok(None);
-    };
-    if !push_entity_name(alloc, heads, &mut method.raises, text)? {
-        return Ok(None);
+    match member {
+        Member::Method(method) => push_entity_name(alloc, heads, &mut method.raises, text),
+        Member::Attribute(_) => Ok(false),
     }
-    Ok(Some(Member::Method(method)))
 }
 
 // ---- the lines
@@ -257,11 +240,8 @@ fn push_attribute(
 ) -> Result<bool, NoMemory>
     ensures { IfOk result (λ taken. IsTaken taken (map member_of members.new.items) (model.pushed (map member_of members.old.items) (on_some (model.attribute_of (kept (named_in heads.now)) text.now) (λ a. Some (plain.attribute a))))) }
 {
-    let Some(attribute) = attribute(alloc, heads, text)? else {
-        return Ok(false);
-    };
-    members.push(Member::Attribute(attribute))?;
-    Ok(true)
+    let read = attribute(alloc, heads, text)?;
+    push_read(members, read)
 }
 
 fn push_method(
@@ -272,11 +252,8 @@ fn push_method(
 ) -> Result<bool, NoMemory>
     ensures { IfOk result (λ taken. IsTaken taken (map member_of members.new.items) (model.pushed (map member_of members.old.items) (on_some (model.method_of (kept (named_in heads.now)) text.now) (λ m. Some (plain.method m))))) }
 {
-    let Some(method) = method(alloc, heads, text)? else {
-        return Ok(false);
-    };
-    members.push(Member::Method(method))?;
-    Ok(true)
+    let read = method(alloc, heads, text)?;
+    push_read(members, read)
 }
 
 fn push_oneway(
@@ -287,15 +264,11 @@ fn push_oneway(
 ) -> Result<bool, NoMemory>
     ensures { IfOk result (λ taken. IsTaken taken (map member_of members.new.items) (model.pushed (map member_of members.old.items) (on_some (model.oneway_of (kept (named_in heads.now)) text.now) (λ m. Some (plain.method m))))) }
 {
-    let Some(method) = oneway(alloc, heads, text)? else {
-        return Ok(false);
-    };
-    members.push(Member::Method(method))?;
-    Ok(true)
+    let read = oneway(alloc, heads, text)?;
+    push_read(members, read)
 }
 
 /// A line that goes into the last member.
-
 fn line_under_member(
     alloc: Global,
     heads: &Heads<'_>,
@@ -305,32 +278,28 @@ fn line_under_member(
 ) -> Result<bool, NoMemory>
     ensures { IfOk result (λ taken. IsTaken taken (map member_of members.new.items) (model.last_changed (added_under (kept (named_in heads.now)) word.now text.now) (map member_of members.old.items))) }
 {
-    let Some(member) = take_last(members) else {
-        return Ok(false);
-    };
-    let Some(member) = with_line(alloc, heads, member, word, text)? else {
-        return Ok(false);
-    };
-    members.push(member)?;
-    Ok(true)
+    match members.last_mut() {
+        Some(member) => push_line(alloc, heads, member, word, text),
+        None => Ok(false),
+    }
 }
 
-/// The member with one line more under it.
+/// One line more under a member.
 #[tactic(auto, unfolding(crate::specs::Members::added_under))]
-fn with_line(
+fn push_line(
     alloc: Global,
     heads: &Heads<'_>,
-    member: Member,
+    member: &mut Member,
     word: &str,
     text: &str,
-) -> Result<Option<Member>, NoMemory>
-    ensures { IfOk result (λ m. option_map member_of m ≡ added_under (kept (named_in heads.now)) word.now text.now (member_of member)) }
+) -> Result<bool, NoMemory>
+    ensures { IfOk result (λ taken. IsTaken taken (member_of member.new) (added_under (kept (named_in heads.now)) word.now text.now (member_of member.old))) }
 {
     match word {
-        "getraises" => with_get_raises(alloc, heads, member, text),
-        "setraises" => with_set_raises(alloc, heads, member, text),
-        "param" => with_param(alloc, heads, member, text),
-        "raises" => with_raises(alloc, heads, member, text),
-        _ => Ok(None),
+        "getraises" => push_get_raises(alloc, heads, member, text),
+        "setraises" => push_set_raises(alloc, heads, member, text),
+        "param" => push_param(alloc, heads, member, text),
+        "raises" => push_raises(alloc, heads, member, text),
+        _ => Ok(false),
     }
 }

@@ -15,6 +15,7 @@ mod last;
 mod lines;
 mod names;
 mod number;
+mod pushing;
 mod read;
 mod reader;
 mod service;

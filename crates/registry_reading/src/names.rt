@@ -5,6 +5,7 @@ ghost use Rattle.registry_reading_model.specs.Words.{entity_name_of, identifier_
 ghost use Rattle.registry_reading.specs.Taken.{IsTaken};
 
 use crate::heads::Heads;
+use crate::pushing::push_read;
 use std::alloc::Global;
 use uno_base::NoMemory;
 use uno_types::{Name, is_identifier};
@@ -42,9 +43,6 @@ pub(crate) fn push_entity_name(
 ) -> Result<bool, NoMemory>
     ensures { IfOk result (λ taken. IsTaken taken names.new.items (pushed names.old.items (entity_name_of text.now))) }
 {
-    let Some(name) = entity_name(alloc, heads, text)? else {
-        return Ok(false);
-    };
-    names.push(name)?;
-    Ok(true)
+    let read = entity_name(alloc, heads, text)?;
+    push_read(names, read)
 }

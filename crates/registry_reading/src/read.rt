@@ -119,6 +119,7 @@ fn one_line(
     ensures refused { IfErr result (IsAtLine (kept (named_in heads.now)) (state_of reader) line.now number) }
 {
     let Ok(text) = std::str::from_utf8(line) else {
+        drop(reader);
         return Err(RegError::BadLine(number));
     };
     match reader.line(alloc, heads, text) {
@@ -136,12 +137,16 @@ fn finished(reader: Reader, rest: &[u8], number: u32) -> Result<Registry, RegErr
 {
     let Reader {
         registry,
+        last,
         entity,
-        ..
     } = reader;
+    drop(last);
     if !rest.is_empty() || entity.is_some() {
+        drop(entity);
+        drop(registry);
         return Err(RegError::BadLine(number));
     }
+    drop(entity);
     say_what_is_kept(&registry);
     Ok(registry)
 }

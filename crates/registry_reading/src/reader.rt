@@ -101,17 +101,31 @@ fn begun(
     ensures bad { result ≡ Err Wrong.Bad → model.step true (kept (named_in heads.now)) (model.between (written registry)) line.now ≡ Err model.bad }
     ensures order { result ≡ Err Wrong.OutOfOrder → model.step true (kept (named_in heads.now)) (model.between (written registry)) line.now ≡ Err model.out_of_order }
 {
-    let Some(entity) = header(alloc, heads, line)? else {
-        return Err(Wrong::Bad);
-    };
-    if !is_above(&last, entity.name.as_str()) {
-        return Err(Wrong::OutOfOrder);
+    match header(alloc, heads, line) {
+        Ok(Some(entity)) => {
+            if !is_above(&last, entity.name.as_str()) {
+                drop(entity);
+                drop(last);
+                drop(registry);
+                return Err(Wrong::OutOfOrder);
+            }
+            Ok(Reader {
+                registry,
+                last,
+                entity: Some(entity),
+            })
+        }
+        Ok(None) => {
+            drop(last);
+            drop(registry);
+            Err(Wrong::Bad)
+        }
+        Err(_) => {
+            drop(last);
+            drop(registry);
+            Err(Wrong::NoMemory)
+        }
     }
-    Ok(Reader {
-        registry,
-        last,
-        entity: Some(entity),
-    })
 }
 
 fn is_above(last: &Option<Name>, name: &str) -> bool
@@ -142,10 +156,20 @@ fn gone_on(
     ensures order { result ≢ Err Wrong.OutOfOrder }
 {
     if line == "end" {
+        drop(last);
         return ended(alloc, registry, entity);
     }
     let mut entity = entity;
-    if !body_line(alloc, heads, &mut entity.body, line)? {
+    let Ok(taken) = body_line(alloc, heads, &mut entity.body, line) else {
+        drop(entity);
+        drop(last);
+        drop(registry);
+        return Err(Wrong::NoMemory);
+    };
+    if !taken {
+        drop(entity);
+        drop(last);
+        drop(registry);
         return Err(Wrong::Bad);
     }
     Ok(Reader {
@@ -163,11 +187,20 @@ fn ended(alloc: Global, registry: Registry, entity: Entity) -> Result<Reader, Wr
     ensures read { IfOk result IsRead }
     ensures error { IfErr result (λ e. e ≡ Wrong.NoMemory) }
 {
-    let name = entity.name.copy(alloc)?;
+    let Ok(name) = entity.name.copy(alloc) else {
+        drop(entity);
+        drop(registry);
+        return Err(Wrong::NoMemory);
+    };
+    say_what_is_kept(&registry);
     let mut registry = registry;
     match registry.add(entity) {
         Ok(()) => Ok(between(registry, name)),
-        Err(AddError::NoMemory) => Err(Wrong::NoMemory),
+        Err(AddError::NoMemory) => {
+            drop(name);
+            drop(registry);
+            Err(Wrong::NoMemory)
+        }
         Err(AddError::Twice) => unreachable!(),
     }
 }

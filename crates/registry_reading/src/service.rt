@@ -12,8 +12,8 @@ ghost use Rattle.registry_reading.specs.Members.{added_to};
 use crate::fields::field;
 use crate::heads::Heads;
 use crate::kind::kind;
-use crate::last::take_last;
 use crate::names::{entity_name, identifier_alone, push_entity_name};
+use crate::pushing::push_read;
 use crate::words::{behind, flags, identifier, word};
 use std::alloc::Global;
 use uno_base::NoMemory;
@@ -45,79 +45,66 @@ fn is_open(constructor: &Constructor) -> bool
 
 /// A parameter, before the rest parameter and what is raised.
 #[tactic(auto, unfolding(registry_reading_model::specs::Bodies::given_added))]
-fn with_param(
+fn push_param(
     alloc: Global,
     heads: &Heads<'_>,
-    constructor: Constructor,
+    constructor: &mut Constructor,
     text: &str,
-) -> Result<Option<Constructor>, NoMemory>
-    ensures { IfOk result (λ k. option_map constructor_of k ≡ model.given_added (kept (named_in heads.now)) text.now (constructor_of constructor)) }
+) -> Result<bool, NoMemory>
+    ensures { IfOk result (λ taken. IsTaken taken (constructor_of constructor.new) (model.given_added (kept (named_in heads.now)) text.now (constructor_of constructor.old))) }
 {
-    if !is_open(&constructor) {
-        return Ok(None);
+    if !is_open(constructor) {
+        return Ok(false);
     }
     let Some(text) = behind(text, "in ") else {
-        return Ok(None);
+        return Ok(false);
     };
-    let Some(param) = field(alloc, heads, text)? else {
-        return Ok(None);
-    };
-    let mut constructor = constructor;
-    constructor.params.push(param)?;
-    Ok(Some(constructor))
+    let read = field(alloc, heads, text)?;
+    push_read(&mut constructor.params, read)
 }
 
 #[tactic(auto, unfolding(registry_reading_model::specs::Bodies::rest_added))]
-fn with_rest(
-    alloc: Global,
-    constructor: Constructor,
-    text: &str,
-) -> Result<Option<Constructor>, NoMemory>
-    ensures { IfOk result (λ k. option_map constructor_of k ≡ model.rest_added text.now (constructor_of constructor)) }
+fn set_rest(alloc: Global, constructor: &mut Constructor, text: &str) -> Result<bool, NoMemory>
+    ensures { IfOk result (λ taken. IsTaken taken (constructor_of constructor.new) (model.rest_added text.now (constructor_of constructor.old))) }
 {
-    if !is_open(&constructor) {
-        return Ok(None);
+    if !is_open(constructor) {
+        return Ok(false);
     }
     let Some(name) = identifier_alone(alloc, text)? else {
-        return Ok(None);
+        return Ok(false);
     };
-    let mut constructor = constructor;
     constructor.rest = Some(name);
-    Ok(Some(constructor))
+    Ok(true)
 }
 
 #[tactic(auto, unfolding(registry_reading_model::specs::Bodies::raised_added))]
-fn with_raises(
+fn push_raises(
     alloc: Global,
     heads: &Heads<'_>,
-    constructor: Constructor,
+    constructor: &mut Constructor,
     text: &str,
-) -> Result<Option<Constructor>, NoMemory>
-    ensures { IfOk result (λ k. option_map constructor_of k ≡ model.raised_added text.now (constructor_of constructor)) }
+) -> Result<bool, NoMemory>
+    ensures { IfOk result (λ taken. IsTaken taken (constructor_of constructor.new) (model.raised_added text.now (constructor_of constructor.old))) }
 {
-    let mut constructor = constructor;
-    if !push_entity_name(alloc, heads, &mut constructor.raises, text)? {
-        return Ok(None);
-    }
-    Ok(Some(constructor))
+    push_entity_name(alloc, heads, &mut constructor.raises, text)
 }
 
-/// The constructor with one line more under it.
+/// One line more under a constructor.
 #[tactic(auto, unfolding(crate::specs::Members::added_to))]
-fn with_line(
+fn push_line(
     alloc: Global,
     heads: &Heads<'_>,
-    constructor: Constructor,
+    constructor: &mut Constructor,
     word: &str,
     text: &str,
-) -> Result<Option<Constructor>, NoMemory>
-    ensures { IfOk result (λ k. option_map constructor_of k ≡ added_to (kept (named_in heads.now)) word.now text.now (constructor_of constructor)) }
+) -> Result<bool, NoMemory>
+    ensures { IfOk result (λ taken. IsTaken taken (constructor_of constructor.new) (added_to (kept (named_in heads.now)) word.now text.now (constructor_of constructor.old))) }
 {
     match word {
-        "param" => with_param(alloc, heads, constructor, text),
-        "rest" => with_rest(alloc, constructor, text),
-        "raises" => with_raises(alloc, heads, constructor, text),
-        _ => Ok(None),
+        "param" => push_param(alloc, heads, constructor, text),
+        "rest" => set_rest(alloc, constructor, text),
+        "raises" => push_raises(alloc, heads, constructor, text),
+        _ => Ok(false),
     }
 }
 
@@ -145,11 +132,8 @@ fn push_constructor(
 ) -> Result<bool, NoMemory>
     ensures { IfOk result (λ taken. IsTaken taken (map constructor_of constructors.new.items) (model.pushed (map constructor_of constructors.old.items) (model.constructor_of text.now))) }
 {
-    let Some(constructor) = constructor(alloc, text)? else {
-        return Ok(false);
-    };
-    constructors.push(constructor)?;
-    Ok(true)
+    let read = constructor(alloc, text)?;
+    push_read(constructors, read)
 }
 
 /// A line that goes into the last constructor.
@@ -162,14 +146,10 @@ fn line_under_constructor(
 ) -> Result<bool, NoMemory>
     ensures { IfOk result (λ taken. IsTaken taken (map constructor_of constructors.new.items) (model.last_changed (added_to (kept (named_in heads.now)) word.now text.now) (map constructor_of constructors.old.items))) }
 {
-    let Some(constructor) = take_last(constructors) else {
-        return Ok(false);
-    };
-    let Some(constructor) = with_line(alloc, heads, constructor, word, text)? else {
-        return Ok(false);
-    };
-    constructors.push(constructor)?;
-    Ok(true)
+    match constructors.last_mut() {
+        Some(constructor) => push_line(alloc, heads, constructor, word, text),
+        None => Ok(false),
+    }
 }
 
 // ---- services of the old form
@@ -188,11 +168,11 @@ fn property(alloc: Global, heads: &Heads<'_>, text: &str) -> Result<Option<Part>
     let Some(flags) = flags(word) else {
         return Ok(None);
     };
-    let Some(kind) = kind(alloc, heads, behind)? else {
-        return Ok(None);
-    };
     let name = Name::of(alloc, name)?;
-    Ok(Some(Part::Property { name, flags, kind }))
+    match kind(alloc, heads, behind)? {
+        Some(kind) => Ok(Some(Part::Property { name, flags, kind })),
+        None => Ok(None),
+    }
 }
 
 fn interface_part(

@@ -1,14 +1,9 @@
-use Rattle.std.proofs.Common.{ap, option_map}
-use Rattle.uno_entities.specs.Entities.{constructor_of}
-use Rattle.registry_reading.proofs.LastLemmas.{none_left, none_made, one_made}
+use Rattle.std.proofs.Common.{refl}
+use Rattle.registry_reading.proofs.LastLemmas.{none_left, last_taken}
 use Rattle.registry_reading.proofs.service.line_under_constructor.Goals as goal
 
-pub returns-in_default : goal.returns-in_default
-returns-in_default c = none_left _ _ _ c.in_default.ensures.0
+pub returns-in-Some : goal.returns-in-Some
+returns-in-Some c = last_taken _ _ _ _ _ _ _ c.args.constructors.now.ok.0 (c.in-Some.ensures.variant.0 refl) c.in-Some.ensures.value c.push_line.ensures
 
-pub returns-in_default-2 : goal.returns-in_default-2
-returns-in_default-2 c = none_made _ _ _ _ _ _ c.in-Some.ensures c.in_ok-constructor.ensures (ap (option_map constructor_of) c.in_default-2.is)
-
-pub returns : goal.returns
-returns c =
-    one_made _ _ _ _ _ _ c.in-Some-2.constructor _ c.in-Some.ensures c.in_ok-constructor.ensures (ap (option_map constructor_of) c.in-Some-2.is) c.in_ok-push.ensures.items
+pub returns-in-None : goal.returns-in-None
+returns-in-None c = none_left _ _ _ _ c.args.constructors.now.ok.0 c.in-None.ensures.variant.1

@@ -1,0 +1,6 @@
+use Rattle.uno_entities.specs.Entities.{constructor_of}
+use Rattle.registry_reading.proofs.PushLemmas.{pushed_taken}
+use Rattle.registry_reading.proofs.service.push_constructor.Goals as goal
+
+pub returns : goal.returns
+returns c = pushed_taken constructor_of _ _ _ _ _ c.in_ok-read.ensures c.push_read.ensures
