@@ -1,3 +1,4 @@
+pub mod CallLemmas
 pub mod ClassLemmas
 pub mod LeafLemmas
 pub mod NameLemmas

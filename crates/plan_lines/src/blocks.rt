@@ -2,14 +2,14 @@
 ghost use Rattle.std.specs.Prelude.{length};
 ghost use Rattle.plan_model.specs.Lines as plain;
 ghost use Rattle.plan_reading_model.specs.LineReading as model;
-ghost use Rattle.plan_reading_model.specs.Parts.{at_end, identifier_at, paths_on};
+ghost use Rattle.plan_reading_model.specs.Parts.{paths_on};
 ghost use Rattle.plan_lines.specs.Lines.{line_of};
 ghost use Rattle.plan_lines.specs.Fronts.{behind_paths};
 ghost use Rattle.plan_lines.specs.Reads.{Gives};
 
 use crate::line::{Declared, Line};
-use crate::marks::behind_blank;
-use crate::names::{export_name_at, function_at, identifier_at, path_at};
+use crate::marks::{before_blank, whole};
+use crate::names::{export_name_at, function_at, identifier_at, path_at, two_names};
 use crate::types::type_at;
 use crate::unread::Unread;
 use std::alloc::Global;
@@ -20,8 +20,9 @@ use uno_types::{Name, Text};
 pub(crate) fn behaviour_at(alloc: Global, bytes: &[u8]) -> Result<Line, Unread>
     ensures { Gives line_of result (model.behaviour_at bytes.now) }
 {
-    let (name, rest) = identifier_at(bytes)?;
-    let rest = behind_blank(rest)?;
+    let Some((name, rest)) = before_blank(identifier_at(bytes)) else {
+        return Err(Unread::Form);
+    };
     let faces = paths_on(alloc, rest)?;
     let Ok(name) = Name::of(alloc, name) else {
         drop(faces);
@@ -50,7 +51,9 @@ fn push_paths(alloc: Global, bytes: &[u8], paths: &mut Vec<Name>) -> Result<(), 
 {
     let mut rest = bytes;
     for _ in 0..bytes.len() {
-        let (path, behind) = path_at(rest)?;
+        let Some((path, behind)) = path_at(rest) else {
+            return Err(Unread::Form);
+        };
         let path = Name::of(alloc, path)?;
         paths.push(path)?;
         let Some((first, next)) = behind.split_first() else {
@@ -69,15 +72,16 @@ fn push_paths(alloc: Global, bytes: &[u8], paths: &mut Vec<Name>) -> Result<(), 
 pub(crate) fn field_at(alloc: Global, bytes: &[u8]) -> Result<Line, Unread>
     ensures { Gives line_of result (model.field_at bytes.now) }
 {
-    let (name, rest) = identifier_at(bytes)?;
-    let rest = behind_blank(rest)?;
-    let (kind, rest) = type_at(rest)?;
-    if !rest.is_empty() {
+    let Some((name, rest)) = before_blank(identifier_at(bytes)) else {
         return Err(Unread::Form);
+    };
+    let Some(kind) = whole(type_at(rest)) else {
+        return Err(Unread::Form);
+    };
+    match two_names(alloc, name, kind) {
+        Ok((name, kind)) => Ok(Line::Field(Declared { name, kind })),
+        Err(_) => Err(Unread::NoMemory),
     }
-    let name = Name::of(alloc, name)?;
-    let kind = Name::of(alloc, kind)?;
-    Ok(Line::Field(Declared { name, kind }))
 }
 
 /// `method PATH FUNCTION`.
@@ -85,15 +89,16 @@ pub(crate) fn field_at(alloc: Global, bytes: &[u8]) -> Result<Line, Unread>
 pub(crate) fn method_at(alloc: Global, bytes: &[u8]) -> Result<Line, Unread>
     ensures { Gives line_of result (model.method_at bytes.now) }
 {
-    let (face, rest) = path_at(bytes)?;
-    let rest = behind_blank(rest)?;
-    let (function, rest) = function_at(rest)?;
-    if !rest.is_empty() {
+    let Some((face, rest)) = before_blank(path_at(bytes)) else {
         return Err(Unread::Form);
+    };
+    let Some(function) = whole(function_at(rest)) else {
+        return Err(Unread::Form);
+    };
+    match two_names(alloc, face, function) {
+        Ok((face, function)) => Ok(Line::Method { face, function }),
+        Err(_) => Err(Unread::NoMemory),
     }
-    let face = Name::of(alloc, face)?;
-    let function = Name::of(alloc, function)?;
-    Ok(Line::Method { face, function })
 }
 
 /// `service PATH ID`.
@@ -101,11 +106,16 @@ pub(crate) fn method_at(alloc: Global, bytes: &[u8]) -> Result<Line, Unread>
 pub(crate) fn service_at(alloc: Global, bytes: &[u8]) -> Result<Line, Unread>
     ensures { Gives line_of result (model.offer_at plain.service bytes.now) }
 {
-    let (name, rest) = path_at(bytes)?;
-    let rest = behind_blank(rest)?;
-    let behaviour = last_identifier(alloc, rest)?;
-    let name = Name::of(alloc, name)?;
-    Ok(Line::Service { name, behaviour })
+    let Some((name, rest)) = before_blank(path_at(bytes)) else {
+        return Err(Unread::Form);
+    };
+    let Some(behaviour) = whole(identifier_at(rest)) else {
+        return Err(Unread::Form);
+    };
+    match two_names(alloc, name, behaviour) {
+        Ok((name, behaviour)) => Ok(Line::Service { name, behaviour }),
+        Err(_) => Err(Unread::NoMemory),
+    }
 }
 
 /// `singleton PATH ID`.
@@ -113,11 +123,16 @@ pub(crate) fn service_at(alloc: Global, bytes: &[u8]) -> Result<Line, Unread>
 pub(crate) fn singleton_at(alloc: Global, bytes: &[u8]) -> Result<Line, Unread>
     ensures { Gives line_of result (model.offer_at plain.singleton bytes.now) }
 {
-    let (name, rest) = path_at(bytes)?;
-    let rest = behind_blank(rest)?;
-    let behaviour = last_identifier(alloc, rest)?;
-    let name = Name::of(alloc, name)?;
-    Ok(Line::Singleton { name, behaviour })
+    let Some((name, rest)) = before_blank(path_at(bytes)) else {
+        return Err(Unread::Form);
+    };
+    let Some(behaviour) = whole(identifier_at(rest)) else {
+        return Err(Unread::Form);
+    };
+    match two_names(alloc, name, behaviour) {
+        Ok((name, behaviour)) => Ok(Line::Singleton { name, behaviour }),
+        Err(_) => Err(Unread::NoMemory),
+    }
 }
 
 /// `export "NAME" ID`.
@@ -125,21 +140,20 @@ pub(crate) fn singleton_at(alloc: Global, bytes: &[u8]) -> Result<Line, Unread>
 pub(crate) fn export_at(alloc: Global, bytes: &[u8]) -> Result<Line, Unread>
     ensures { Gives line_of result (model.export_at bytes.now) }
 {
-    let (name, rest) = export_name_at(bytes)?;
-    let rest = behind_blank(rest)?;
-    let behaviour = last_identifier(alloc, rest)?;
-    let name = Text::of(alloc, name)?;
-    Ok(Line::Export { name, behaviour })
-}
-
-/// An identifier with nothing behind it.
-pub(crate) fn last_identifier(alloc: Global, bytes: &[u8]) -> Result<Name, Unread>
-    ensures { Gives (λ name. name) result (at_end (identifier_at bytes.now)) }
-{
-    let (name, rest) = identifier_at(bytes)?;
-    if !rest.is_empty() {
+    let Some((name, rest)) = before_blank(export_name_at(bytes)) else {
         return Err(Unread::Form);
+    };
+    let Some(behaviour) = whole(identifier_at(rest)) else {
+        return Err(Unread::Form);
+    };
+    let Ok(behaviour) = Name::of(alloc, behaviour) else {
+        return Err(Unread::NoMemory);
+    };
+    match Text::of(alloc, name) {
+        Ok(name) => Ok(Line::Export { name, behaviour }),
+        Err(_) => {
+            drop(behaviour);
+            Err(Unread::NoMemory)
+        }
     }
-    let name = Name::of(alloc, name)?;
-    Ok(name)
 }

@@ -73,7 +73,9 @@ pub(crate) fn known_word<'a>(
     if !words.is_known(word) {
         return Err(Unread::Form);
     }
-    let word = Name::of(alloc, word)?;
+    let Ok(word) = Name::of(alloc, word) else {
+        return Err(Unread::NoMemory);
+    };
     Ok((Term::Leaf(Token::Word(word)), rest))
 }
 
@@ -89,8 +91,14 @@ pub(crate) fn plan_word(alloc: Global, bytes: &[u8]) -> Front<'_, Term>
 pub(crate) fn type_leaf(alloc: Global, bytes: &[u8]) -> Front<'_, Term>
     ensures { Gives term_front result (on_some (type_at bytes.now) model.type_value) }
 {
-    let (kind, rest) = type_at(bytes)?;
-    let rest = behind(MARK, rest)?;
-    let kind = Name::of(alloc, kind)?;
+    let Some((kind, rest)) = type_at(bytes) else {
+        return Err(Unread::Form);
+    };
+    let Some(rest) = behind(MARK, rest) else {
+        return Err(Unread::Form);
+    };
+    let Ok(kind) = Name::of(alloc, kind) else {
+        return Err(Unread::NoMemory);
+    };
     Ok((Term::Type(kind), rest))
 }

@@ -24,8 +24,14 @@ pub(crate) fn typed_before<'a>(
         drop(value);
         return Err(Unread::NoMemory);
     };
-    let value = Box::new(alloc, value)?;
-    Ok((Term::Typed(kind, value), rest))
+    match Box::new(alloc, value) {
+        Ok(value) => Ok((Term::Typed(kind, value), rest)),
+        Err(failed) => {
+            drop(failed);
+            drop(kind);
+            Err(Unread::NoMemory)
+        }
+    }
 }
 
 /// An operation, and what stands behind it.
@@ -38,10 +44,31 @@ pub(crate) fn operation_before<'a>(
 ) -> Front<'a, Term>
     ensures { Gives term_front result (before (plain.operation operation (term_of left) (term_of right)) rest.now) }
 {
-    let Ok(left) = Box::new(alloc, left) else {
-        drop(right);
-        return Err(Unread::NoMemory);
-    };
-    let right = Box::new(alloc, right)?;
-    Ok((Term::Operation(operation, left, right), rest))
+    match Box::new(alloc, left) {
+        Ok(left) => operation_of(alloc, operation, left, right, rest),
+        Err(failed) => {
+            drop(failed);
+            drop(right);
+            Err(Unread::NoMemory)
+        }
+    }
+}
+
+fn operation_of<'a>(
+    alloc: Global,
+    operation: Operation,
+    left: Box<Term>,
+    right: Term,
+    rest: &'a [u8],
+) -> Front<'a, Term>
+    ensures { Gives term_front result (before (plain.operation operation (term_of left.value) (term_of right)) rest.now) }
+{
+    match Box::new(alloc, right) {
+        Ok(right) => Ok((Term::Operation(operation, left, right), rest)),
+        Err(failed) => {
+            drop(failed);
+            drop(left);
+            Err(Unread::NoMemory)
+        }
+    }
 }

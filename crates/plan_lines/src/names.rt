@@ -1,17 +1,19 @@
 //! Names at the front of a text: identifiers, paths, functions, and names of exports between quotes.
-ghost use Rattle.std.specs.Prelude.{◌≡◌};
+ghost use Rattle.std.specs.Prelude.{◌≡◌, option_map, IfOk};
 ghost use Rattle.std.specs.List.{list_all};
 ghost use Rattle.uno_model.specs.Names.{goes_on_identifier, parts_of};
 ghost use Rattle.literal_model.specs.Shapes.{is_word};
 ghost use Rattle.plan_model.specs.Forms.{is_path, is_function_text, is_accessor, is_export_name, is_export_byte};
 ghost use Rattle.plan_reading_model.specs.Parts as model;
-ghost use Rattle.plan_lines.specs.Reads.{Gives, both};
+ghost use Rattle.plan_lines.specs.Reads.{both};
 ghost use Rattle.plan_lines.specs.Runs.{function_run};
 
 use crate::class::{Class, as_text, is_in, split};
 use crate::marks::behind;
-use crate::unread::{Front, Unread};
+use std::alloc::Global;
+use uno_base::NoMemory;
 use uno_entities::{begins_identifier, goes_on_identifier, is_identifier};
+use uno_types::Name;
 
 /// What stands in front of the name of an attribute.
 const GET: &[u8] = b"get:";
@@ -26,28 +28,28 @@ const MOST_EXPORTED: usize = 64;
 
 /// An identifier.
 #[tactic(auto, unfolding(plan_reading_model::specs::Parts::identifier_at))]
-pub(crate) fn identifier_at(bytes: &[u8]) -> Front<'_, &str>
-    ensures { Gives both result (model.identifier_at bytes.now) }
+pub(crate) fn identifier_at(bytes: &[u8]) -> Option<(&str, &[u8])>
+    ensures { option_map both result ≡ model.identifier_at bytes.now }
 {
     let (run, rest) = split(Class::Word, bytes);
     let name = as_text(run);
     if !is_identifier(name) {
-        return Err(Unread::Form);
+        return None;
     }
-    Ok((name, rest))
+    Some((name, rest))
 }
 
 /// Words joined by points.
 #[tactic(auto, unfolding(plan_reading_model::specs::Parts::path_at))]
-pub(crate) fn path_at(bytes: &[u8]) -> Front<'_, &str>
-    ensures { Gives both result (model.path_at bytes.now) }
+pub(crate) fn path_at(bytes: &[u8]) -> Option<(&str, &[u8])>
+    ensures { option_map both result ≡ model.path_at bytes.now }
 {
     let (run, rest) = split(Class::Path, bytes);
     let path = as_text(run);
     if !is_path(path) {
-        return Err(Unread::Form);
+        return None;
     }
-    Ok((path, rest))
+    Some((path, rest))
 }
 
 /// Whether it is words joined by points.
@@ -81,14 +83,14 @@ fn go_on(bytes: &[u8]) -> bool
 
 /// A function: a word, or one behind `get:` or `set:`.
 #[tactic(auto, unfolding(plan_reading_model::specs::Parts::function_at))]
-pub(crate) fn function_at(bytes: &[u8]) -> Front<'_, &str>
-    ensures { Gives both result (model.function_at bytes.now) }
+pub(crate) fn function_at(bytes: &[u8]) -> Option<(&str, &[u8])>
+    ensures { option_map both result ≡ model.function_at bytes.now }
 {
     let (name, rest) = function_run(bytes);
     if !is_function(name) {
-        return Err(Unread::Form);
+        return None;
     }
-    Ok((name, rest))
+    Some((name, rest))
 }
 
 /// A word, or `get:` or `set:` and what goes on a word.
@@ -130,17 +132,17 @@ fn is_function(name: &str) -> bool
 
 /// The name of an export between quotes.
 #[tactic(auto, unfolding(plan_reading_model::specs::Parts::export_name_at))]
-pub(crate) fn export_name_at(bytes: &[u8]) -> Front<'_, &str>
-    ensures { Gives both result (model.export_name_at bytes.now) }
+pub(crate) fn export_name_at(bytes: &[u8]) -> Option<(&str, &[u8])>
+    ensures { option_map both result ≡ model.export_name_at bytes.now }
 {
     let rest = behind(QUOTE, bytes)?;
     let (run, rest) = split(Class::Exported, rest);
     let name = as_text(run);
     if !is_export_name(name) {
-        return Err(Unread::Form);
+        return None;
     }
     let rest = behind(QUOTE, rest)?;
-    Ok((name, rest))
+    Some((name, rest))
 }
 
 /// Whether it is 1 to 64 letters, digits, `.`, `_` and `-`.
@@ -155,4 +157,18 @@ fn are_exported(bytes: &[u8]) -> bool
     ensures { result ≡ list_all is_export_byte bytes.now }
 {
     bytes.iter().all(|byte| is_in(Class::Exported, *byte))
+}
+
+/// Two names of these texts.
+pub(crate) fn two_names(alloc: Global, one: &str, other: &str) -> Result<(Name, Name), NoMemory>
+    ensures { IfOk result (λ names. (names.0 ≡ one.now) × (names.1 ≡ other.now)) }
+{
+    let one = Name::of(alloc, one)?;
+    match Name::of(alloc, other) {
+        Ok(other) => Ok((one, other)),
+        Err(error) => {
+            drop(one);
+            Err(error)
+        }
+    }
 }

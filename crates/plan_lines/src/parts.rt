@@ -4,8 +4,8 @@ ghost use Rattle.plan_lines.specs.Views.{word_front, declared_front};
 ghost use Rattle.plan_lines.specs.Reads.{Gives};
 
 use crate::line::Declared;
-use crate::marks::{behind, behind_blank};
-use crate::names::identifier_at;
+use crate::marks::{before_blank, behind};
+use crate::names::{identifier_at, two_names};
 use crate::types::type_at;
 use crate::unread::{Front, Unread};
 use plan_types::Word;
@@ -20,13 +20,19 @@ const OWN: &str = "self";
 pub(crate) fn declared_at<'a>(alloc: Global, mark: &[u8], bytes: &'a [u8]) -> Front<'a, Declared>
     ensures { Gives declared_front result (model.declared_at mark.now bytes.now) }
 {
-    let (name, rest) = identifier_at(bytes)?;
-    let rest = behind_blank(rest)?;
-    let (kind, rest) = type_at(rest)?;
-    let rest = behind(mark, rest)?;
-    let name = Name::of(alloc, name)?;
-    let kind = Name::of(alloc, kind)?;
-    Ok((Declared { name, kind }, rest))
+    let Some((name, rest)) = before_blank(identifier_at(bytes)) else {
+        return Err(Unread::Form);
+    };
+    let Some((kind, rest)) = type_at(rest) else {
+        return Err(Unread::Form);
+    };
+    let Some(rest) = behind(mark, rest) else {
+        return Err(Unread::Form);
+    };
+    match two_names(alloc, name, kind) {
+        Ok((name, kind)) => Ok((Declared { name, kind }, rest)),
+        Err(_) => Err(Unread::NoMemory),
+    }
 }
 
 /// A word of the plan: `$ID`, `$.ID` or `$self`.
@@ -59,8 +65,12 @@ fn behind_dollar(alloc: Global, bytes: &[u8]) -> Front<'_, Word>
 fn field_at(alloc: Global, bytes: &[u8]) -> Front<'_, Word>
     ensures { Gives word_front result (model.some_word model.field_in (model.identifier_at bytes.now)) }
 {
-    let (name, rest) = identifier_at(bytes)?;
-    let name = Name::of(alloc, name)?;
+    let Some((name, rest)) = identifier_at(bytes) else {
+        return Err(Unread::Form);
+    };
+    let Ok(name) = Name::of(alloc, name) else {
+        return Err(Unread::NoMemory);
+    };
     Ok((Word::Field(name), rest))
 }
 
@@ -68,11 +78,15 @@ fn field_at(alloc: Global, bytes: &[u8]) -> Front<'_, Word>
 fn named_at(alloc: Global, bytes: &[u8]) -> Front<'_, Word>
     ensures { Gives word_front result (model.some_word model.variable_in (model.identifier_at bytes.now)) }
 {
-    let (name, rest) = identifier_at(bytes)?;
+    let Some((name, rest)) = identifier_at(bytes) else {
+        return Err(Unread::Form);
+    };
     if name == OWN {
         return Ok((Word::Own, rest));
     }
-    let name = Name::of(alloc, name)?;
+    let Ok(name) = Name::of(alloc, name) else {
+        return Err(Unread::NoMemory);
+    };
     Ok((Word::Variable(name), rest))
 }
 

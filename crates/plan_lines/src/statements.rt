@@ -2,22 +2,23 @@
 ghost use Rattle.std.specs.Prelude.{◌≡◌, Some, None, map, length, option_map, codes};
 ghost use Rattle.plan_model.specs.Lines as plain;
 ghost use Rattle.plan_reading_model.specs.LineReading as model;
-ghost use Rattle.plan_reading_model.specs.Parts.{at_end, behind, on_some, word_at, variable_at};
+ghost use Rattle.plan_reading_model.specs.Parts.{at_end, behind, export_name_at, on_some, word_at, variable_at};
+ghost use Rattle.plan_reading_model.specs.TermReading.{term_at};
 ghost use Rattle.plan_types.specs.Expressions.{word_of};
 ghost use Rattle.plan_lines.specs.Lines.{line_of, declared_of};
 ghost use Rattle.plan_lines.specs.Reads.{Gives};
+ghost use Rattle.plan_lines.specs.Statements.{called_at};
 ghost use Rattle.plan_lines.specs.Terms.{term_of};
 
 use crate::arguments::arguments_at;
-use crate::blocks::last_identifier;
 use crate::line::{Declared, Line};
-use crate::marks::{behind, behind_blank, stripped};
-use crate::names::{export_name_at, function_at};
+use crate::marks::{before_blank, behind, behind_blank, whole};
+use crate::names::{export_name_at, function_at, identifier_at};
 use crate::parts::{declared_at, variable_at, word_at};
 use crate::term::Term;
 use crate::terms::term_at;
 use crate::types::type_at;
-use crate::unread::{Front, Unread};
+use crate::unread::Unread;
 use crate::words::Words;
 use plan_types::{Comparison, Word};
 use std::alloc::Global;
@@ -55,6 +56,7 @@ fn whole_word(alloc: Global, bytes: &[u8]) -> Result<Word, Unread>
 {
     let (word, rest) = word_at(alloc, bytes)?;
     if !rest.is_empty() {
+        drop(word);
         return Err(Unread::Form);
     }
     Ok(word)
@@ -77,8 +79,13 @@ pub(crate) fn let_at(alloc: Global, words: &Words<'_>, bytes: &[u8]) -> Result<L
     ensures { Gives line_of result (model.let_at words.now bytes.now) }
 {
     let (declared, rest) = declared_at(alloc, EQUALS, bytes)?;
-    let term = whole_term(alloc, words, rest)?;
-    Ok(Line::Let(declared, term))
+    match whole_term(alloc, words, rest) {
+        Ok(term) => Ok(Line::Let(declared, term)),
+        Err(unread) => {
+            drop(declared);
+            Err(unread)
+        }
+    }
 }
 
 /// `set WORD = TERM`.
@@ -87,9 +94,23 @@ pub(crate) fn set_at(alloc: Global, words: &Words<'_>, bytes: &[u8]) -> Result<L
     ensures { Gives line_of result (model.set_at words.now bytes.now) }
 {
     let (word, rest) = word_at(alloc, bytes)?;
-    let rest = behind(EQUALS, rest)?;
-    let term = whole_term(alloc, words, rest)?;
-    set_of(word, term)
+    match set_term(alloc, words, rest) {
+        Ok(term) => set_of(word, term),
+        Err(unread) => {
+            drop(word);
+            Err(unread)
+        }
+    }
+}
+
+/// ` = TERM`.
+fn set_term(alloc: Global, words: &Words<'_>, bytes: &[u8]) -> Result<Term, Unread>
+    ensures { Gives term_of result (on_some (behind model.equals bytes.now) (model.whole_term words.now)) }
+{
+    let Some(rest) = behind(EQUALS, bytes) else {
+        return Err(Unread::Form);
+    };
+    whole_term(alloc, words, rest)
 }
 
 /// A variable or a field that gets a value; the own object gets none.
@@ -131,21 +152,61 @@ fn target_at(
 ) -> Result<Line, Unread>
     ensures { Gives line_of result (model.target_at words.now (option_map declared_of to) bytes.now) }
 {
-    let (target, rest) = word_at(alloc, bytes)?;
-    let rest = behind(POINT, rest)?;
-    let (function, rest) = function_at(rest)?;
-    let rest = behind(OPENS, rest)?;
-    let arguments = arguments_at(alloc, words, rest)?;
-    let Ok(function) = Name::of(alloc, function) else {
-        drop(arguments);
-        return Err(Unread::NoMemory);
+    match word_at(alloc, bytes) {
+        Ok((target, rest)) => call_of(alloc, words, to, target, rest),
+        Err(unread) => {
+            drop(to);
+            Err(unread)
+        }
+    }
+}
+
+/// The call of a target, by what stands behind that.
+fn call_of(
+    alloc: Global,
+    words: &Words<'_>,
+    to: Option<Declared>,
+    target: Word,
+    bytes: &[u8],
+) -> Result<Line, Unread>
+    ensures { Gives line_of result (model.target_of words.now (option_map declared_of to) (word_of target, bytes.now)) }
+{
+    match called_at(alloc, words, bytes) {
+        Ok((function, arguments)) => Ok(Line::Call {
+            to,
+            target,
+            function,
+            arguments,
+        }),
+        Err(unread) => {
+            drop(to);
+            drop(target);
+            Err(unread)
+        }
+    }
+}
+
+/// `.FUNCTION(TERM,..)`.
+fn called_at(alloc: Global, words: &Words<'_>, bytes: &[u8]) -> Result<(Name, Vec<Term>), Unread>
+    ensures { Gives (λ x. (x.0, map term_of x.1.items)) result (called_at words.now bytes.now) }
+{
+    let Some(rest) = behind(POINT, bytes) else {
+        return Err(Unread::Form);
     };
-    Ok(Line::Call {
-        to,
-        target,
-        function,
-        arguments,
-    })
+    let Some((function, rest)) = function_at(rest) else {
+        return Err(Unread::Form);
+    };
+    let Some(rest) = behind(OPENS, rest) else {
+        return Err(Unread::Form);
+    };
+    let arguments = arguments_at(alloc, words, rest)?;
+    match Name::of(alloc, function) {
+        Ok(function) => Ok((function, arguments)),
+        Err(_) => {
+            drop(arguments);
+            Err(Unread::NoMemory)
+        }
+    }
 }
 
 /// `query ID TYPE = WORD`.
@@ -154,8 +215,13 @@ pub(crate) fn query_at(alloc: Global, bytes: &[u8]) -> Result<Line, Unread>
     ensures { Gives line_of result (model.query_at bytes.now) }
 {
     let (declared, rest) = declared_at(alloc, EQUALS, bytes)?;
-    let target = whole_word(alloc, rest)?;
-    Ok(Line::Query(declared, target))
+    match whole_word(alloc, rest) {
+        Ok(target) => Ok(Line::Query(declared, target)),
+        Err(unread) => {
+            drop(declared);
+            Err(unread)
+        }
+    }
 }
 
 /// `new ID TYPE = ID`.
@@ -164,8 +230,17 @@ pub(crate) fn make_at(alloc: Global, bytes: &[u8]) -> Result<Line, Unread>
     ensures { Gives line_of result (model.make_at bytes.now) }
 {
     let (declared, rest) = declared_at(alloc, EQUALS, bytes)?;
-    let behaviour = last_identifier(alloc, rest)?;
-    Ok(Line::Make(declared, behaviour))
+    let Some(behaviour) = whole(identifier_at(rest)) else {
+        drop(declared);
+        return Err(Unread::Form);
+    };
+    match Name::of(alloc, behaviour) {
+        Ok(behaviour) => Ok(Line::Make(declared, behaviour)),
+        Err(_) => {
+            drop(declared);
+            Err(Unread::NoMemory)
+        }
+    }
 }
 
 /// `drop $ID`.
@@ -183,9 +258,46 @@ pub(crate) fn when_at(alloc: Global, words: &Words<'_>, bytes: &[u8]) -> Result<
     ensures { Gives line_of result (model.when_at words.now bytes.now) }
 {
     let (left, rest) = word_at(alloc, bytes)?;
-    let (comparison, rest) = comparison_at(rest)?;
-    let (right, rest) = term_at(alloc, words, rest)?;
-    match behind_test(alloc, words, rest) {
+    match comparison_at(rest) {
+        Some((comparison, rest)) => when_compared(alloc, words, left, comparison, rest),
+        None => {
+            drop(left);
+            Err(Unread::Form)
+        }
+    }
+}
+
+/// The test of a word, by what stands behind its comparison.
+fn when_compared(
+    alloc: Global,
+    words: &Words<'_>,
+    left: Word,
+    comparison: Comparison,
+    bytes: &[u8],
+) -> Result<Line, Unread>
+    ensures { Gives line_of result (on_some (term_at words.now bytes.now) (model.when_of words.now (word_of left) comparison)) }
+{
+    match term_at(alloc, words, bytes) {
+        Ok((right, rest)) => when_against(alloc, words, left, comparison, right, rest),
+        Err(unread) => {
+            drop(left);
+            Err(unread)
+        }
+    }
+}
+
+/// The test of a word against a term, by what stands behind that.
+fn when_against(
+    alloc: Global,
+    words: &Words<'_>,
+    left: Word,
+    comparison: Comparison,
+    right: Term,
+    bytes: &[u8],
+) -> Result<Line, Unread>
+    ensures { Gives line_of result (model.when_of words.now (word_of left) comparison (term_of right, bytes.now)) }
+{
+    match behind_test(alloc, words, bytes) {
         Ok(back) => Ok(Line::When {
             left,
             comparison,
@@ -193,6 +305,7 @@ pub(crate) fn when_at(alloc: Global, words: &Words<'_>, bytes: &[u8]) -> Result<
             back,
         }),
         Err(unread) => {
+            drop(left);
             drop(right);
             Err(unread)
         }
@@ -200,21 +313,23 @@ pub(crate) fn when_at(alloc: Global, words: &Words<'_>, bytes: &[u8]) -> Result<
 }
 
 /// How a test compares, with the blanks round it.
-fn comparison_at(bytes: &[u8]) -> Front<'_, Comparison>
-    ensures { Gives (λ x. (x.0, x.1.now)) result (model.comparison_at bytes.now) }
+fn comparison_at(bytes: &[u8]) -> Option<(Comparison, &[u8])>
+    ensures { option_map (λ x. (x.0, x.1.now)) result ≡ model.comparison_at bytes.now }
 {
-    if let Some(rest) = stripped(EQUAL, bytes) {
-        return Ok((Comparison::Equal, rest));
+    if let Some(rest) = behind(EQUAL, bytes) {
+        return Some((Comparison::Equal, rest));
     }
     let rest = behind(LESS, bytes)?;
-    Ok((Comparison::Less, rest))
+    Some((Comparison::Less, rest))
 }
 
 /// ` return TERM`, where the term may be left out.
 fn behind_test(alloc: Global, words: &Words<'_>, bytes: &[u8]) -> Result<Option<Term>, Unread>
     ensures { Gives (option_map term_of) result (on_some (behind (codes " return") bytes.now) (model.back_at words.now)) }
 {
-    let rest = behind(RETURN, bytes)?;
+    let Some(rest) = behind(RETURN, bytes) else {
+        return Err(Unread::Form);
+    };
     back_at(alloc, words, rest)
 }
 
@@ -228,8 +343,10 @@ fn back_at(alloc: Global, words: &Words<'_>, bytes: &[u8]) -> Result<Option<Term
     if *first != b' ' {
         return Err(Unread::Form);
     }
-    let term = whole_term(alloc, words, rest)?;
-    Ok(Some(term))
+    match whole_term(alloc, words, rest) {
+        Ok(term) => Ok(Some(term)),
+        Err(unread) => Err(unread),
+    }
 }
 
 /// `return TERM`.
@@ -237,8 +354,10 @@ fn back_at(alloc: Global, words: &Words<'_>, bytes: &[u8]) -> Result<Option<Term
 pub(crate) fn return_at(alloc: Global, words: &Words<'_>, bytes: &[u8]) -> Result<Line, Unread>
     ensures { Gives line_of result (model.return_at words.now bytes.now) }
 {
-    let term = whole_term(alloc, words, bytes)?;
-    Ok(Line::Return(Some(term)))
+    match whole_term(alloc, words, bytes) {
+        Ok(term) => Ok(Line::Return(Some(term))),
+        Err(unread) => Err(unread),
+    }
 }
 
 /// `raise TYPE TERM`.
@@ -246,11 +365,19 @@ pub(crate) fn return_at(alloc: Global, words: &Words<'_>, bytes: &[u8]) -> Resul
 pub(crate) fn raise_at(alloc: Global, words: &Words<'_>, bytes: &[u8]) -> Result<Line, Unread>
     ensures { Gives line_of result (model.raise_at words.now bytes.now) }
 {
-    let (kind, rest) = type_at(bytes)?;
-    let rest = behind_blank(rest)?;
-    let kind = Name::of(alloc, kind)?;
-    let term = whole_term(alloc, words, rest)?;
-    Ok(Line::Raise(kind, term))
+    let Some((kind, rest)) = before_blank(type_at(bytes)) else {
+        return Err(Unread::Form);
+    };
+    let Ok(kind) = Name::of(alloc, kind) else {
+        return Err(Unread::NoMemory);
+    };
+    match whole_term(alloc, words, rest) {
+        Ok(term) => Ok(Line::Raise(kind, term)),
+        Err(unread) => {
+            drop(kind);
+            Err(unread)
+        }
+    }
 }
 
 /// `ask ID TYPE = "NAME"`, or `instance` in place of the name.
@@ -262,12 +389,26 @@ pub(crate) fn ask_at(alloc: Global, bytes: &[u8]) -> Result<Line, Unread>
     if rest == INSTANCE {
         return Ok(Line::AskInstance(declared));
     }
-    let (name, rest) = export_name_at(rest)?;
-    if !rest.is_empty() {
-        return Err(Unread::Form);
+    match whole_export_name(alloc, rest) {
+        Ok(name) => Ok(Line::Ask(declared, name)),
+        Err(unread) => {
+            drop(declared);
+            Err(unread)
+        }
     }
-    let name = Text::of(alloc, name)?;
-    Ok(Line::Ask(declared, name))
+}
+
+/// The name of an export that is all of a text.
+fn whole_export_name(alloc: Global, bytes: &[u8]) -> Result<Text, Unread>
+    ensures { Gives (λ name. name) result (at_end (export_name_at bytes.now)) }
+{
+    let Some(name) = whole(export_name_at(bytes)) else {
+        return Err(Unread::Form);
+    };
+    match Text::of(alloc, name) {
+        Ok(name) => Ok(name),
+        Err(_) => Err(Unread::NoMemory),
+    }
 }
 
 /// `same $ID $ID`.
@@ -276,7 +417,15 @@ pub(crate) fn same_at(alloc: Global, bytes: &[u8]) -> Result<Line, Unread>
     ensures { Gives line_of result (model.same_at bytes.now) }
 {
     let (left, rest) = variable_at(alloc, bytes)?;
-    let rest = behind_blank(rest)?;
-    let right = whole_variable(alloc, rest)?;
-    Ok(Line::Same(left, right))
+    let Some(rest) = behind_blank(rest) else {
+        drop(left);
+        return Err(Unread::Form);
+    };
+    match whole_variable(alloc, rest) {
+        Ok(right) => Ok(Line::Same(left, right)),
+        Err(unread) => {
+            drop(left);
+            Err(unread)
+        }
+    }
 }

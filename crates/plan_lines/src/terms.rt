@@ -110,8 +110,12 @@ impl Inside<'_, '_> {
     fn cast_at<'t>(&self, bytes: &'t [u8]) -> Front<'t, Term>
         ensures { Gives term_front result (on_some (type_at bytes.now) (model.cast_of (inside_of self.now))) }
     {
-        let (kind, rest) = type_at(bytes)?;
-        let rest = behind(CLOSES, rest)?;
+        let Some((kind, rest)) = type_at(bytes) else {
+            return Err(Unread::Form);
+        };
+        let Some(rest) = behind(CLOSES, rest) else {
+            return Err(Unread::Form);
+        };
         self.cast_value(kind, rest)
     }
 
@@ -126,8 +130,10 @@ impl Inside<'_, '_> {
         if kind == "any" {
             return Err(Unread::Form);
         }
-        let (value, rest) = self.term_at(rest)?;
-        typed_before(self.alloc, kind, value, rest)
+        match self.term_at(rest) {
+            Ok((value, rest)) => typed_before(self.alloc, kind, value, rest),
+            Err(unread) => Err(unread),
+        }
     }
 
     /// The elements of a sequence, of which there may be none, and the bracket behind them.
@@ -142,8 +148,10 @@ impl Inside<'_, '_> {
         if *first == b']' {
             return Ok((Term::Elements(Vec::new(self.alloc)), behind));
         }
-        let (elements, rest) = self.terms_on(b']', bytes)?;
-        Ok((Term::Elements(elements), rest))
+        match self.terms_on(b']', bytes) {
+            Ok((elements, rest)) => Ok((Term::Elements(elements), rest)),
+            Err(unread) => Err(unread),
+        }
     }
 
     /// The members of a struct or an exception, and the bracket behind them.
@@ -152,8 +160,10 @@ impl Inside<'_, '_> {
     fn members_at<'t>(&self, bytes: &'t [u8]) -> Front<'t, Term>
         ensures { Gives term_front result (model.members_at (inside_of self.now) bytes.now) }
     {
-        let (members, rest) = self.terms_on(b'}', bytes)?;
-        Ok((Term::Members(members), rest))
+        match self.terms_on(b'}', bytes) {
+            Ok((members, rest)) => Ok((Term::Members(members), rest)),
+            Err(unread) => Err(unread),
+        }
     }
 
     /// Terms with commas between them, and the byte that closes them.
@@ -250,13 +260,15 @@ impl Inside<'_, '_> {
     fn closed_term<'t>(&self, bytes: &'t [u8]) -> Front<'t, Term>
         ensures { Gives term_front result (closed_term (inside_of self.now) bytes.now) }
     {
-        let rest = behind(COMMA, bytes)?;
+        let Some(rest) = behind(COMMA, bytes) else {
+            return Err(Unread::Form);
+        };
         let (term, rest) = self.term_at(rest)?;
         match behind(CLOSES, rest) {
-            Ok(rest) => Ok((term, rest)),
-            Err(unread) => {
+            Some(rest) => Ok((term, rest)),
+            None => {
                 drop(term);
-                Err(unread)
+                Err(Unread::Form)
             }
         }
     }

@@ -3,12 +3,11 @@ ghost use Rattle.std.specs.Prelude.{◌≡◌, ◌++◌, ℕ, List, MatchOption,
 ghost use Rattle.std.specs.Str.{bytes_eq};
 ghost use Rattle.plan_model.specs.Forms.{is_type_text, is_plain_type};
 ghost use Rattle.plan_reading_model.specs.Parts as model;
-ghost use Rattle.plan_lines.specs.Reads.{Gives, both};
+ghost use Rattle.plan_lines.specs.Reads.{both};
 ghost use Rattle.plan_lines.specs.Runs.{second_at};
 
 use crate::class::{Class, as_text, split};
 use crate::names::is_path;
-use crate::unread::{Front, Unread};
 
 /// The first word of a type that may have a second one.
 const UNSIGNED: &[u8] = b"unsigned";
@@ -18,14 +17,14 @@ const BRACKETS: &str = "[]";
 
 /// A type.
 #[tactic(auto, unfolding(plan_reading_model::specs::Parts::type_at))]
-pub(crate) fn type_at(bytes: &[u8]) -> Front<'_, &str>
-    ensures { Gives both result (model.type_at bytes.now) }
+pub(crate) fn type_at(bytes: &[u8]) -> Option<(&str, &[u8])>
+    ensures { option_map both result ≡ model.type_at bytes.now }
 {
     let (kind, rest) = type_run(bytes);
     if !is_type(kind) {
-        return Err(Unread::Form);
+        return None;
     }
-    Ok((kind, rest))
+    Some((kind, rest))
 }
 
 /// The word or the two words of a type.
