@@ -27,6 +27,7 @@ use crate::functions::number_in;
 use crate::limits::{has_deep, heading_weight, is_full, is_heavy};
 use crate::running::{Running, Scene, Target};
 use crate::target::object_of_word;
+use crate::values::push_value;
 use crate::words::copy_under;
 use plan_types::{Argument, Call, Query, RuntimeCause};
 use std::alloc::Global;
@@ -82,13 +83,11 @@ fn calls_with(
     requires { IsSound registry.now }
     ensures { IfOk result (λ e. effect_of e ≡ calls_object registry.now (running_of running.entry) (call_of call.now) (target_of target.entry) (identity_of (target_of target.entry)) (face_of (target_of target.entry)) (Some (map plain_of args.items))) }
 {
-    match why_unsent(running, target, &args) {
-        Some(cause) => {
-            drop(args);
-            fails(alloc, registry, running, cause)
-        }
-        None => makes_call(alloc, registry, call, target, args),
+    if let Some(cause) = why_unsent(running, target, &args) {
+        drop(args);
+        return fails(alloc, registry, running, cause);
     }
+    makes_call(alloc, registry, call, target, args)
 }
 
 /// The call itself.
@@ -102,9 +101,19 @@ fn makes_call(
     requires { IsSound registry.now }
     ensures { IfOk result (λ e. effect_of e ≡ calls (target_of target.entry) (number_in registry.now (face_of (target_of target.entry)) (callee_of call.now.callee)) (map plain_of args.items) (option_map (λ f. f.name) (option_map field_of call.now.to))) }
 {
-    let function = number_in(alloc, registry, target.face(), &call.callee)?;
-    let to = name_of(alloc, &call.to)?;
-    let target = target.copy(alloc)?;
+    let Ok(function) = number_in(alloc, registry, target.face(), &call.callee) else {
+        drop(args);
+        return Err(NoMemory);
+    };
+    let Ok(to) = name_of(alloc, &call.to) else {
+        drop(args);
+        return Err(NoMemory);
+    };
+    let Ok(target) = target.copy(alloc) else {
+        drop(to);
+        drop(args);
+        return Err(NoMemory);
+    };
     Ok(Effect::Calls {
         target,
         function,
@@ -147,10 +156,10 @@ fn request_weight(tid: &Tid, oid: &str, face: &str, args: &[Value]) -> u64
 fn name_of(alloc: Global, to: &Option<Field>) -> Result<Option<Name>, NoMemory>
     ensures { IfOk result (λ name. name ≡ option_map (λ f. f.name) (option_map field_of to.now)) }
 {
-    match to {
-        Some(field) => Ok(Some(field.name.copy(alloc)?)),
-        None => Ok(None),
-    }
+    let Some(field) = to else {
+        return Ok(None);
+    };
+    Ok(Some(field.name.copy(alloc)?))
 }
 
 /// The values that go with a call: those of expressions, and of variables that go both ways; none where an operation has no result.
@@ -163,7 +172,12 @@ pub(crate) fn given_values(
 {
     let mut values = Vec::new(alloc);
     for argument in arguments {
-        if !push_given(&mut values, alloc, scene, argument)? {
+        let Ok(is_given) = push_given(&mut values, alloc, scene, argument) else {
+            drop(values);
+            return Err(NoMemory);
+        };
+        if !is_given {
+            drop(values);
             return Ok(None);
         }
     }
@@ -185,12 +199,12 @@ fn push_given(
             let Some(value) = value_of(expression, alloc, scene)? else {
                 return Ok(false);
             };
-            values.push(value)?;
+            push_value(values, value)?;
             Ok(true)
         }
         Argument::Out(_) => Ok(true),
         Argument::Both(name) => {
-            values.push(copy_under(alloc, name, scene.variables)?)?;
+            push_value(values, copy_under(alloc, name, scene.variables)?)?;
             Ok(true)
         }
     }
@@ -256,8 +270,15 @@ fn makes_query(alloc: Global, query: &Query, target: Target) -> Result<Effect, N
     ensures { IfOk result (λ e. effect_of e ≡ queries (target_of target.entry) query.now.wanted query.now.to) }
 {
     let wanted = query.wanted.copy(alloc)?;
-    let to = query.to.copy(alloc)?;
-    let target = target.copy(alloc)?;
+    let Ok(to) = query.to.copy(alloc) else {
+        drop(wanted);
+        return Err(NoMemory);
+    };
+    let Ok(target) = target.copy(alloc) else {
+        drop(wanted);
+        drop(to);
+        return Err(NoMemory);
+    };
     Ok(Effect::Queries { target, wanted, to })
 }
 
@@ -267,6 +288,9 @@ fn wanted_type(alloc: Global, query: &Query) -> Result<Vec<Value>, NoMemory>
 {
     let kind = TypeName::Interface(query.wanted.copy(alloc)?);
     let mut args = Vec::new(alloc);
-    args.push(Value::Kind(kind))?;
+    if let Err(error) = push_value(&mut args, Value::Kind(kind)) {
+        drop(args);
+        return Err(error);
+    }
     Ok(args)
 }

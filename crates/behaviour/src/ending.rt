@@ -75,14 +75,12 @@ pub(crate) fn returns(
 ) -> Result<Effect, NoMemory>
     ensures { IfOk result (λ e. effect_of e ≡ ends_with registry.now (running_of running.entry) (returned (plain_of value) (map plain_of outs.items))) }
 {
-    match answer_excess(registry, running.tid, &value, &outs) {
-        None => Ok(Effect::Returns { value, outs }),
-        Some(cause) => {
-            drop(value);
-            drop(outs);
-            raises_cause(alloc, cause)
-        }
+    if let Some(cause) = answer_excess(registry, running.tid, &value, &outs) {
+        drop(value);
+        drop(outs);
+        return raises_cause(alloc, cause);
     }
+    Ok(Effect::Returns { value, outs })
 }
 
 /// Why what is returned does not leave a frame as it is.

@@ -11,6 +11,7 @@ ghost use Rattle.behaviour.specs.Running.{scene_of, outcome_of};
 use crate::limits::{is_deep, is_heavy};
 use crate::operation::operated;
 use crate::running::Scene;
+use crate::values::push_value;
 use crate::words::value_of_word;
 use plan_types::{Expression, Operation, RuntimeCause};
 use std::alloc::Global;
@@ -33,13 +34,14 @@ pub(crate) fn value_of(
         Expression::Word(word) => Ok(Some(value_of_word(alloc, scene, word)?)),
         Expression::Operation(operation, left, right) => {
             let left = value_of(left, alloc, scene)?;
-            match value_of(right, alloc, scene) {
-                Ok(right) => Ok(both_operated(*operation, left, right)),
-                Err(error) => {
-                    drop(left);
-                    Err(error)
-                }
-            }
+            let Ok(right) = value_of(right, alloc, scene) else {
+                drop(left);
+                return Err(NoMemory);
+            };
+            let result = both_operated(*operation, &left, &right);
+            drop(left);
+            drop(right);
+            Ok(result)
         }
         Expression::Any(kind, held) => any_of(alloc, kind, value_of(held, alloc, scene)?),
         Expression::Tuple(name, members) => {
@@ -64,19 +66,33 @@ fn values_of(
 {
     let mut values = Vec::new(alloc);
     for expression in expressions {
-        match value_of(expression, alloc, scene)? {
-            Some(value) => values.push(value)?,
-            None => return Ok(None),
+        let Ok(value) = value_of(expression, alloc, scene) else {
+            drop(values);
+            return Err(NoMemory);
+        };
+        let Some(value) = value else {
+            drop(values);
+            return Ok(None);
+        };
+        if let Err(error) = push_value(&mut values, value) {
+            drop(values);
+            return Err(error);
         }
     }
     Ok(Some(values))
 }
 
 /// The result of an operation, where both numbers are there.
-fn both_operated(operation: Operation, left: Option<Value>, right: Option<Value>) -> Option<Value>
-    ensures { option_map plain_of result ≡ both_values (option_map plain_of left) (option_map plain_of right) (operated operation) }
+fn both_operated(operation: Operation, left: &Option<Value>, right: &Option<Value>) -> Option<Value>
+    ensures { option_map plain_of result ≡ both_values (option_map plain_of left.now) (option_map plain_of right.now) (operated operation) }
 {
-    operated(operation, &left?, &right?)
+    let Some(left) = left else {
+        return None;
+    };
+    let Some(right) = right else {
+        return None;
+    };
+    operated(operation, left, right)
 }
 
 /// An any of what is there.
@@ -105,7 +121,10 @@ fn tuple_of(
     let Some(members) = members else {
         return Ok(None);
     };
-    let name = name.copy(alloc)?;
+    let Ok(name) = name.copy(alloc) else {
+        drop(members);
+        return Err(NoMemory);
+    };
     Ok(Some(Value::Tuple(name, members)))
 }
 
@@ -120,7 +139,10 @@ fn list_of(
     let Some(elements) = elements else {
         return Ok(None);
     };
-    let kind = kind.copy(alloc)?;
+    let Ok(kind) = kind.copy(alloc) else {
+        drop(elements);
+        return Err(NoMemory);
+    };
     Ok(Some(Value::List(kind, elements)))
 }
 
@@ -131,8 +153,9 @@ fn bytes_of(alloc: Global, elements: Option<Vec<Value>>) -> Result<Option<Value>
     let Some(elements) = elements else {
         return Ok(None);
     };
-    let bytes = bytes_in(alloc, &elements)?;
-    Ok(Some(Value::Bytes(bytes)))
+    let bytes = bytes_in(alloc, &elements);
+    drop(elements);
+    Ok(Some(Value::Bytes(bytes?)))
 }
 
 /// The byte of each value.
@@ -176,13 +199,11 @@ pub(crate) fn evaluated(
 fn bounded(registry: &Registry, value: Value) -> Result<Value, RuntimeCause>
     ensures { outcome_of result ≡ bounded (plain_of value) }
 {
-    match excess(registry, &value) {
-        None => Ok(value),
-        Some(cause) => {
-            drop(value);
-            Err(cause)
-        }
+    if let Some(cause) = excess(registry, &value) {
+        drop(value);
+        return Err(cause);
     }
+    Ok(value)
 }
 
 /// Why a value is too large.

@@ -14,6 +14,7 @@ ghost use Rattle.uno_model.specs.Values as plain;
 ghost use Rattle.uno_values.specs.Values.{plain_of, plains_of};
 ghost use Rattle.behaviour.specs.Answers.{raised_of, runtime_value};
 
+use crate::values::push_value;
 use plan_types::RuntimeCause;
 use std::alloc::Global;
 use type_registry::FunctionRef;
@@ -56,7 +57,10 @@ pub(crate) fn undeclared_value(alloc: Global, name: &str) -> Result<Value, NoMem
     ensures { IfOk result (λ x. plain_of x ≡ runtime_value (codes "undeclared " ++ name.now)) }
 {
     let mut message = String::from_str(alloc, UNDECLARED)?;
-    message.push_str(name)?;
+    let Ok(()) = message.push_str(name) else {
+        drop(message);
+        return Err(NoMemory);
+    };
     runtime_value(alloc, Text::from(message))
 }
 
@@ -67,7 +71,10 @@ fn runtime_value(alloc: Global, message: Text) -> Result<Value, NoMemory>
     ensures { IfOk result (λ x. plain_of x ≡ runtime_value message) }
 {
     let members = message_alone(alloc, message)?;
-    let name = Name::of(alloc, RUNTIME_EXCEPTION)?;
+    let Ok(name) = Name::of(alloc, RUNTIME_EXCEPTION) else {
+        drop(members);
+        return Err(NoMemory);
+    };
     Ok(Value::Tuple(name, members))
 }
 
@@ -76,8 +83,14 @@ fn message_alone(alloc: Global, message: Text) -> Result<Vec<Value>, NoMemory>
     ensures { IfOk result (λ xs. plains_of xs.items ≡ plain.more (plain.str message) (plain.more (plain.ref null) plain.none)) }
 {
     let mut members = Vec::new(alloc);
-    members.push(Value::Str(message))?;
-    members.push(Value::Ref(Reference::Null))?;
+    if let Err(error) = push_value(&mut members, Value::Str(message)) {
+        drop(members);
+        return Err(error);
+    }
+    if let Err(error) = push_value(&mut members, Value::Ref(Reference::Null)) {
+        drop(members);
+        return Err(error);
+    }
     Ok(members)
 }
 
@@ -85,16 +98,14 @@ fn message_alone(alloc: Global, message: Text) -> Result<Vec<Value>, NoMemory>
 pub(crate) fn exception_of(alloc: Global, name: &str, value: Value) -> Result<AnyValue, NoMemory>
     ensures { IfOk result (λ x. raised_of x ≡ raised (kd.exception name.now) (plain_of value)) }
 {
-    match Name::of(alloc, name) {
-        Ok(name) => Ok(AnyValue {
-            kind: TypeName::Exception(name),
-            value,
-        }),
-        Err(error) => {
-            drop(value);
-            Err(error)
-        }
-    }
+    let Ok(name) = Name::of(alloc, name) else {
+        drop(value);
+        return Err(NoMemory);
+    };
+    Ok(AnyValue {
+        kind: TypeName::Exception(name),
+        value,
+    })
 }
 
 /// Whether a function may raise an exception of a type: it declares it or a base of it, or the exception derives from the one that every

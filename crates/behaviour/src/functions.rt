@@ -13,6 +13,7 @@ ghost use Rattle.uno_model.specs.Sound.{IsSound};
 ghost use Rattle.uno_values.specs.Values.{plain_of};
 ghost use Rattle.behaviour.specs.Functions.{is_callee, one_or_none};
 
+use crate::values::push_value;
 use crate::words::copy_under;
 use plan_types::{Callee, Variable};
 use std::alloc::Global;
@@ -38,7 +39,11 @@ pub fn number_in(
         return Ok(number);
     }
     match function_table(alloc, registry, face) {
-        Ok(table) => place_among(&table, callee),
+        Ok(table) => {
+            let place = place_among(&table, callee);
+            drop(table);
+            place
+        }
         Err(TableError::NoMemory) => Err(NoMemory),
         Err(TableError::NotInterface) => Ok(number_one_by_one(registry, face, callee)),
     }
@@ -149,7 +154,10 @@ pub(crate) fn out_values(
 {
     let mut values = Vec::new(alloc);
     for place in 0..function.param_count() {
-        push_out(&mut values, alloc, function.param(place), variables)?;
+        if let Err(error) = push_out(&mut values, alloc, function.param(place), variables) {
+            drop(values);
+            return Err(error);
+        }
     }
     Ok(values)
 }
@@ -170,8 +178,7 @@ fn push_out(
     if !comes(param.way) {
         return Ok(());
     }
-    values.push(copy_under(alloc, param.name, variables)?)?;
-    Ok(())
+    push_value(values, copy_under(alloc, param.name, variables)?)
 }
 
 /// Whether a parameter's value comes with the answer.
@@ -210,7 +217,10 @@ pub(crate) fn default_outs(
 {
     let mut values = Vec::new(alloc);
     for place in 0..function.param_count() {
-        push_default(&mut values, alloc, registry, function.param(place))?;
+        if let Err(error) = push_default(&mut values, alloc, registry, function.param(place)) {
+            drop(values);
+            return Err(error);
+        }
     }
     Ok(values)
 }
@@ -232,6 +242,5 @@ fn push_default(
     if !comes(param.way) {
         return Ok(());
     }
-    values.push(default_of(alloc, registry, param.kind)?)?;
-    Ok(())
+    push_value(values, default_of(alloc, registry, param.kind)?)
 }

@@ -26,13 +26,11 @@ pub fn next(alloc: Global, plan: &Plan, registry: &Registry, job: Job) -> Result
     ensures same { IfOk result (λ d. job_of d.job ≡ job_of job) }
     ensures asks { IfOk result (λ d. effect_of d.effect ≡ effect (plan_of plan.now) registry.now (job_of job)) }
 {
-    match effect_of_job(alloc, plan, registry, &job) {
-        Ok(effect) => Ok(Done { job, effect }),
-        Err(error) => {
-            drop(job);
-            Err(error)
-        }
-    }
+    let Ok(effect) = effect_of_job(alloc, plan, registry, &job) else {
+        drop(job);
+        return Err(NoMemory);
+    };
+    Ok(Done { job, effect })
 }
 
 #[tactic(auto, unfolding(plan_model::specs::Effects::effect, message_model::specs::Calls::numbered))]

@@ -76,8 +76,9 @@ fn undeclared(alloc: Global, kind: &TypeName) -> Result<AnyValue, NoMemory>
     ensures { IfOk result (λ x. raised_of x ≡ runtime_raised (codes "undeclared " ++ name_of (kind_of kind.now))) }
 {
     let name = type_name(alloc, kind)?;
-    let value = undeclared_value(alloc, name.as_str())?;
-    exception_of(alloc, RUNTIME_EXCEPTION, value)
+    let value = undeclared_value(alloc, name.as_str());
+    drop(name);
+    exception_of(alloc, RUNTIME_EXCEPTION, value?)
 }
 
 /// The name of a type.
@@ -87,10 +88,16 @@ fn type_name(alloc: Global, kind: &TypeName) -> Result<String, NoMemory>
     let mut name = String::new(alloc);
     let mut kind = kind;
     while let TypeName::Sequence(inner) = kind {
-        name.push_str("[]")?;
+        let Ok(()) = name.push_str("[]") else {
+            drop(name);
+            return Err(NoMemory);
+        };
         kind = inner;
     }
-    name.push_str(kind.front())?;
+    let Ok(()) = name.push_str(kind.front()) else {
+        drop(name);
+        return Err(NoMemory);
+    };
     Ok(name)
 }
 
@@ -98,13 +105,11 @@ fn type_name(alloc: Global, kind: &TypeName) -> Result<String, NoMemory>
 fn sendable(alloc: Global, tid: &Tid, exception: AnyValue) -> Result<AnyValue, NoMemory>
     ensures { IfOk result (λ x. (face : List ℕ) (number : ℕ) → raised_of x ≡ sendable tid.now face number (raised_of exception)) }
 {
-    match exception_excess(tid, &exception) {
-        None => Ok(exception),
-        Some(cause) => {
-            drop(exception);
-            caused(alloc, cause)
-        }
+    if let Some(cause) = exception_excess(tid, &exception) {
+        drop(exception);
+        return caused(alloc, cause);
     }
+    Ok(exception)
 }
 
 /// Why an exception does not leave a frame as it is.

@@ -19,6 +19,7 @@ mod running;
 mod statements;
 mod target;
 mod threads;
+mod values;
 mod words;
 
 pub use calling::why_too_much;

@@ -75,7 +75,10 @@ fn creates(alloc: Global, scene: Scene) -> Result<Effect, NoMemory>
     ensures { IfOk result (λ e. effect_of e ≡ asked.creates (text_of (given 0 (scene_of scene.entry))) (elements_of (given 1 (scene_of scene.entry)))) }
 {
     let name = text_of(alloc, given(0, scene))?;
-    let args = elements_of(alloc, given(1, scene))?;
+    let Ok(args) = elements_of(alloc, given(1, scene)) else {
+        drop(name);
+        return Err(NoMemory);
+    };
     Ok(Effect::Creates { name, args })
 }
 
@@ -83,7 +86,10 @@ fn creates(alloc: Global, scene: Scene) -> Result<Effect, NoMemory>
 fn given(place: usize, scene: Scene<'_>) -> Option<&Value>
     ensures { value_or_void result ≡ given place (scene_of scene.entry) }
 {
-    Some(&scene.variables.get(place)?.value)
+    let Some(variable) = scene.variables.get(place) else {
+        return None;
+    };
+    Some(&variable.value)
 }
 
 /// A text; what is no text is as an empty one.
@@ -116,6 +122,5 @@ fn elements_of(alloc: Global, value: Option<&Value>) -> Result<Vec<Value>, NoMem
 fn copy_elements(alloc: Global, elements: &[Value]) -> Result<Vec<Value>, NoMemory>
     ensures { IfOk result (λ copies. map plain_of copies.items ≡ values_in (plains_of elements.now)) }
 {
-    let copies = copy_all(elements, alloc)?;
-    Ok(copies)
+    copy_all(elements, alloc)
 }

@@ -7,6 +7,7 @@ ghost use Rattle.uno_model.specs.Values as plain;
 ghost use Rattle.uno_model.specs.Values.{plains};
 ghost use Rattle.uno_values.specs.Values.{plain_of, plains_of};
 
+use crate::values::push_value;
 use plan_types::Plan;
 use service_manager::service_names;
 use std::alloc::Global;
@@ -40,7 +41,10 @@ fn strings(alloc: Global, texts: Vec<Text>) -> Result<Vec<Value>, NoMemory>
 {
     let mut strings = Vec::new(alloc);
     for text in texts {
-        strings.push(Value::Str(text))?;
+        if let Err(error) = push_value(&mut strings, Value::Str(text)) {
+            drop(strings);
+            return Err(error);
+        }
     }
     Ok(strings)
 }

@@ -50,7 +50,10 @@ fn byte(operation: Operation, left: i8, right: &Value) -> Option<Value>
         return None;
     };
     let number = combined(operation, left as i64, *right as i64);
-    Some(Value::Byte(i8::try_from(number).ok()?))
+    let Ok(number) = i8::try_from(number) else {
+        return None;
+    };
+    Some(Value::Byte(number))
 }
 
 fn short(operation: Operation, left: i16, right: &Value) -> Option<Value>
@@ -60,7 +63,10 @@ fn short(operation: Operation, left: i16, right: &Value) -> Option<Value>
         return None;
     };
     let number = combined(operation, left as i64, *right as i64);
-    Some(Value::Short(i16::try_from(number).ok()?))
+    let Ok(number) = i16::try_from(number) else {
+        return None;
+    };
+    Some(Value::Short(number))
 }
 
 fn unsigned_short(operation: Operation, left: u16, right: &Value) -> Option<Value>
@@ -70,7 +76,10 @@ fn unsigned_short(operation: Operation, left: u16, right: &Value) -> Option<Valu
         return None;
     };
     let number = combined_unsigned(operation, left as u64, *right as u64);
-    Some(Value::UnsignedShort(u16::try_from(number).ok()?))
+    let Ok(number) = u16::try_from(number) else {
+        return None;
+    };
+    Some(Value::UnsignedShort(number))
 }
 
 fn long(operation: Operation, left: i32, right: &Value) -> Option<Value>
@@ -80,7 +89,10 @@ fn long(operation: Operation, left: i32, right: &Value) -> Option<Value>
         return None;
     };
     let number = combined(operation, left as i64, *right as i64);
-    Some(Value::Long(i32::try_from(number).ok()?))
+    let Ok(number) = i32::try_from(number) else {
+        return None;
+    };
+    Some(Value::Long(number))
 }
 
 fn unsigned_long(operation: Operation, left: u32, right: &Value) -> Option<Value>
@@ -90,7 +102,10 @@ fn unsigned_long(operation: Operation, left: u32, right: &Value) -> Option<Value
         return None;
     };
     let number = combined_unsigned(operation, left as u64, *right as u64);
-    Some(Value::UnsignedLong(u32::try_from(number).ok()?))
+    let Ok(number) = u32::try_from(number) else {
+        return None;
+    };
+    Some(Value::UnsignedLong(number))
 }
 
 fn hyper(operation: Operation, left: i64, right: &Value) -> Option<Value>
@@ -100,7 +115,10 @@ fn hyper(operation: Operation, left: i64, right: &Value) -> Option<Value>
         return None;
     };
     let number = combined(operation, left, *right);
-    Some(Value::Hyper(i64::try_from(number).ok()?))
+    let Ok(number) = i64::try_from(number) else {
+        return None;
+    };
+    Some(Value::Hyper(number))
 }
 
 fn unsigned_hyper(operation: Operation, left: u64, right: &Value) -> Option<Value>
@@ -110,5 +128,8 @@ fn unsigned_hyper(operation: Operation, left: u64, right: &Value) -> Option<Valu
         return None;
     };
     let number = combined_unsigned(operation, left, *right);
-    Some(Value::UnsignedHyper(u64::try_from(number).ok()?))
+    let Ok(number) = u64::try_from(number) else {
+        return None;
+    };
+    Some(Value::UnsignedHyper(number))
 }

@@ -109,13 +109,11 @@ fn set_field_effect(
 fn variable(alloc: Global, name: &Name, value: Value) -> Result<Variable, NoMemory>
     ensures { IfOk result (λ x. (x.name ≡ name.now) × (plain_of x.value ≡ plain_of value)) }
 {
-    match name.copy(alloc) {
-        Ok(name) => Ok(Variable { name, value }),
-        Err(error) => {
-            drop(value);
-            Err(error)
-        }
-    }
+    let Ok(name) = name.copy(alloc) else {
+        drop(value);
+        return Err(NoMemory);
+    };
+    Ok(Variable { name, value })
 }
 
 /// A new object.
@@ -123,7 +121,10 @@ fn make_effect(alloc: Global, making: &Making) -> Result<Effect, NoMemory>
     ensures { IfOk result (λ e. effect_of e ≡ make_effect (making_of making.now)) }
 {
     let face = making.face.copy(alloc)?;
-    let to = making.to.copy(alloc)?;
+    let Ok(to) = making.to.copy(alloc) else {
+        drop(face);
+        return Err(NoMemory);
+    };
     Ok(Effect::Makes {
         behaviour: making.behaviour,
         face,
@@ -182,7 +183,9 @@ fn holds(alloc: Global, scene: Scene, test: &Test, right: &Value) -> Result<bool
         Word::Field(name) => Ok(holds_of(test.comparison, value_under(name, scene.fields), right)),
         Word::Own => {
             let own = Value::Ref(own_object(alloc, scene)?);
-            Ok(compares(test.comparison, &own, right))
+            let holds = compares(test.comparison, &own, right);
+            drop(own);
+            Ok(holds)
         }
     }
 }
@@ -226,13 +229,11 @@ pub(crate) fn returns_value(
 ) -> Result<Effect, NoMemory>
     ensures { IfOk result (λ e. effect_of e ≡ returns_value registry.now (running_of running.entry) (plain_of value)) }
 {
-    match out_values(alloc, &running.function, running.scene.variables) {
-        Ok(outs) => returns(alloc, registry, running, value, outs),
-        Err(error) => {
-            drop(value);
-            Err(error)
-        }
-    }
+    let Ok(outs) = out_values(alloc, &running.function, running.scene.variables) else {
+        drop(value);
+        return Err(NoMemory);
+    };
+    returns(alloc, registry, running, value, outs)
 }
 
 /// The frame ends with an exception of this name.
@@ -264,11 +265,9 @@ pub(crate) fn default_effect(
     ensures { IfOk result (λ e. effect_of e ≡ default_effect registry.now (running_of running.entry)) }
 {
     let outs = default_outs(alloc, registry, &running.function)?;
-    match default_result(alloc, registry, &running.function) {
-        Ok(value) => returns(alloc, registry, running, value, outs),
-        Err(error) => {
-            drop(outs);
-            Err(error)
-        }
-    }
+    let Ok(value) = default_result(alloc, registry, &running.function) else {
+        drop(outs);
+        return Err(NoMemory);
+    };
+    returns(alloc, registry, running, value, outs)
 }

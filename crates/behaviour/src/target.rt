@@ -43,12 +43,18 @@ impl<'a> Target<'a> {
             Target::Null => Ok(Reference::Null),
             Target::Local { oid, face } => {
                 let oid = oid.copy(alloc)?;
-                let face = face.copy(alloc)?;
+                let Ok(face) = face.copy(alloc) else {
+                    drop(oid);
+                    return Err(NoMemory);
+                };
                 Ok(Reference::Local { oid, face })
             }
             Target::Remote { oid, face } => {
                 let oid = oid.copy(alloc)?;
-                let face = face.copy(alloc)?;
+                let Ok(face) = face.copy(alloc) else {
+                    drop(oid);
+                    return Err(NoMemory);
+                };
                 Ok(Reference::Remote { oid, face })
             }
         }

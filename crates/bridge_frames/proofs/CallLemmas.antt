@@ -110,22 +110,21 @@ first_again g from_peer oid face function args t u objects frames =
       place = 0;
     })
 
-module _ (g : Setting) (oid face : List ℕ) (function : ℕ) (args : List Plain) (fs : List Frame) (n : ℕ) (rs : List Ref) (e held : EndTables)
-    (number : n ≡ e.tables.frames_made) (these : rs ≡ refs_of_values args) where
-  pub begun_here : held ≡ on_tables (gains_all (holder.Frame n) rs) e → begins g (first_body g false oid face function args held.tables) fs held.tables ≡ calls_own g oid face function args fs e.tables
+module _ (g : Setting) (oid face : List ℕ) (function : ℕ) (args : List Plain) (fs : List Frame) (e held : EndTables) where
+  pub begun_here : held ≡ on_tables (λ t. gains_all (holder.Frame t.frames_made) (refs_of_values args) t) e → begins g (first_body g false oid face function args held.tables) fs held.tables ≡ calls_own g oid face function args fs e.tables
   unfolding calls_own
   begun_here gained =
       let h : Holder = holder.Frame e.tables.frames_made in
-      let now : held.tables ≡ gains_all h (refs_of_values args) e.tables = ap (λ x. x.tables) gained ∙ (λ i. gains_all (holder.Frame (number i)) (these i) e.tables) in
+      let now : held.tables ≡ gains_all h (refs_of_values args) e.tables = ap (λ x. x.tables) gained in
       let first = first_again g false oid face function args e.tables held.tables (ap (λ x. x.objects) now ∙ objects_stay h (refs_of_values args) e.tables)
       (ap (λ x. x.frames_made) now ∙ frames_stay h (refs_of_values args) e.tables) in
       (λ i. begins g (first i) fs (now i))
 
-  pub begun_there : held ≡ on_tables (takes_all g (holder.Frame n) rs) e → begins g (first_body g true oid face function args held.tables) fs held.tables ≡ serves g oid face function args fs e.tables
+  pub begun_there : held ≡ on_tables (λ t. takes_all g (holder.Frame t.frames_made) (refs_of_values args) t) e → begins g (first_body g true oid face function args held.tables) fs held.tables ≡ serves g oid face function args fs e.tables
   unfolding serves
   begun_there taken =
       let h : Holder = holder.Frame e.tables.frames_made in
-      let now : held.tables ≡ takes_all g h (refs_of_values args) e.tables = ap (λ x. x.tables) taken ∙ (λ i. takes_all g (holder.Frame (number i)) (these i) e.tables) in
+      let now : held.tables ≡ takes_all g h (refs_of_values args) e.tables = ap (λ x. x.tables) taken in
       let first = first_again g true oid face function args e.tables held.tables (ap (λ x. x.objects) now ∙ objects_taken g h (refs_of_values args) e.tables)
       (ap (λ x. x.frames_made) now ∙ frames_taken g h (refs_of_values args) e.tables) in
       (λ i. begins g (first i) fs (now i))

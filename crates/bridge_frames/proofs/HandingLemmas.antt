@@ -1,19 +1,21 @@
 -- Answers that are handed to the frames of a thread.
-use Rattle.std.proofs.Common.{◌≡◌, ℕ, true, false, if◌then◌else◌, List, [], ◌∷◌, drop, Some, Result, Ok, Err, refl, sym, ap, ◌∙◌}
+use Rattle.std.proofs.Common.{◌≡◌, ℕ, true, false, if◌then◌else◌, List, [], ◌∷◌, drop, Option, Some, Result, Ok, Err, refl, sym, ap, subst, ◌∙◌}
 use Rattle.std.specs.Prelude.{OnErr, OnOk}
 use Rattle.message_model.specs.Messages.{Answer, returned, raised}
 use Rattle.uno_model.specs.Kinds.{Kind}
+use Rattle.uno_base.specs.declared.no_memory.NoMemory.{NoMemory}
 use Rattle.uno_model.specs.Values.{Ref, Plain, refs}
+use Rattle.uno_values.specs.declared.value.AnyValue.{AnyValue}
 use Rattle.plan_model.specs.Frames.{Body, Frame, base, body, outgoing, Stack, first_frame, frames_of, is_body, popped, top}
 use Rattle.plan_model.specs.Leaving.{leaving_frame}
 use Rattle.bridge_model.specs.Calls.{Unwound, unwound}
-use Rattle.bridge_model.specs.Handing.{answers_peer, ends_frame, gains_below, goes_on_with, hands, hands_down, hands_from_peer, hands_over, lets_go_frame, root_gets, takes_below}
+use Rattle.bridge_model.specs.Handing.{answers_peer, ends_frame, gains_below, goes_on_with, hands, hands_down, hands_from_peer, hands_over, root_gets, takes_below}
 use Rattle.bridge_model.specs.References.{refs_of_answer}
 use Rattle.bridge_model.specs.Settings.{Setting}
 use Rattle.bridge_model.specs.Sides.{Tables, state_of}
 use Rattle.bridge_model.specs.Stacks.{puts_frames}
 use Rattle.bridge_tables.specs.EndTables.{EndTables, lasting, on_tables, with_tables}
-use Rattle.bridge_frames.specs.Raising.{handed_down}
+use Rattle.bridge_frames.specs.Raising.{GoesThrough, Leaves}
 use Rattle.bridge_frames.specs.Unwinding.{is_root, stacks_by, tables_by}
 use Rattle.bridge_frames.proofs.LastingLemmas.{gained_below, handed_over, taken_below}
 use Rattle.bridge_frames.proofs.StackLemmas.{puts_again, puts_popped, puts_same}
@@ -226,20 +228,17 @@ module _ (g : Setting) (tid : List ℕ) (a : Answer) (ss : List Stack) (e mid : 
   pub from_peer_lost : {A E : Type 0} (r : Result A E) (now : EndTables) → OnErr r (is_root (frames_of tid ss) ≡ false) → OnErr r (lasting now ≡ lasting mid) → OnErr r (lasting now ≡ lasting e)
   from_peer_lost r now other lost = on_errs r (λ other last. last ∙ ap lasting took ∙ ap (λ t. with_tables t e) (taken_below g (frames_of tid ss) a e.tables other)) other lost
 
--- ---- a result that is handed down
+-- ---- what is handed behind a change of the tables
 
-module _ (g : Setting) (tid : List ℕ) (b : Body) (a : Answer) (ss : List Stack) (e mid : EndTables) (gained : mid ≡ on_tables (gains_below (frames_of tid ss) a) e) where
-  pub result_stacks : (after : List Stack) (f : Frame) (fs : List Frame) → frames_of tid ss ≡ f ∷ fs → after ≡ stacks_by tid (hands g tid a (f ∷ fs) mid.tables) ss
-      → after ≡ stacks_by tid (handed_down g tid b a (f ∷ fs) e.tables) ss
-  result_stacks after f fs is goes =
-      goes ∙ ap (λ t. stacks_by tid (hands g tid a (f ∷ fs) t) ss) (ap (λ z. z.tables) gained ∙ ap (λ xs. gains_below xs a e.tables) is)
+module _ (g : Setting) (tid : List ℕ) (a : Answer) (ss : List Stack) (e mid : EndTables) (change : List Frame → Tables → Tables) (changed : mid ≡ on_tables (change (frames_of tid ss)) e) where
+  pub behind_stacks : {A E : Type 0} (r : Result A E) (after : List Stack) (f : Frame) (fs : List Frame) → frames_of tid ss ≡ f ∷ fs → OnOk r (after ≡ stacks_by tid (hands g tid a (f ∷ fs) mid.tables) ss)
+      → OnOk r (after ≡ stacks_by tid (hands g tid a (f ∷ fs) (change (f ∷ fs) e.tables)) ss)
+  behind_stacks r after f fs is goes =
+      on_ok r (λ p. p ∙ ap (λ t. stacks_by tid (hands g tid a (f ∷ fs) t) ss) (ap (λ z. z.tables) changed ∙ ap (λ xs. change xs e.tables) is)) goes
 
-  pub result_tables : (between now : EndTables) → between ≡ tables_by (hands g tid a (frames_of tid ss) mid.tables) mid → now ≡ on_tables (lets_go_frame g b []) between
-      → now ≡ tables_by (handed_down g tid b a (frames_of tid ss) e.tables) e
-  result_tables between now goes ends = ends ∙ ap (on_tables (lets_go_frame g b [])) (goes ∙ ap (λ z. tables_by (hands g tid a (frames_of tid ss) z.tables) z) gained)
-
-  pub result_lost : (now : EndTables) → is_root (frames_of tid ss) ≡ false → lasting now ≡ lasting mid → lasting now ≡ lasting e
-  result_lost now other last = last ∙ ap lasting gained ∙ ap (λ t. with_tables t e) (gained_below (frames_of tid ss) a e.tables other)
+  pub behind_tables : {A E : Type 0} (r : Result A E) (now : EndTables) → OnOk r (now ≡ tables_by (hands g tid a (frames_of tid ss) mid.tables) mid)
+      → OnOk r (now ≡ tables_by (hands g tid a (frames_of tid ss) (change (frames_of tid ss) e.tables)) e)
+  behind_tables r now goes = on_ok r (λ p. p ∙ ap (λ z. tables_by (hands g tid a (frames_of tid ss) z.tables) z) changed) goes
 
 -- ---- a method that ends
 
@@ -277,47 +276,23 @@ module _ (g : Setting) (tid : List ℕ) (m : Body) (a : Answer) (ss between : Li
       ap (λ c. if c then unwound fs (answers_peer g tid b [] a e.tables) else hands_down g tid b a fs e.tables) (sym (ap (λ x. x.from_peer) same) ∙ is)
       ∙ ap (λ x. hands_down g tid x a fs e.tables) (sym same)
 
-  -- with a result
-  module _ (x : Plain) (outs : List Plain) (answer : a ≡ returned x outs) (local : m.from_peer ≡ false) where
-    result_ends : ends_frame g tid b a fs e.tables ≡ handed_down g tid m a fs e.tables
-    result_ends = local_ends local ∙ ap (λ c. hands_down g tid m c fs e.tables) answer ∙ ap (λ c. handed_down g tid m c fs e.tables) (sym answer)
+  down_nothing : (c : Answer) (t : Tables) → (hands_down g tid m c [] t).frames ≡ []
+  down_nothing (returned x outs) t = ap (λ u. u.frames) (hands_none g tid (returned x outs) t)
+  down_nothing (raised k x) t = ap (λ u. u.frames) (hands_none g tid (raised k x) (hands_over g m [] (raised k x) [] t))
 
-    pub result_ends_stacks : {A E : Type 0} (r : Result A E) (after : List Stack)
-        → ((h : Frame) → (hs : List Frame) → frames_of tid between ≡ h ∷ hs → OnOk r (after ≡ stacks_by tid (handed_down g tid m a (h ∷ hs) e.tables) between))
-        → (frames_of tid between ≡ [] → OnOk r (after ≡ between)) → OnOk r (after ≡ stacks_by tid (ends_frame g tid b a fs e.tables) ss)
-    unfolding found put
-    result_ends_stacks r after some none =
-        on_ok r (λ p. p ∙ frames_by tid ss (handed_down g tid m a fs e.tables) (ends_frame g tid b a fs e.tables) (sym result_ends))
-        (below_stacks tid ss r after between fs (λ xs. handed_down g tid m a xs e.tables) (ap (λ u. u.frames) (hands_none g tid a e.tables)) found put some none)
+  -- that was called from here
+  pub local_ends_stacks : m.from_peer ≡ false → {A E : Type 0} (r : Result A E) (after : List Stack)
+      → ((h : Frame) → (hs : List Frame) → frames_of tid between ≡ h ∷ hs → OnOk r (after ≡ stacks_by tid (hands_down g tid m a (h ∷ hs) e.tables) between))
+      → (frames_of tid between ≡ [] → OnOk r (after ≡ between)) → OnOk r (after ≡ stacks_by tid (ends_frame g tid b a fs e.tables) ss)
+  unfolding found put
+  local_ends_stacks local r after some none =
+      on_ok r (λ p. p ∙ frames_by tid ss (hands_down g tid m a fs e.tables) (ends_frame g tid b a fs e.tables) (sym (local_ends local)))
+      (below_stacks tid ss r after between fs (λ xs. hands_down g tid m a xs e.tables) (down_nothing a e.tables) found put some none)
 
-    pub result_ends_tables : {A E : Type 0} (r : Result A E) (now : EndTables) → OnOk r (now ≡ tables_by (handed_down g tid m a (frames_of tid between) e.tables) e)
-        → OnOk r (now ≡ tables_by (ends_frame g tid b a fs e.tables) e)
-    unfolding found
-    result_ends_tables r now goes = on_ok r (λ p. p ∙ ap (λ xs. tables_by (handed_down g tid m a xs e.tables) e) found ∙ ap (λ u. tables_by u e) (sym result_ends)) goes
-
-  -- with an exception
-  module _ (k : Kind) (x : Plain) (answer : a ≡ raised k x) (local : m.from_peer ≡ false) (mid : EndTables) (over : mid ≡ on_tables (hands_over g m [] a (frames_of tid between)) e) where
-    exception_ends : ends_frame g tid b a fs e.tables ≡ hands g tid a fs mid.tables
-    unfolding found
-    exception_ends =
-        local_ends local ∙ ap (λ c. hands_down g tid m c fs e.tables) answer ∙ ap (λ c. hands g tid c fs (hands_over g m [] c fs e.tables)) (sym answer)
-        ∙ ap (hands g tid a fs) (sym (ap (λ z. z.tables) over ∙ ap (λ xs. hands_over g m [] a xs e.tables) found))
-
-    pub exception_ends_stacks : {A E : Type 0} (r : Result A E) (after : List Stack)
-        → ((h : Frame) → (hs : List Frame) → frames_of tid between ≡ h ∷ hs → OnOk r (after ≡ stacks_by tid (hands g tid a (h ∷ hs) mid.tables) between))
-        → (frames_of tid between ≡ [] → OnOk r (after ≡ between)) → OnOk r (after ≡ stacks_by tid (ends_frame g tid b a fs e.tables) ss)
-    unfolding found put
-    exception_ends_stacks r after some none =
-        on_ok r (λ p. p ∙ frames_by tid ss (hands g tid a fs mid.tables) (ends_frame g tid b a fs e.tables) (sym exception_ends))
-        (below_stacks tid ss r after between fs (λ xs. hands g tid a xs mid.tables) (ap (λ u. u.frames) (hands_none g tid a mid.tables)) found put some none)
-
-    pub exception_ends_tables : {A E : Type 0} (r : Result A E) (now : EndTables) → OnOk r (now ≡ tables_by (hands g tid a (frames_of tid between) mid.tables) mid)
-        → OnOk r (now ≡ tables_by (ends_frame g tid b a fs e.tables) e)
-    unfolding found
-    exception_ends_tables r now goes =
-        on_ok r
-        (λ p. p ∙ ap (λ xs. tables_by (hands g tid a xs mid.tables) mid) found ∙ ap (tables_by (hands g tid a fs mid.tables)) over ∙ ap (λ u. tables_by u e) (sym exception_ends))
-        goes
+  pub local_ends_tables : m.from_peer ≡ false → {A E : Type 0} (r : Result A E) (now : EndTables) → OnOk r (now ≡ tables_by (hands_down g tid m a (frames_of tid between) e.tables) e)
+      → OnOk r (now ≡ tables_by (ends_frame g tid b a fs e.tables) e)
+  unfolding found
+  local_ends_tables local r now goes = on_ok r (λ p. p ∙ ap (λ xs. tables_by (hands_down g tid m a xs e.tables) e) found ∙ ap (λ u. tables_by u e) (sym (local_ends local))) goes
 
 -- where handing is refused that came behind handing over
 pub over_lost : (g : Setting) (tid : List ℕ) (m : Body) (a : Answer) (between : List Stack) (e mid : EndTables) → mid ≡ on_tables (hands_over g m [] a (frames_of tid between)) e → {A E : Type 0} (r : Result A E) (now : EndTables)
@@ -331,22 +306,17 @@ pub refs_raised : (k : Kind) (x : Plain) → refs_of_answer (raised k x) ≡ ref
 unfolding refs_of_answer
 refs_raised k x = refl
 
-module _ (g : Setting) (tid : List ℕ) (ss : List Stack) (m b : Body) (fs : List Frame) (a : Answer) (e now : EndTables) (held : List Ref) (left : Answer) (all : frames_of tid ss ≡ body b ∷ fs)
-    (above : top tid ss ≡ Some (body m)) (these : held ≡ refs_of_answer a) (leaves : left ≡ leaving_frame g.registry tid m a) where
-  pub through_peer : m.from_peer ≡ true → now ≡ on_tables (answers_peer g tid m held left) e
-      → (b.from_peer ≡ true) × (now ≡ on_tables (answers_peer g tid b (refs_of_answer a) (leaving_frame g.registry tid b a)) e)
-  through_peer peer here =
-      let one = same_method (frames_of tid ss) b m fs all above in
-      (ap (λ x. x.from_peer) (sym one) ∙ peer, here ∙ (λ i. on_tables (answers_peer g tid (one i) (these i) ((leaves ∙ ap (λ x. leaving_frame g.registry tid x a) one) i)) e))
+-- what is let go first are these references, and what leaves is this
+pub leaves_so : (g : Setting) (tid : List ℕ) (b : Body) (fs : List Frame) (held these : List Ref) (left leaving : Answer) (old new : EndTables) (r : Result (Option AnyValue) NoMemory) → held ≡ these → left ≡ leaving
+    → Leaves g tid b fs held left old new r → Leaves g tid b fs these leaving old new r
+leaves_so g tid b fs held these left leaving old new r same is l = subst (λ x. Leaves g tid b fs these x old new r) is (subst (λ rs. Leaves g tid b fs rs left old new r) same l)
 
-  pub through_local : (between : List Stack) → frames_of tid between ≡ drop 1 (frames_of tid ss) → m.from_peer ≡ false → now ≡ on_tables (hands_over g m held left (frames_of tid between)) e
-      → (b.from_peer ≡ false) × (left ≡ leaving_frame g.registry tid b a) × (now ≡ on_tables (hands_over g b (refs_of_answer a) left fs) e)
-  through_local between rest local here =
-      let one = same_method (frames_of tid ss) b m fs all above in (
-        ap (λ x. x.from_peer) (sym one) ∙ local,
-        leaves ∙ ap (λ x. leaving_frame g.registry tid x a) one,
-        here ∙ (λ i. on_tables (hands_over g (one i) (these i) left ((rest ∙ ap (drop 1) all) i)) e),
-      )
+-- the method that went is the one that was on top
+pub goes_so : (g : Setting) (tid : List ℕ) (ss between : List Stack) (m b : Body) (fs : List Frame) (a : Answer) (old new : EndTables) (r : Result (Option AnyValue) NoMemory) → frames_of tid ss ≡ body b ∷ fs → top tid ss ≡ Some (body m)
+    → frames_of tid between ≡ drop 1 (frames_of tid ss) → GoesThrough g tid m (frames_of tid between) a old new r → GoesThrough g tid b fs a old new r
+goes_so g tid ss between m b fs a old new r all above rest goes =
+    subst (λ x. GoesThrough g tid x fs a old new r) (same_method (frames_of tid ss) b m fs all above)
+    (subst (λ xs. GoesThrough g tid m xs a old new r) (rest ∙ ap (drop 1) all) goes)
 
 -- where handing is refused that came behind gaining
 pub given_lost : (tid : List ℕ) (a : Answer) (ss : List Stack) (e mid now : EndTables) {A E : Type 0} (r : Result A E) → mid ≡ on_tables (gains_below (frames_of tid ss) a) e → OnErr r (is_root (frames_of tid ss) ≡ false)

@@ -3,10 +3,12 @@ ghost use Rattle.std.specs.Prelude.{◌≡◌, ◌∷◌, true, List, IfOk, OnOk
 ghost use Rattle.behaviour.specs.Effects.{effect_of};
 ghost use Rattle.bridge_model.specs.Applying.{applies, applies_call, applies_query, answers_query};
 ghost use Rattle.bridge_model.specs.Calls.{query_args};
+ghost use Rattle.bridge_model.specs.Objects.{object_answer};
 ghost use Rattle.bridge_setting.specs.Settings.{setting_of};
 ghost use Rattle.bridge_tables.specs.EndTables.{IsOf, lasting};
 ghost use Rattle.plan_model.specs.Frames as plain;
 ghost use Rattle.plan_model.specs.Frames.{Frame, frames_of, is_body, top};
+ghost use Rattle.uno_model.specs.Kinds as kd;
 ghost use Rattle.uno_model.specs.Sound.{IsSound};
 ghost use Rattle.uno_values.specs.References.{ref_of};
 ghost use Rattle.uno_values.specs.Values.{plain_of};
@@ -14,17 +16,16 @@ ghost use Rattle.bridge_frames.specs.Unwinding.{stacks_by, tables_by};
 
 use crate::calls::{Call, begin_here, call_peer};
 use crate::creating::apply_creating;
-use crate::ending::gain_below;
-use crate::handing::{end_frame, hand_untold};
+use crate::handing::{end_frame, give};
 use crate::making::apply_making;
 use crate::own::{apply_drop, apply_let, apply_set, apply_set_field, apply_skip};
 use behaviour::Effect;
 use bridge_setting::Setting;
-use bridge_tables::{Tables, refs_of_answer};
+use bridge_tables::Tables;
 use call_stacks::Stacks;
 use std::alloc::Global;
 use uno_base::NoMemory;
-use uno_types::{Name, Tid, TypeName};
+use uno_types::{Name, Text, Tid, TypeName};
 use uno_values::{Reference, Value};
 use urp_message::Answer;
 
@@ -160,8 +161,9 @@ fn apply_query(
 {
     match target {
         Reference::Null => Ok(()),
-        Reference::Local { oid, face: _ } => {
-            let value = tables.object_answer(setting, &oid, &TypeName::Interface(wanted))?;
+        Reference::Local { oid, face } => {
+            drop(face);
+            let value = own_answer(setting, &oid, wanted, tables)?;
             answer_query(alloc, setting, tid, value, stacks, tables)
         }
         Reference::Remote { oid, face } => {
@@ -177,7 +179,24 @@ fn apply_query(
     }
 }
 
-/// The answer of an own object.
+/// What an own object answers that is queried.
+fn own_answer(
+    setting: &Setting,
+    oid: &Text,
+    wanted: Name,
+    tables: &Tables,
+) -> Result<Value, NoMemory>
+    requires of { IsOf (setting_of setting.now) tables.now }
+    requires sound { IsSound setting.now.registry }
+    ensures { IfOk result (λ value. plain_of value ≡ object_answer (setting_of setting.now) oid.now (kd.interface wanted) tables.now.tables.objects) }
+{
+    let wanted = TypeName::Interface(wanted);
+    let value = tables.object_answer(setting, oid, &wanted);
+    drop(wanted);
+    value
+}
+
+/// The method gets the answer.
 fn answer_query(
     alloc: Global,
     setting: &Setting,
@@ -198,9 +217,7 @@ fn answer_query(
         value,
         outs: Vec::new(alloc),
     };
-    let references = refs_of_answer(alloc, &answer)?;
-    gain_below(setting, tid, &references, stacks, tables)?;
-    hand_untold(alloc, setting, tid, answer, stacks, tables)
+    give(alloc, setting, tid, answer, stacks, tables)
 }
 
 /// The arguments of a call of function 0.

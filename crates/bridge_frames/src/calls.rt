@@ -1,7 +1,7 @@
 //! Frames that begin: a method of an own object, and a call that goes out.
 ghost use Rattle.std.specs.Prelude.{◌≡◌, ◌<◌, ◌-◌, ◌^◌, ℕ, Bool, IfOk, OnOk, OnErr, map};
 ghost use Rattle.bridge_model.specs.Calls.{calls_own, serves, calls_peer, first_body};
-ghost use Rattle.bridge_model.specs.References.{gains, says};
+ghost use Rattle.bridge_model.specs.References.{gains, gains_all, refs_of_values, says, takes_all};
 ghost use Rattle.bridge_model.specs.Settings.{own_oid};
 ghost use Rattle.bridge_setting.specs.Settings.{setting_of};
 ghost use Rattle.bridge_tables.specs.EndTables.{IsOf, lasting, on_tables, quiet};
@@ -54,10 +54,26 @@ pub fn begin_here(
     ensures tables { OnOk result (tables.new ≡ tables_by (calls_own (setting_of setting.now) call.entry.oid call.entry.face call.entry.function (map plain_of args.items) (frames_of call.entry.tid.now stacks.old) tables.old.tables) tables.old) }
     ensures lost { OnErr result (lasting tables.new ≡ lasting tables.old) }
 {
-    let number = next_number(tables)?;
-    let references = refs_of_values(alloc, &args)?;
-    tables.gain_all(setting, Holder::Frame(number), &references)?;
+    if let Err(error) = gain_args(alloc, setting, &args, tables) {
+        return Err(error);
+    }
     begin(alloc, setting, call, args, false, stacks, tables)
+}
+
+/// The next frame holds what arguments hold, which is here already.
+fn gain_args(
+    alloc: Global,
+    setting: &Setting,
+    args: &[Value],
+    tables: &mut Tables,
+) -> Result<(), NoMemory>
+    requires { IsOf (setting_of setting.now) tables.old }
+    ensures gained { OnOk result (tables.new ≡ on_tables (λ t. gains_all (holder.Frame t.frames_made) (refs_of_values (map plain_of args.now)) t) tables.old) }
+    ensures kept { OnErr result (tables.new ≡ tables.old) }
+{
+    let number = next_number(tables)?;
+    let references = refs_of_values(alloc, args)?;
+    tables.gain_all(setting, Holder::Frame(number), &references)
 }
 
 /// It is called by the peer.
@@ -75,10 +91,26 @@ pub fn begin_there(
     ensures tables { OnOk result (tables.new ≡ tables_by (serves (setting_of setting.now) call.entry.oid call.entry.face call.entry.function (map plain_of args.items) (frames_of call.entry.tid.now stacks.old) tables.old.tables) tables.old) }
     ensures lost { OnErr result (lasting tables.new ≡ lasting tables.old) }
 {
-    let number = next_number(tables)?;
-    let references = refs_of_values(alloc, &args)?;
-    tables.take_all(setting, Holder::Frame(number), &references)?;
+    if let Err(error) = take_args(alloc, setting, &args, tables) {
+        return Err(error);
+    }
     begin(alloc, setting, call, args, true, stacks, tables)
+}
+
+/// The same of arguments that come from the peer.
+fn take_args(
+    alloc: Global,
+    setting: &Setting,
+    args: &[Value],
+    tables: &mut Tables,
+) -> Result<(), NoMemory>
+    requires { IsOf (setting_of setting.now) tables.old }
+    ensures taken { OnOk result (tables.new ≡ on_tables (λ t. takes_all (setting_of setting.now) (holder.Frame t.frames_made) (refs_of_values (map plain_of args.now)) t) tables.old) }
+    ensures kept { OnErr result (quiet tables.new ≡ quiet tables.old) }
+{
+    let number = next_number(tables)?;
+    let references = refs_of_values(alloc, args)?;
+    tables.take_all(setting, Holder::Frame(number), &references)
 }
 
 /// A method whose arguments are held already.
@@ -97,10 +129,17 @@ fn begin(
     ensures tables { OnOk result (tables.new ≡ tables_by (begins (setting_of setting.now) (first_body (setting_of setting.now) from_peer call.entry.oid call.entry.face call.entry.function (map plain_of args.items) tables.old.tables) (frames_of call.entry.tid.now stacks.old) tables.old.tables) tables.old) }
     ensures lost { OnErr result (lasting tables.new ≡ lasting tables.old) }
 {
-    let number = next_number(tables)?;
+    let Ok(number) = next_number(tables) else {
+        return Err(NoMemory);
+    };
     let object = tables.number_of(&call.oid);
-    hold_own(alloc, setting, number, object, &call.face, tables)?;
-    let variables = variables_of(alloc, &setting.registry, &call.face, call.function, args)?;
+    if let Err(error) = hold_own(alloc, setting, number, object, &call.face, tables) {
+        return Err(error);
+    }
+    let Ok(variables) = variables_of(alloc, &setting.registry, &call.face, call.function, args)
+    else {
+        return Err(NoMemory);
+    };
     let body = Body {
         number,
         object,
@@ -110,7 +149,9 @@ fn begin(
         variables,
         place: 0,
     };
-    stacks.push(call.tid, Frame::Body(body))?;
+    if let Err(error) = stacks.push(call.tid, Frame::Body(body)) {
+        return Err(error);
+    }
     tables.count_frame();
     Ok(())
 }
@@ -143,7 +184,9 @@ fn hold_own(
     let oid = setting.own_oid(alloc, object)?;
     let face = face.copy(alloc)?;
     let own = Reference::Local { oid, face };
-    tables.gain(setting, Holder::Frame(number), &own)
+    let held = tables.gain(setting, Holder::Frame(number), &own);
+    drop(own);
+    held
 }
 
 /// The variables with which it begins; a function that is not there has no parameters.
@@ -181,15 +224,21 @@ pub fn call_peer(
     ensures tables { OnOk result (tables.new ≡ tables_by (calls_peer (setting_of setting.now) call.entry.tid.now call.entry.oid call.entry.face call.entry.function (map plain_of args.items) (frames_of call.entry.tid.now stacks.old) tables.old.tables) tables.old) }
     ensures lost { OnErr result (lasting tables.new ≡ lasting tables.old) }
 {
-    let number = next_number(tables)?;
-    say_request(alloc, setting, &call, args, tables)?;
+    let Ok(number) = next_number(tables) else {
+        return Err(NoMemory);
+    };
+    if let Err(error) = say_request(alloc, setting, &call, args, tables) {
+        return Err(error);
+    }
     let outgoing = Outgoing {
         number,
         oid: call.oid,
         face: call.face,
         function: call.function,
     };
-    stacks.push(call.tid, Frame::Out(outgoing))?;
+    if let Err(error) = stacks.push(call.tid, Frame::Out(outgoing)) {
+        return Err(error);
+    }
     tables.count_frame();
     Ok(())
 }
@@ -206,10 +255,19 @@ fn say_request(
     ensures said { OnOk result (tables.new ≡ on_tables (says (setting_of setting.now) (request call.now.tid.now call.now.oid call.now.face call.now.function (map plain_of args.items))) tables.old) }
     ensures kept { OnErr result (quiet tables.new ≡ quiet tables.old) }
 {
+    let Ok(tid) = call.tid.copy(alloc) else {
+        return Err(NoMemory);
+    };
+    let Ok(oid) = call.oid.copy(alloc) else {
+        return Err(NoMemory);
+    };
+    let Ok(face) = call.face.copy(alloc) else {
+        return Err(NoMemory);
+    };
     let message = Message::Request {
-        tid: call.tid.copy(alloc)?,
-        oid: call.oid.copy(alloc)?,
-        face: call.face.copy(alloc)?,
+        tid,
+        oid,
+        face,
         function: call.function,
         args,
     };

@@ -182,16 +182,16 @@ fn refuse(
 fn refusal(alloc: Global, front: &str, name: &Text) -> Result<AnyValue, NoMemory>
     ensures { IfOk result (λ x. raised_of x ≡ raised (kd.exception exception_name) (refused front.now name.now)) }
 {
+    let kind = Name::of(alloc, EXCEPTION)?;
+    let tag = Name::of(alloc, EXCEPTION)?;
     let mut message = String::from_str(alloc, front)?;
     message.push_str(name.as_str())?;
     let mut members = Vec::new(alloc);
     members.push(Value::Str(Text::from(message)))?;
     members.push(Value::Ref(Reference::Null))?;
-    let kind = TypeName::Exception(Name::of(alloc, EXCEPTION)?);
-    let name = Name::of(alloc, EXCEPTION)?;
     Ok(AnyValue {
-        kind,
-        value: Value::Tuple(name, members),
+        kind: TypeName::Exception(kind),
+        value: Value::Tuple(tag, members),
     })
 }
 

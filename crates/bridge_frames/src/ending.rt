@@ -18,7 +18,7 @@ ghost use Rattle.urp_message.specs.Messages.{answer_of};
 ghost use Rattle.bridge_frames.specs.Unwinding.{holder_above};
 
 use bridge_setting::Setting;
-use bridge_tables::Tables;
+use bridge_tables::{Tables, refs_of_answer};
 use call_stacks::Stacks;
 use plan_types::{Body, Frame, Variable};
 use std::alloc::Global;
@@ -33,7 +33,7 @@ pub(crate) fn answer_peer(
     alloc: Global,
     setting: &Setting,
     tid: &Tid,
-    body: Body,
+    body: &Body,
     extra: &[Reference],
     answer: Answer,
     tables: &mut Tables,
@@ -41,12 +41,19 @@ pub(crate) fn answer_peer(
     requires of { IsOf (setting_of setting.now) tables.old }
     requires stands { tables.old.stands ≡ true }
     requires sound { IsSound setting.now.registry }
-    ensures answered { OnOk result (tables.new ≡ on_tables (answers_peer (setting_of setting.now) tid.now (body_of body) (map ref_of extra.now) (answer_of answer)) tables.old) }
+    ensures answered { OnOk result (tables.new ≡ on_tables (answers_peer (setting_of setting.now) tid.now (body_of body.now) (map ref_of extra.now) (answer_of answer)) tables.old) }
     ensures lost { OnErr result (lasting tables.new ≡ lasting tables.old) }
 {
-    let own = own_reference(alloc, setting, &body)?;
-    say_reply(alloc, setting, tid, &body, answer, tables)?;
+    let Ok(own) = own_reference(alloc, setting, body) else {
+        drop(answer);
+        return Err(NoMemory);
+    };
+    if let Err(error) = say_reply(alloc, setting, tid, body, answer, tables) {
+        drop(own);
+        return Err(error);
+    }
     let_frame_go(setting, body, &own, extra, tables);
+    drop(own);
     Ok(())
 }
 
@@ -63,9 +70,17 @@ fn say_reply(
     ensures said { OnOk result (tables.new ≡ on_tables (says (setting_of setting.now) (reply tid.now body.now.face body.now.function (answer_of answer))) tables.old) }
     ensures kept { OnErr result (quiet tables.new ≡ quiet tables.old) }
 {
+    let Ok(tid) = tid.copy(alloc) else {
+        drop(answer);
+        return Err(NoMemory);
+    };
+    let Ok(face) = body.face.copy(alloc) else {
+        drop(answer);
+        return Err(NoMemory);
+    };
     let message = Message::Reply {
-        tid: tid.copy(alloc)?,
-        face: body.face.copy(alloc)?,
+        tid,
+        face,
         function: body.function,
         answer,
     };
@@ -77,7 +92,7 @@ pub(crate) fn hand_over(
     alloc: Global,
     setting: &Setting,
     tid: &Tid,
-    body: Body,
+    body: &Body,
     extra: &[Reference],
     exception: &AnyValue,
     stacks: &Stacks,
@@ -85,13 +100,16 @@ pub(crate) fn hand_over(
 ) -> Result<(), NoMemory>
     requires of { IsOf (setting_of setting.now) tables.old }
     requires stands { tables.old.stands ≡ true }
-    ensures handed { OnOk result (tables.new ≡ on_tables (hands_over (setting_of setting.now) (body_of body) (map ref_of extra.now) (raised_of exception.now) (frames_of tid.now stacks.now)) tables.old) }
+    ensures handed { OnOk result (tables.new ≡ on_tables (hands_over (setting_of setting.now) (body_of body.now) (map ref_of extra.now) (raised_of exception.now) (frames_of tid.now stacks.now)) tables.old) }
     ensures kept { OnErr result (tables.new ≡ tables.old) }
 {
-    let own = own_reference(alloc, setting, &body)?;
-    let references = refs_of(alloc, &exception.value)?;
-    gain_below(setting, tid, &references, stacks, tables)?;
+    let own = own_reference(alloc, setting, body)?;
+    if let Err(error) = gain_exception(alloc, setting, tid, exception, stacks, tables) {
+        drop(own);
+        return Err(error);
+    }
     let_frame_go(setting, body, &own, extra, tables);
+    drop(own);
     Ok(())
 }
 
@@ -111,15 +129,15 @@ pub(crate) fn own_reference(
 /// What a method holds goes: first these, then its variables, its own object last.
 pub(crate) fn let_frame_go(
     setting: &Setting,
-    body: Body,
+    body: &Body,
     own: &Reference,
     extra: &[Reference],
     tables: &mut Tables,
 )
     requires of { IsOf (setting_of setting.now) tables.old }
     requires stands { tables.old.stands ≡ true }
-    requires own { ref_of own.now ≡ v.own (own_oid (setting_of setting.now) body.object) body.face }
-    ensures { tables.new ≡ on_tables (lets_go_frame (setting_of setting.now) (body_of body) (map ref_of extra.now)) tables.old }
+    requires own { ref_of own.now ≡ v.own (own_oid (setting_of setting.now) body.now.object) body.now.face }
+    ensures { tables.new ≡ on_tables (lets_go_frame (setting_of setting.now) (body_of body.now) (map ref_of extra.now)) tables.old }
 {
     let holder = Holder::Frame(body.number);
     tables.let_go_all(setting, holder, extra);
@@ -138,8 +156,59 @@ fn let_variables_go(setting: &Setting, holder: Holder, variables: &[Variable], t
     }
 }
 
+/// The frame at the top holds what an answer holds, which is here already.
+pub(crate) fn gain_answer(
+    alloc: Global,
+    setting: &Setting,
+    tid: &Tid,
+    answer: &Answer,
+    stacks: &Stacks,
+    tables: &mut Tables,
+) -> Result<(), NoMemory>
+    requires { IsOf (setting_of setting.now) tables.old }
+    ensures gained { OnOk result (tables.new ≡ on_tables (gains_below (frames_of tid.now stacks.now) (answer_of answer.now)) tables.old) }
+    ensures kept { OnErr result (tables.new ≡ tables.old) }
+{
+    let references = refs_of_answer(alloc, answer)?;
+    gain_below(setting, tid, &references, stacks, tables)
+}
+
+/// The same of an exception.
+fn gain_exception(
+    alloc: Global,
+    setting: &Setting,
+    tid: &Tid,
+    exception: &AnyValue,
+    stacks: &Stacks,
+    tables: &mut Tables,
+) -> Result<(), NoMemory>
+    requires { IsOf (setting_of setting.now) tables.old }
+    ensures gained { OnOk result (tables.new ≡ on_tables (gains_below (frames_of tid.now stacks.now) (raised_of exception.now)) tables.old) }
+    ensures kept { OnErr result (tables.new ≡ tables.old) }
+{
+    let references = refs_of(alloc, &exception.value)?;
+    gain_below(setting, tid, &references, stacks, tables)
+}
+
+/// Or it takes what an answer of the peer's holds.
+pub(crate) fn take_answer(
+    alloc: Global,
+    setting: &Setting,
+    tid: &Tid,
+    answer: &Answer,
+    stacks: &Stacks,
+    tables: &mut Tables,
+) -> Result<(), NoMemory>
+    requires { IsOf (setting_of setting.now) tables.old }
+    ensures taken { OnOk result (tables.new ≡ on_tables (takes_below (setting_of setting.now) (frames_of tid.now stacks.now) (answer_of answer.now)) tables.old) }
+    ensures kept { OnErr result (quiet tables.new ≡ quiet tables.old) }
+{
+    let references = refs_of_answer(alloc, answer)?;
+    take_below(setting, tid, &references, stacks, tables)
+}
+
 /// The frame at the top holds these, which are here already.
-pub(crate) fn gain_below(
+fn gain_below(
     setting: &Setting,
     tid: &Tid,
     references: &[Reference],
@@ -157,7 +226,7 @@ pub(crate) fn gain_below(
 }
 
 /// Or takes them, where they came from the peer.
-pub(crate) fn take_below(
+fn take_below(
     setting: &Setting,
     tid: &Tid,
     references: &[Reference],

@@ -48,7 +48,10 @@ pub(crate) fn go_on_with(
 {
     let mut body = take_method(stacks, tid);
     let holder = Holder::Frame(body.number);
-    let gone = take_in(alloc, setting, tables, &mut body, value, outs)?;
+    let Ok(gone) = take_in(alloc, setting, tables, &mut body, value, outs) else {
+        drop(body);
+        return Err(NoMemory);
+    };
     put_method(stacks, tid, body);
     tables.let_values_go(setting, holder, &gone);
     Ok(())
@@ -68,6 +71,7 @@ fn take_in(
     ensures gone { IfOk result (λ gone. refs_in gone.items ≡ (taken_by (setting_of setting.now) (statement_at (setting_of setting.now) tables.now.tables.objects (body_of body.old)) (plain_of value) (map plain_of outs.items) (body_of body.old).variables).let_go) }
 {
     if body.place == u32::MAX {
+        drop(value);
         return Err(NoMemory);
     }
     let statement = statement_at(setting, tables, body);
@@ -118,7 +122,10 @@ fn take_found(
     requires { IsSound setting.now.registry }
     ensures { IfOk result (λ gone. taken_of variables.new.items gone.items ≡ takes_reference setting.now.registry query.now.wanted query.now.to (plain_of value) (variables_of variables.old.items)) }
 {
-    let to = query.to.copy(alloc)?;
+    let Ok(to) = query.to.copy(alloc) else {
+        drop(value);
+        return Err(NoMemory);
+    };
     let rest = take_reference(&setting.registry, &query.wanted, to, value, variables)?;
     let mut gone = Vec::new(alloc);
     if let Some(rest) = rest {

@@ -46,8 +46,8 @@ pub(crate) fn apply_making(
     ensures tables { (b : plain.Body) → (fs : List Frame) → frames_of tid.now stacks.old ≡ plain.body b ∷ fs → OnOk result (tables.new ≡ tables_by (applies_making (setting_of setting.now) behaviour face to b fs tables.old.tables) tables.old) }
     ensures lost { OnErr result (lasting tables.new ≡ lasting tables.old) }
 {
-    let body = take_method(stacks, tid);
     let number = tables.make_default(setting, behaviour)?;
+    let body = take_method(stacks, tid);
     match go_on_with_object(alloc, setting, tid, body, number, face, to, stacks, tables) {
         Ok(()) => Ok(()),
         Err(NoMemory) => {
@@ -76,9 +76,19 @@ fn go_on_with_object(
     ensures lost { OnErr result (lasting tables.new ≡ lasting tables.old) }
 {
     let mut body = body;
-    let oid = setting.own_oid(alloc, number)?;
+    let Ok(oid) = setting.own_oid(alloc, number) else {
+        drop(body);
+        return Err(NoMemory);
+    };
     let reference = Reference::Local { oid, face };
-    tables.gain(setting, Holder::Frame(body.number), &reference)?;
-    add(&mut body.variables, to, Value::Ref(reference))?;
+    if let Err(error) = tables.gain(setting, Holder::Frame(body.number), &reference) {
+        drop(reference);
+        drop(body);
+        return Err(error);
+    }
+    if let Err(error) = add(&mut body.variables, to, Value::Ref(reference)) {
+        drop(body);
+        return Err(error);
+    }
     go_on(body, tid, stacks)
 }

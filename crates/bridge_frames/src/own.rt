@@ -1,14 +1,17 @@
 //! Effects on a method's own variables, and on the fields of its object.
 ghost use Rattle.std.specs.Prelude.{◌≡◌, ◌∷◌, true, List, IsSome, OnOk, OnErr};
 ghost use Rattle.bridge_model.specs.Applying.{goes_on_after};
+ghost use Rattle.bridge_model.specs.References.{gains_all};
 ghost use Rattle.bridge_model.specs.Stacks.{puts_frames};
 ghost use Rattle.bridge_setting.specs.Settings.{setting_of};
-ghost use Rattle.bridge_tables.specs.EndTables.{IsOf, lasting};
+ghost use Rattle.bridge_tables.specs.EndTables.{IsOf, lasting, on_tables};
 ghost use Rattle.plan_model.specs.Asking as plain;
 ghost use Rattle.plan_model.specs.Frames as plain_frames;
 ghost use Rattle.plan_model.specs.Frames.{Frame, frames_of, is_body, top, with_top};
 ghost use Rattle.plan_model.specs.Holdings.{goes_on};
 ghost use Rattle.plan_types.specs.Frames.{body_of, variable_of, variables_of};
+ghost use Rattle.uno_model.specs.Values.{refs};
+ghost use Rattle.uno_values.specs.Values.{plain_of};
 ghost use Rattle.bridge_frames.specs.Unwinding.{stacks_by, tables_by};
 
 use crate::tops::{put_method, take_method};
@@ -21,7 +24,7 @@ use std::alloc::Global;
 use table_model::Holder;
 use uno_base::NoMemory;
 use uno_types::{Name, Tid};
-use uno_values::refs_of;
+use uno_values::{Value, refs_of};
 
 /// Puts a method back, at the next statement.
 pub(crate) fn go_on(body: Body, tid: &Tid, stacks: &mut Stacks) -> Result<(), NoMemory>
@@ -55,11 +58,34 @@ pub(crate) fn apply_let(
     ensures lost { OnErr result (lasting tables.new ≡ lasting tables.old) }
 {
     let mut body = take_method(stacks, tid);
-    let references = refs_of(alloc, &variable.value)?;
-    tables.gain_all(setting, Holder::Frame(body.number), &references)?;
+    let holder = Holder::Frame(body.number);
+    if let Err(error) = gain_value(alloc, setting, holder, &variable.value, tables) {
+        drop(variable);
+        drop(body);
+        return Err(error);
+    }
     let Variable { name, value } = variable;
-    add(&mut body.variables, name, value)?;
+    if let Err(error) = add(&mut body.variables, name, value) {
+        drop(body);
+        return Err(error);
+    }
     go_on(body, tid, stacks)
+}
+
+/// What a value holds is held by this one too.
+fn gain_value(
+    alloc: Global,
+    setting: &Setting,
+    holder: Holder,
+    value: &Value,
+    tables: &mut Tables,
+) -> Result<(), NoMemory>
+    requires { IsOf (setting_of setting.now) tables.old }
+    ensures gained { OnOk result (tables.new ≡ on_tables (gains_all holder (refs (plain_of value.now))) tables.old) }
+    ensures kept { OnErr result (tables.new ≡ tables.old) }
+{
+    let references = refs_of(alloc, value)?;
+    tables.gain_all(setting, holder, &references)
 }
 
 /// A variable gets another value: the new one is held before the old one is let go.
@@ -80,11 +106,15 @@ pub(crate) fn apply_set(
 {
     let mut body = take_method(stacks, tid);
     let holder = Holder::Frame(body.number);
-    let references = refs_of(alloc, &variable.value)?;
-    tables.gain_all(setting, holder, &references)?;
+    if let Err(error) = gain_value(alloc, setting, holder, &variable.value, tables) {
+        drop(variable);
+        drop(body);
+        return Err(error);
+    }
     let Variable { name, value } = variable;
     let was = put(&mut body.variables, &name, value);
     tables.let_value_go(setting, holder, &was);
+    drop(was);
     go_on(body, tid, stacks)
 }
 
@@ -105,7 +135,10 @@ pub(crate) fn apply_set_field(
 {
     let body = take_method(stacks, tid);
     let object = body.object;
-    go_on(body, tid, stacks)?;
+    if let Err(error) = go_on(body, tid, stacks) {
+        drop(variable);
+        return Err(error);
+    }
     let Variable { name, value } = variable;
     tables.set_field(setting, object, &name, value)
 }
@@ -128,6 +161,7 @@ pub(crate) fn apply_drop(
     let mut body = take_method(stacks, tid);
     let was = take_out(&mut body.variables, name);
     tables.let_value_go(setting, Holder::Frame(body.number), &was);
+    drop(was);
     go_on(body, tid, stacks)
 }
 

@@ -81,7 +81,10 @@ fn query_gets(setting: &Setting, root: u32, wanted: &Name, answer: Answer, table
             let outcome = outcome_of_query(setting, reference);
             answer_root(root, outcome, tables);
             match rest {
-                Some(rest) => tables.let_value_go(setting, Holder::Root(root), &rest),
+                Some(rest) => {
+                    tables.let_value_go(setting, Holder::Root(root), &rest);
+                    drop(rest);
+                }
                 None => {}
             }
         }

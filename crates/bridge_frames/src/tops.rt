@@ -71,7 +71,7 @@ pub(crate) fn put_method(stacks: &mut Stacks, tid: &Tid, body: Body)
     requires { IsSome (top tid.now stacks.old) }
     ensures { stacks.new ≡ with_top tid.now (plain.body (body_of body)) stacks.old }
 {
-    stacks.set_top(tid, Frame::Body(body));
+    drop(stacks.set_top(tid, Frame::Body(body)));
 }
 
 /// The method that a frame is.

@@ -20,6 +20,13 @@ named f x = record { name = (field_of f).name; value = plain_of x }
 abbrev pub all_named : List Field → List Value → List plain.Variable
 all_named fs xs = as_variables (map field_of fs) (map plain_of xs)
 
+-- one more behind others
+pub pushed_field : (f : Field) (x : Value) (before now : List Variable) (y : Variable) → now ≡ before ++ y ∷ [] → y.name ≡ f.name → plain_of y.value ≡ plain_of x
+    → variables_of now ≡ variables_of before ++ named f x ∷ []
+pushed_field f x before now y pushed same_name same_value =
+    let here : variable_of y ≡ named f x = (λ k. record { name = same_name k; value = same_value k }) in
+    ap variables_of pushed ∙ map-append variable_of before (y ∷ []) ∙ ap (λ v. variables_of before ++ v ∷ []) here
+
 no_values : (fs : List entities.Field) → as_variables fs [] ≡ []
 unfolding as_variables
 no_values [] = refl
@@ -57,15 +64,12 @@ module _ (fs : List Field) (xs : List Value) where
       by false more = ap (λ ys. all_named ys (drop i xs)) (drop_all i fs (ltb-false i (length fs) more))
 
   -- one more is named
-  pub named_next : (i : ℕ) (f : Field) (x : Value) (before now : List Variable) (y : Variable) (all : List plain.Variable) → i < length fs → i < length xs → f ≡ get_or fs i f → x ≡ get_or xs i x
-      → now ≡ before ++ y ∷ [] → y.name ≡ f.name → plain_of y.value ≡ plain_of x → variables_of before ++ all_named (drop i fs) (drop i xs) ≡ all
+  pub named_next : (i : ℕ) (f : Field) (x : Value) (before now : List Variable) (all : List plain.Variable) → i < length fs → i < length xs → f ≡ get_or fs i f → x ≡ get_or xs i x
+      → variables_of now ≡ variables_of before ++ named f x ∷ [] → variables_of before ++ all_named (drop i fs) (drop i xs) ≡ all
       → variables_of now ++ all_named (drop (i + 1) fs) (drop (i + 1) xs) ≡ all
-  named_next i f x before now y all in_fs in_xs is_f is_x pushed same_name same_value so =
-      let here : variable_of y ≡ named f x = (λ k. record { name = same_name k; value = same_value k }) in
-      ap (λ ys. variables_of ys ++ all_named (drop (i + 1) fs) (drop (i + 1) xs)) pushed
-      ∙ ap (λ ys. ys ++ all_named (drop (i + 1) fs) (drop (i + 1) xs)) (map-append variable_of before (y ∷ []))
-      ∙ append_assoc (variables_of before) (variable_of y ∷ []) (all_named (drop (i + 1) fs) (drop (i + 1) xs))
-      ∙ ap (λ v. variables_of before ++ v ∷ all_named (drop (i + 1) fs) (drop (i + 1) xs)) here
+  named_next i f x before now all in_fs in_xs is_f is_x pushed so =
+      ap (λ ys. ys ++ all_named (drop (i + 1) fs) (drop (i + 1) xs)) pushed
+      ∙ append_assoc (variables_of before) (named f x ∷ []) (all_named (drop (i + 1) fs) (drop (i + 1) xs))
       ∙ ap (λ ys. variables_of before ++ ys) (sym (named_step i f x in_fs in_xs is_f is_x))
       ∙ so
 

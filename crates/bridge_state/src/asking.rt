@@ -60,16 +60,26 @@ impl State {
         ensures names { self.new ≡ with_side self.new.side self.old }
     {
         let Some(tid) = setting.root_tid(root) else {
+            drop(args);
             return Err(NoMemory);
         };
         if let Some(cause) = why_too_much(tid, oid.as_str(), face.as_str(), &args) {
             drop(args);
             return self.answer_root(root, cause);
         }
+        let Ok(object) = oid.copy(self.alloc) else {
+            drop(args);
+            return Err(NoMemory);
+        };
+        let Ok(under) = face.copy(self.alloc) else {
+            drop(object);
+            drop(args);
+            return Err(NoMemory);
+        };
         let call = Call {
             tid,
-            oid: oid.copy(self.alloc)?,
-            face: face.copy(self.alloc)?,
+            oid: object,
+            face: under,
             function,
         };
         if setting.is_own(oid.as_str().as_bytes()) {
@@ -109,7 +119,10 @@ impl State {
             drop(args);
             return self.query_own(setting, root, oid, wanted);
         }
-        let under = face.copy(self.alloc)?;
+        let Ok(under) = face.copy(self.alloc) else {
+            drop(args);
+            return Err(NoMemory);
+        };
         self.ask_peer(setting, root, tid, oid, under, wanted, args)
     }
 
@@ -138,7 +151,10 @@ impl State {
             drop(args);
             return self.answer_root(root, cause);
         }
-        let face = Name::of(self.alloc, X_INTERFACE)?;
+        let Ok(face) = Name::of(self.alloc, X_INTERFACE) else {
+            drop(args);
+            return Err(NoMemory);
+        };
         self.ask_peer(setting, root, tid, name, face, wanted, args)
     }
 
@@ -173,14 +189,23 @@ impl State {
         ensures lost { OnErr result (remains self.new.side ≡ remains self.old.side) }
         ensures names { self.new ≡ with_side self.new.side self.old }
     {
-        let waits = Root::Queries(wanted.copy(self.alloc)?);
+        let Ok(object) = oid.copy(self.alloc) else {
+            drop(face);
+            drop(args);
+            return Err(NoMemory);
+        };
         let call = Call {
             tid,
-            oid: oid.copy(self.alloc)?,
+            oid: object,
             face,
             function: 0,
         };
-        self.begin_peer(setting, root, waits, call, args)
+        let Ok(wanted) = wanted.copy(self.alloc) else {
+            drop(call);
+            drop(args);
+            return Err(NoMemory);
+        };
+        self.begin_peer(setting, root, Root::Queries(wanted), call, args)
     }
 
     /// An own object answers a query at once.
@@ -227,13 +252,28 @@ impl State {
         ensures kept { OnErr result (self.new ≡ self.old) }
     {
         let value = self.own_value(setting, oid, wanted)?;
-        let references = refs_of(self.alloc, &value)?;
-        self.tables
-            .gain_all(setting, Holder::Root(root), &references)?;
+        if let Err(error) = self.hold_value(setting, root, &value) {
+            drop(value);
+            return Err(error);
+        }
         Ok(Answer::Returned {
             value,
             outs: Vec::new(self.alloc),
         })
+    }
+
+    /// A root holds what a value refers to.
+    fn hold_value(&mut self, setting: &Setting, root: u32, value: &Value) -> Result<(), NoMemory>
+        requires { IsEndOf (setting_of setting.now) self.old }
+        ensures held { OnOk result (self.new ≡ on_side (on_tables (gains_all (holder.Root root) (refs (plain_of value.now)))) self.old) }
+        ensures kept { OnErr result (self.new ≡ self.old) }
+    {
+        let references = refs_of(self.alloc, value)?;
+        let holder = Holder::Root(root);
+        if let Err(error) = self.tables.gain_all(setting, holder, &references) {
+            return Err(error);
+        }
+        Ok(())
     }
 
     fn own_value(&self, setting: &Setting, oid: &Text, wanted: &Name) -> Result<Value, NoMemory>
@@ -242,7 +282,9 @@ impl State {
         ensures { IfOk result (λ x. plain_of x ≡ object_answer (setting_of setting.now) oid.now (kd.interface wanted.now) self.now.side.tables.objects) }
     {
         let kind = TypeName::Interface(wanted.copy(self.alloc)?);
-        self.tables.object_answer(setting, oid, &kind)
+        let answer = self.tables.object_answer(setting, oid, &kind);
+        drop(kind);
+        answer
     }
 
     /// A root waits for the call of an own object, which begins above it.
@@ -288,7 +330,11 @@ impl State {
         ensures lost { OnErr result (remains self.new.side ≡ remains self.old.side) }
         ensures names { self.new ≡ with_side self.new.side self.old }
     {
-        self.stacks.push(call.tid, Frame::Base { root })?;
+        if let Err(error) = self.stacks.push(call.tid, Frame::Base { root }) {
+            drop(call);
+            drop(args);
+            return Err(error);
+        }
         begin_here(
             self.alloc,
             setting,
@@ -343,7 +389,11 @@ impl State {
         ensures lost { OnErr result (remains self.new.side ≡ remains self.old.side) }
         ensures names { self.new ≡ with_side self.new.side self.old }
     {
-        self.stacks.push(call.tid, Frame::Base { root })?;
+        if let Err(error) = self.stacks.push(call.tid, Frame::Base { root }) {
+            drop(call);
+            drop(args);
+            return Err(error);
+        }
         call_peer(
             self.alloc,
             setting,

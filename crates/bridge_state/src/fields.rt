@@ -1,5 +1,5 @@
 //! The values of the fields of an object under their names.
-ghost use Rattle.std.specs.Prelude.{◌≡◌, ◌↔◌, true, IfOk, map};
+ghost use Rattle.std.specs.Prelude.{◌≡◌, ◌↔◌, ◌∷◌, ◌++◌, true, [], IfOk, OnOk, map};
 ghost use Rattle.bridge_model.specs.Objects.{as_variables};
 ghost use Rattle.plan_types.specs.Frames.{variable_of, variables_of};
 ghost use Rattle.uno_entities.specs.Entities.{field_of};
@@ -23,11 +23,27 @@ pub(crate) fn named_fields(
 {
     let mut variables = Vec::new(alloc);
     for place in 0..fields.len().min(values.len()) {
-        let name = fields[place].name.copy(alloc)?;
-        let value = values[place].copy(alloc)?;
-        variables.push(Variable { name, value })?;
+        if let Err(error) = push_field(alloc, &fields[place], &values[place], &mut variables) {
+            drop(variables);
+            return Err(error);
+        }
     }
     Ok(variables)
+}
+
+/// A copy of a value, under the name of a field.
+fn push_field(
+    alloc: Global,
+    field: &Field,
+    value: &Value,
+    variables: &mut Vec<Variable>,
+) -> Result<(), NoMemory>
+    ensures { OnOk result (variables_of variables.new.items ≡ variables_of variables.old.items ++ record { name = (field_of field.now).name; value = plain_of value.now } ∷ []) }
+{
+    let name = field.name.copy(alloc)?;
+    let value = value.copy(alloc)?;
+    variables.push(Variable { name, value })?;
+    Ok(())
 }
 
 /// Whether variables are the values under the names of the fields.

@@ -243,7 +243,9 @@ impl State {
             drop(message);
             return Ok(Heard::Broken(why));
         }
-        self.receive(setting, message, trace)?;
+        if let Err(error) = self.receive(setting, message, trace) {
+            return Err(error);
+        }
         Ok(Heard::Message(used))
     }
 }
@@ -256,4 +258,5 @@ fn take_roots_back(tables: &mut Tables, answered: Vec<AnsweredRoot>)
     while let Some(last) = left.pop() {
         tables.take_back_root(last.root, last.before);
     }
+    drop(left);
 }

@@ -39,13 +39,16 @@ impl State {
     {
         let depth = self.depth(tid)?;
         let behaviour = self.tables.behaviour_of(body.object);
-        let fields = self.fields(setting, body.object, behaviour)?;
-        let frame = Frame::Body(body.copy(self.alloc)?);
         let own = setting.own_oid(self.alloc, body.object)?;
         let tid = tid.copy(self.alloc)?;
+        let fields = self.fields(setting, body.object, behaviour)?;
+        let Ok(method) = body.copy(self.alloc) else {
+            drop(fields);
+            return Err(NoMemory);
+        };
         Ok(Job {
             tid,
-            frame,
+            frame: Frame::Body(method),
             fields,
             depth,
             behaviour,

@@ -100,7 +100,9 @@ impl State {
         ensures names { self.new ≡ with_side self.new.side self.old }
     {
         if call.function == 0 {
-            return answer_at_once(self.alloc, setting, call, &args, &mut self.tables);
+            let said = answer_at_once(self.alloc, setting, call, &args, &mut self.tables);
+            drop(args);
+            return said;
         }
         let args = home_each(setting, args);
         begin_there(
@@ -131,8 +133,10 @@ impl State {
         ensures back { HasRoots (setting_of setting.now) self.old.side → rests (undone trace.new self.new.side) ≡ rests (undone trace.old self.old.side) }
         ensures names { self.new ≡ with_side self.new.side self.old }
     {
-        let references = refs_of_answer(self.alloc, &answer)?.len();
-        trace.count(references)?;
+        if let Err(error) = count_answer(self.alloc, &answer, trace) {
+            drop(answer);
+            return Err(error);
+        }
         let answer = home_answer(setting, answer);
         drop(self.stacks.pop(tid));
         if !self.may_get(tid, &answer) {
@@ -160,6 +164,17 @@ impl State {
             None => true,
         }
     }
+}
+
+/// A reply is counted with the objects that it refers to.
+fn count_answer(alloc: Global, answer: &Answer, trace: &mut Trace) -> Result<(), NoMemory>
+    ensures counted { OnOk result (trace.new.references ≡ trace.old.references + length (refs_of_answer (answer_of answer.now))) }
+    ensures answered { trace.new.answered ≡ trace.old.answered }
+    ensures frames { trace.new.frames_made ≡ trace.old.frames_made }
+{
+    let references = refs_of_answer(alloc, answer)?.len();
+    trace.count(references)?;
+    Ok(())
 }
 
 /// The root that a frame is.
@@ -212,16 +227,16 @@ fn answer_at_once(
         face,
         function: _,
     } = call;
+    let tid = tid.copy(alloc)?;
     let value = answer_asked(setting, &oid, args, tables)?;
-    let answer = Answer::Returned {
-        value,
-        outs: Vec::new(alloc),
-    };
     let message = Message::Reply {
-        tid: tid.copy(alloc)?,
+        tid,
         face,
         function: 0,
-        answer,
+        answer: Answer::Returned {
+            value,
+            outs: Vec::new(alloc),
+        },
     };
     tables.say(setting, message)
 }
@@ -239,7 +254,12 @@ fn answer_asked(
 {
     match args.first() {
         Some(Value::Kind(kind)) => answer_to(setting, oid, kind, tables),
-        _ => answer_to(setting, oid, &TypeName::Void, tables),
+        _ => {
+            let void = TypeName::Void;
+            let answer = answer_to(setting, oid, &void, tables);
+            drop(void);
+            answer
+        }
     }
 }
 

@@ -68,7 +68,13 @@ impl State {
         let given = oid.copy(self.alloc)?;
         let face = wanted.copy(self.alloc)?;
         let reference = Reference::Local { oid, face };
-        self.tables.gain(setting, Holder::Root(root), &reference)?;
+        let holder = Holder::Root(root);
+        if let Err(error) = self.tables.gain(setting, holder, &reference) {
+            drop(reference);
+            drop(given);
+            return Err(error);
+        }
+        drop(reference);
         Ok(given)
     }
 
@@ -146,6 +152,10 @@ fn outcome_in(state: Root) -> Option<Outcome>
 {
     match state {
         Root::Answered(outcome) => Some(outcome),
-        Root::Idle | Root::Calls | Root::Queries(_) => None,
+        Root::Queries(wanted) => {
+            drop(wanted);
+            None
+        }
+        Root::Idle | Root::Calls => None,
     }
 }

@@ -55,8 +55,15 @@ impl State {
         ensures { IfOk result (λ state. state ≡ opening_end (setting_of setting.now)) }
     {
         let incoming = Incoming::new(alloc)?;
-        let outgoing = Outgoing::new(alloc)?;
-        let tables = first_tables(alloc, setting)?;
+        let Ok(outgoing) = Outgoing::new(alloc) else {
+            drop(incoming);
+            return Err(NoMemory);
+        };
+        let Ok(tables) = first_tables(alloc, setting) else {
+            drop(incoming);
+            drop(outgoing);
+            return Err(NoMemory);
+        };
         Ok(State {
             alloc,
             tables,
@@ -107,6 +114,9 @@ fn first_tables(alloc: Global, setting: &Setting) -> Result<Tables, NoMemory>
     ensures { IfOk result (λ tables. tables ≡ on_tables (makes_all (setting_of setting.now) (first_objects (plan_of setting.now.plan))) (opening_tables (setting_of setting.now))) }
 {
     let mut tables = Tables::new(alloc, setting)?;
-    tables.make_first(setting)?;
+    if let Err(error) = tables.make_first(setting) {
+        drop(tables);
+        return Err(error);
+    }
     Ok(tables)
 }

@@ -7,5 +7,6 @@ pub mod LastingLemmas
 mod LettingLemmas
 mod MakingLemmas
 mod ProxyCounts
+mod PushLemmas
 mod ReferringLemmas
 mod RootLemmas

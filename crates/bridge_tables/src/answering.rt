@@ -14,6 +14,7 @@ ghost use Rattle.table_model.specs.Pair.{pair};
 ghost use Rattle.table_model.specs.Stubs.{stub, is_last, released_one};
 ghost use Rattle.uno_entities.specs.TypeNames.{kind_of};
 ghost use Rattle.uno_model.specs.Sound.{IsSound};
+ghost use Rattle.uno_model.specs.Values.{any};
 ghost use Rattle.uno_values.specs.Values.{plain_of};
 ghost use Rattle.bridge_tables.specs.Answering.{interface_in, any_of_own};
 ghost use Rattle.bridge_tables.specs.EndTables.{IsOf, on_tables};
@@ -167,17 +168,35 @@ fn any_of_local(alloc: Global, oid: &Text, face: &Name) -> Result<Value, NoMemor
     ensures { IfOk result (λ answer. plain_of answer ≡ any_of_own oid.now face.now) }
 {
     let oid = oid.copy(alloc)?;
-    let kind = TypeName::Interface(face.copy(alloc)?);
-    let face = face.copy(alloc)?;
-    let value = Value::Ref(Reference::Local { oid, face });
-    Ok(Value::Any(Box::new(alloc, AnyValue { kind, value })?))
+    let Ok(held) = face.copy(alloc) else {
+        drop(oid);
+        return Err(NoMemory);
+    };
+    let Ok(face) = face.copy(alloc) else {
+        drop(oid);
+        drop(held);
+        return Err(NoMemory);
+    };
+    let value = Value::Ref(Reference::Local { oid, face: held });
+    any_of(alloc, TypeName::Interface(face), value)
 }
 
 /// An any of void.
 fn void_any(alloc: Global) -> Result<Value, NoMemory>
     ensures { IfOk result (λ answer. plain_of answer ≡ no_object) }
 {
-    let kind = TypeName::Void;
-    let value = Value::Void;
-    Ok(Value::Any(Box::new(alloc, AnyValue { kind, value })?))
+    any_of(alloc, TypeName::Void, Value::Void)
+}
+
+/// A value in an any of its type.
+fn any_of(alloc: Global, kind: TypeName, value: Value) -> Result<Value, NoMemory>
+    ensures { IfOk result (λ answer. plain_of answer ≡ any (kind_of kind) (plain_of value)) }
+{
+    match Box::new(alloc, AnyValue { kind, value }) {
+        Ok(any) => Ok(Value::Any(any)),
+        Err(failed) => {
+            drop(failed);
+            Err(NoMemory)
+        }
+    }
 }

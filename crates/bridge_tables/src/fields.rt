@@ -47,11 +47,20 @@ impl Tables {
         ensures set { OnOk result (self.new ≡ on_tables (sets_field_of (setting_of setting.now) number name.now (plain_of value)) self.old) }
         ensures kept { OnErr result (self.new ≡ self.old) }
     {
-        let references = uno_values::refs_of(self.alloc, &value)?;
+        let Ok(references) = uno_values::refs_of(self.alloc, &value) else {
+            drop(value);
+            return Err(NoMemory);
+        };
         let behaviour = self.behaviour_of(number);
-        self.gain_all(setting, Holder::Object(number), &references)?;
+        if let Err(error) = self.gain_all(setting, Holder::Object(number), &references) {
+            drop(references);
+            drop(value);
+            return Err(error);
+        }
+        drop(references);
         let was = self.put_field(fields_of(&setting.plan, behaviour), number, name, value);
         self.let_value_go(setting, Holder::Object(number), &was);
+        drop(was);
         Ok(())
     }
 

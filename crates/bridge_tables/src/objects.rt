@@ -145,7 +145,15 @@ fn defaults_of(alloc: Global, registry: &Registry, fields: &[Field]) -> Result<V
 {
     let mut values = Vec::new(alloc);
     for field in fields {
-        values.push(default_of(alloc, registry, &field.kind)?)?;
+        let Ok(value) = default_of(alloc, registry, &field.kind) else {
+            drop(values);
+            return Err(NoMemory);
+        };
+        if let Err(failed) = values.push(value) {
+            drop(failed);
+            drop(values);
+            return Err(NoMemory);
+        }
     }
     Ok(values)
 }

@@ -83,6 +83,7 @@ impl Tables {
     {
         let state = self.set_root(root, before);
         self.lose_state(Holder::Root(root), &state);
+        drop(state);
     }
 
     /// An occurrence less of each reference in what a root got and did not take.
@@ -162,7 +163,10 @@ fn end_root(root: &mut Root, cause: Cause)
 {
     match root {
         Root::Idle | Root::Answered(_) => {}
-        Root::Calls | Root::Queries(_) => *root = Root::Answered(outcome_at_end(cause)),
+        Root::Calls | Root::Queries(_) => {
+            let answered = Root::Answered(outcome_at_end(cause));
+            drop(mem::replace(root, answered));
+        }
     }
 }
 

@@ -50,8 +50,15 @@ impl Tables {
         ensures kept { OnErr result (self.new ≡ self.old) }
     {
         let tid = setting.release_tid().copy(self.alloc)?;
-        let oid = oid.copy(self.alloc)?;
-        let face = face.copy(self.alloc)?;
+        let Ok(oid) = oid.copy(self.alloc) else {
+            drop(tid);
+            return Err(NoMemory);
+        };
+        let Ok(face) = face.copy(self.alloc) else {
+            drop(tid);
+            drop(oid);
+            return Err(NoMemory);
+        };
         self.unsaid.push(Message::Release { tid, oid, face })
     }
 

@@ -56,9 +56,17 @@ impl Tables {
     pub fn new(alloc: Global, setting: &Setting) -> Result<Tables, NoMemory>
         ensures { IfOk result (λ tables. tables ≡ opening_tables (setting_of setting.now)) }
     {
-        let objects = Objects::new(alloc, setting.names.tag(), first_objects(&setting.plan))?;
         let tid = setting.release_tid().copy(alloc)?;
-        let roots = idle_roots(alloc, setting.plan.threads.len())?;
+        let Ok(roots) = idle_roots(alloc, setting.plan.threads.len()) else {
+            drop(tid);
+            return Err(NoMemory);
+        };
+        let first = first_objects(&setting.plan);
+        let Ok(objects) = Objects::new(alloc, setting.names.tag(), first) else {
+            drop(roots);
+            drop(tid);
+            return Err(NoMemory);
+        };
         Ok(Tables {
             alloc,
             objects,
@@ -121,7 +129,11 @@ fn idle_roots(alloc: Global, count: usize) -> Result<Vec<Root>, NoMemory>
 {
     let mut roots = Vec::new(alloc);
     for _turn in 0..count {
-        roots.push(Root::Idle)?;
+        if let Err(failed) = roots.push(Root::Idle) {
+            drop(failed);
+            drop(roots);
+            return Err(NoMemory);
+        }
     }
     Ok(roots)
 }

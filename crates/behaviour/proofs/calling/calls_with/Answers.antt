@@ -15,8 +15,8 @@ returns-in-Some c =
     let step = rw c.deref.ensures.value at (c.in-Some.ensures c.args.registry.now n (calls (target_of c.args.target) n (map plain_of c.args.args.items) (option_map (λ (f : Field). f.name) (call_of c.args.call.now).to))) in
     given_too c.fails.result effect_of _ _ (sym step) c.fails.ensures
 
-pub returns-in-None : goal.returns-in-None
-returns-in-None c =
+pub returns : goal.returns
+returns c =
     let n = number_in c.args.registry.now (face_of (target_of c.args.target)) (call_of c.args.call.now).callee in
-    let step = rw c.deref.ensures.value at (c.in-None.ensures c.args.registry.now n (calls (target_of c.args.target) n (map plain_of c.args.args.items) (option_map (λ (f : Field). f.name) (call_of c.args.call.now).to))) in
+    let step = rw c.deref.ensures.value at (c.in_default.ensures c.args.registry.now n (calls (target_of c.args.target) n (map plain_of c.args.args.items) (option_map (λ (f : Field). f.name) (call_of c.args.call.now).to))) in
     given_too c.makes_call.result effect_of _ _ (sym step) c.makes_call.ensures

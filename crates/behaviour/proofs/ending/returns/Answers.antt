@@ -6,10 +6,10 @@ use Rattle.behaviour.specs.Effects.{effect_of}
 use Rattle.behaviour.specs.Running.{running_of}
 use Rattle.behaviour.proofs.ending.returns.Goals as goal
 
-pub returns-in-None : goal.returns-in-None
-returns-in-None c =
+pub returns : goal.returns
+returns c =
     as_it_is c.args.running.tid.now c.args.running.face.now c.args.running.number (returned (plain_of c.args.value) (map plain_of c.args.outs.items)) _ refl
-    (rw c.deref.ensures.value at (c.in-None.ensures c.args.running.face.now c.args.running.number))
+    (rw c.deref.ensures.value at (c.in_default.ensures c.args.running.face.now c.args.running.number))
     ∙ sym (returned_leaves c.args.registry.now (running_of c.args.running) _ _)
 
 pub returns-in-Some : goal.returns-in-Some

@@ -8,7 +8,7 @@ use Rattle.behaviour.proofs.functions.default_outs.Goals as goal
 pub loop-place-preserved : goal.loop-place-preserved
 loop-place-preserved c =
     gives_more (λ ps. map (default_of_kind c.args.registry.now) (kinds_on comes ps)) (kinds_split (default_of_kind c.args.registry.now)) (no_kinds (default_of_kind c.args.registry.now))
-    (lent_function c.args.function.now).params c.loop-place.place (option_map lent_param c.param.result) _ _ _ c.param.ensures c.in_ok-push_default.ensures c.loop-place.invariant
+    (lent_function c.args.function.now).params c.loop-place.place (option_map lent_param c.param.result) _ _ _ c.param.ensures c.in_default.ensures c.loop-place.invariant
 
 pub returns : goal.returns
 returns c =

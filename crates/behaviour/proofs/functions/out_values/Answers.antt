@@ -8,7 +8,7 @@ use Rattle.behaviour.proofs.functions.out_values.Goals as goal
 pub loop-place-preserved : goal.loop-place-preserved
 loop-place-preserved c =
     gives_more (λ ps. out_values ps (variables_of c.args.variables.now)) (outs_split (variables_of c.args.variables.now)) (no_outs (variables_of c.args.variables.now))
-    (lent_function c.args.function.now).params c.loop-place.place (option_map lent_param c.param.result) _ _ _ c.param.ensures c.in_ok-push_out.ensures c.loop-place.invariant
+    (lent_function c.args.function.now).params c.loop-place.place (option_map lent_param c.param.result) _ _ _ c.param.ensures c.in_default.ensures c.loop-place.invariant
 
 pub returns : goal.returns
 returns c =

@@ -5,30 +5,20 @@ use Rattle.plan_types.specs.Frames.{body_of}
 use Rattle.bridge_model.specs.Handing.{gains_below, lets_go_frame}
 use Rattle.bridge_setting.specs.Settings.{setting_of}
 use Rattle.bridge_tables.specs.EndTables.{on_tables}
-use Rattle.uno_entities.specs.TypeNames.{kind_of}
 use Rattle.uno_values.specs.References.{ref_of}
-use Rattle.uno_values.specs.Values.{plain_of}
-use Rattle.bridge_frames.proofs.EndingLemmas.{refs_raised}
 use Rattle.bridge_frames.proofs.LastingLemmas.{of_after, stands_after}
 use Rattle.bridge_frames.proofs.ending.hand_over.Goals as goal
 
 pub let_frame_go-requires-clause-of : goal.let_frame_go-requires-clause-of
 let_frame_go-requires-clause-of c =
-    of_after (setting_of c.args.setting.now) (gains_below (frames_of c.args.tid.now c.args.stacks.now) (raised_of c.args.exception.now) c.args.tables.now.tables) c.args.tables.now c.gain_below.new.tables
-    (c.in_ok-gain_below.ensures.gained (raised_of c.args.exception.now)
-    (refs_raised (kind_of c.args.exception.now.kind) (plain_of c.args.exception.now.value) (map ref_of c.deref.result.now) (ap (map ref_of) c.deref.ensures.value ∙ c.in_ok-references.ensures)))
-    c.requires.of
+    of_after (setting_of c.args.setting.now) (gains_below (frames_of c.args.tid.now c.args.stacks.now) (raised_of c.args.exception.now) c.args.tables.now.tables) c.args.tables.now c.gain_exception.new.tables
+    c.in_default.ensures.gained c.requires.of
 
 pub let_frame_go-requires-clause-stands : goal.let_frame_go-requires-clause-stands
 let_frame_go-requires-clause-stands c =
-    stands_after (gains_below (frames_of c.args.tid.now c.args.stacks.now) (raised_of c.args.exception.now) c.args.tables.now.tables) c.args.tables.now c.gain_below.new.tables
-    (c.in_ok-gain_below.ensures.gained (raised_of c.args.exception.now)
-    (refs_raised (kind_of c.args.exception.now.kind) (plain_of c.args.exception.now.value) (map ref_of c.deref.result.now) (ap (map ref_of) c.deref.ensures.value ∙ c.in_ok-references.ensures)))
-    c.requires.stands
+    stands_after (gains_below (frames_of c.args.tid.now c.args.stacks.now) (raised_of c.args.exception.now) c.args.tables.now.tables) c.args.tables.now c.gain_exception.new.tables
+    c.in_default.ensures.gained c.requires.stands
 
 pub returns-clause-handed : goal.returns-clause-handed
 returns-clause-handed c =
-    c.let_frame_go.ensures
-    ∙ ap (on_tables (lets_go_frame (setting_of c.args.setting.now) (body_of c.args.body) (map ref_of c.args.extra.now)))
-    (c.in_ok-gain_below.ensures.gained (raised_of c.args.exception.now)
-    (refs_raised (kind_of c.args.exception.now.kind) (plain_of c.args.exception.now.value) (map ref_of c.deref.result.now) (ap (map ref_of) c.deref.ensures.value ∙ c.in_ok-references.ensures)))
+    c.let_frame_go.ensures ∙ ap (on_tables (lets_go_frame (setting_of c.args.setting.now) (body_of c.args.body.now) (map ref_of c.args.extra.now))) c.in_default.ensures.gained

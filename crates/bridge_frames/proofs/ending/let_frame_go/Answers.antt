@@ -11,7 +11,7 @@ use Rattle.bridge_frames.proofs.ending.let_frame_go.Goals as goal
 
 pub returns : goal.returns
 returns c =
-    frame_gone (setting_of c.args.setting.now) (body_of c.args.body) (map ref_of c.args.extra.now) (ref_of c.args.own.now) c.args.tables.now c.let_go_all.new.self c.let_variables_go.new.tables c.let_go.new.self
+    frame_gone (setting_of c.args.setting.now) (body_of c.args.body.now) (map ref_of c.args.extra.now) (ref_of c.args.own.now) c.args.tables.now c.let_go_all.new.self c.let_variables_go.new.tables c.let_go.new.self
     c.requires.own c.let_go_all.ensures
     (c.let_variables_go.ensures
-    ∙ ap (λ xs. on_tables (lets_go_all (setting_of c.args.setting.now) (holder.Frame c.args.body.number) (refs_under (variables_of xs))) c.let_go_all.new.self) c.deref.ensures.value) c.let_go.ensures
+    ∙ ap (λ xs. on_tables (lets_go_all (setting_of c.args.setting.now) (holder.Frame c.args.body.now.number) (refs_under (variables_of xs))) c.let_go_all.new.self) c.deref.ensures.value) c.let_go.ensures

@@ -14,10 +14,10 @@ put_method-requires c = top_stays c.args.tid.now (base 0) c.args.stacks.now c.ta
 pub returns-clause-stacks : goal.returns-clause-stacks
 returns-clause-stacks c = λ b fs at.
     went_on_stacks c.args.tid.now c.args.stacks.now b (body_of c.take_method-body.result) fs at c.take_method-body.ensures.top (setting_of c.args.setting.now) c.args.tables.now.tables (plain_of c.args.value)
-    (map plain_of c.args.outs.items) (body_of c.take_in.new.body) c.take_method-body.new.stacks c.put_method.new.stacks c.in_ok-gone.ensures.body c.take_method-body.ensures.taken c.put_method.ensures
+    (map plain_of c.args.outs.items) (body_of c.take_in.new.body) c.take_method-body.new.stacks c.put_method.new.stacks c.in-Ok.ensures.body c.take_method-body.ensures.taken c.put_method.ensures
 
 pub returns-clause-tables : goal.returns-clause-tables
 returns-clause-tables c = λ b fs at.
     went_on_tables c.args.tid.now c.args.stacks.now b (body_of c.take_method-body.result) fs at c.take_method-body.ensures.top (setting_of c.args.setting.now) (plain_of c.args.value) (map plain_of c.args.outs.items)
-    (refs_of_values (map plain_of c.deref.result.now)) c.args.tables.now c.let_values_go.new.self (refs_same c.deref.result.now ∙ ap refs_in c.deref.ensures.value ∙ c.in_ok-gone.ensures.gone)
+    (refs_of_values (map plain_of c.deref.result.now)) c.args.tables.now c.let_values_go.new.self (refs_same c.deref.result.now ∙ ap refs_in c.deref.ensures.value ∙ c.in-Ok.ensures.gone)
     c.let_values_go.ensures

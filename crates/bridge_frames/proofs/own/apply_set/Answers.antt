@@ -1,6 +1,5 @@
-use Rattle.std.proofs.Common.{ap, map, ◌∙◌}
+use Rattle.std.proofs.Common.{refl, ◌∙◌}
 use Rattle.uno_model.specs.Values.{refs}
-use Rattle.uno_values.specs.References.{ref_of}
 use Rattle.uno_values.specs.Values.{plain_of}
 use Rattle.plan_types.specs.Frames.{body_of, variables_of}
 use Rattle.bridge_setting.specs.Settings.{setting_of}
@@ -22,11 +21,11 @@ pub returns-clause-tables : goal.returns-clause-tables
 returns-clause-tables c = λ b fs these.
     at_any c.go_on.result
     (set_held c.args.tid.now c.args.stacks.now b (body_of c.take_method-body.result) fs these c.take_method-body.ensures.top (setting_of c.args.setting.now) c.args.tables.now c.let_value_go.new.self
-    c.args.variable.name (plain_of c.args.variable.value) (plain_of c.put-was.result) (map ref_of c.deref.result.now) c.gain_all.new.self (ap (map ref_of) c.deref.ensures.value ∙ c.in_ok-references.ensures)
-    c.put-was.ensures.was c.in_ok-gain_all.ensures.gained c.let_value_go.ensures)
+    c.args.variable.name (plain_of c.args.variable.value) (plain_of c.put-was.result) (refs (plain_of c.args.variable.value)) c.gain_value.new.tables refl
+    c.put-was.ensures.was c.in_default.ensures.gained c.let_value_go.ensures)
 
 pub returns-clause-lost : goal.returns-clause-lost
 returns-clause-lost c =
     at_err c.go_on.result
-    (lasting_all_gone c.take_method-body.result.number (setting_of c.args.setting.now) (refs (plain_of c.put-was.result)) c.gain_all.new.self c.let_value_go.new.self c.let_value_go.ensures
-    ∙ lasting_all_gained c.take_method-body.result.number (map ref_of c.deref.result.now) c.args.tables.now c.gain_all.new.self c.in_ok-gain_all.ensures.gained)
+    (lasting_all_gone c.take_method-body.result.number (setting_of c.args.setting.now) (refs (plain_of c.put-was.result)) c.gain_value.new.tables c.let_value_go.new.self c.let_value_go.ensures
+    ∙ lasting_all_gained c.take_method-body.result.number (refs (plain_of c.args.variable.value)) c.args.tables.now c.gain_value.new.tables c.in_default.ensures.gained)

@@ -12,7 +12,7 @@ pub returns-clause-stacks : goal.returns-clause-stacks
 returns-clause-stacks c = λ b fs these.
     at_any c.set_field.result
     (field_on c.args.tid.now c.args.stacks.now c.take_method-body.new.stacks c.go_on.new.stacks b (body_of c.take_method-body.result) fs these c.take_method-body.ensures.top c.take_method-body.ensures.taken
-    (variable_of c.args.variable) (setting_of c.args.setting.now) c.args.tables.now.tables c.in_ok-go_on.ensures)
+    (variable_of c.args.variable) (setting_of c.args.setting.now) c.args.tables.now.tables c.in_default.ensures)
 
 pub returns-clause-tables : goal.returns-clause-tables
 returns-clause-tables c = λ b fs these.

@@ -8,9 +8,8 @@ use Rattle.bridge_state.proofs.fields.named_fields.Goals as goal
 pub loop-place-preserved : goal.loop-place-preserved
 loop-place-preserved c =
     let less = c.loop-place-test.true in let least = c.min-place-end.ensures in
-    named_next c.args.fields.now c.args.values.now c.loop-place.place c.index-fields-place.result c.index-values-place.result c.loop-place.variables.items c.push.new.self.items _
-    (as_variables (map field_of c.args.fields.now) (map plain_of c.args.values.now)) (omega (arith, less, least)) (omega (arith, less, least)) c.index-fields-place.is c.index-values-place.is c.in_ok-push.ensures.items
-    (search rules) (search rules) c.loop-place.invariant
+    named_next c.args.fields.now c.args.values.now c.loop-place.place c.index-fields-place.result c.index-values-place.result c.loop-place.variables.items c.push_field.new.variables.items
+    (as_variables (map field_of c.args.fields.now) (map plain_of c.args.values.now)) (omega (arith, less, least)) (omega (arith, less, least)) c.index-fields-place.is c.index-values-place.is c.in_default.ensures c.loop-place.invariant
 
 pub returns : goal.returns
 returns c =

@@ -13,11 +13,11 @@ pub returns-clause-heard : goal.returns-clause-heard
 returns-clause-heard c =
     let s = c.self.inside in
     message_so (setting_of c.args.setting.now) c.args.body.now s.tables s.stacks s.incoming c.read.new.self s.outgoing s.entries s.cause c.args.self.now c.self.view_is (message_of c.in-Ok.read.0) c.in-Ok.read.1
-    c.in-Ok.ensures.gives c.in-Ok.ensures.stays c.refusal.result c.refusal.ensures c.receive.new.self c.in_ok-receive.ensures.received c.args.trace.now.references c.receive.new.trace.references c.in_default.is
-    c.in_ok-receive.ensures.counted
+    c.in-Ok.ensures.gives c.in-Ok.ensures.stays c.refusal.result c.refusal.ensures c.receive.new.self c.in_default-receive.ensures.received c.args.trace.now.references c.receive.new.trace.references c.in_default.is
+    c.in_default-receive.ensures.counted
 
 pub returns-clause-stands : goal.returns-clause-stands
 returns-clause-stands c =
     let s = c.self.inside in
     stands_so (setting_of c.args.setting.now) c.args.body.now s.tables s.stacks s.incoming c.read.new.self s.outgoing s.entries s.cause c.args.self.now c.self.view_is (message_of c.in-Ok.read.0) c.in-Ok.read.1
-    c.in-Ok.ensures.gives c.in-Ok.ensures.stays c.refusal.result c.refusal.ensures c.receive.new.self c.in_ok-receive.ensures.received c.requires.stands
+    c.in-Ok.ensures.gives c.in-Ok.ensures.stays c.refusal.result c.refusal.ensures c.receive.new.self c.in_default-receive.ensures.received c.requires.stands

@@ -9,4 +9,4 @@ pub returns-clause-begun : goal.returns-clause-begun
 returns-clause-begun c =
     begun_above c.args.call.tid.now c.args.root (λ fs t. calls_peer (setting_of c.args.setting.now) c.args.call.tid.now c.args.call.oid c.args.call.face c.args.call.function (map plain_of c.args.args.items) fs t)
     c.self.inside.tables c.self.inside.stacks c.push.new.self c.self.inside.incoming c.self.inside.outgoing c.self.inside.entries c.self.inside.cause c.args.self.now c.self.view_is c.requires.none
-    c.in_ok-push.ensures.pushed c.call_peer.result c.call_peer.new.tables c.call_peer.new.stacks c.call_peer.ensures.stacks c.call_peer.ensures.tables
+    c.in_default.ensures.pushed c.call_peer.result c.call_peer.new.tables c.call_peer.new.stacks c.call_peer.ensures.stacks c.call_peer.ensures.tables

@@ -9,10 +9,10 @@ use Rattle.bridge_state.proofs.state.State.receive_request.Goals as goal
 
 pub returns-then-call-eq0-clause-rests : goal.returns-then-call-eq0-clause-rests
 returns-then-call-eq0-clause-rests c =
-    quiet_rests c.answer_at_once.result c.self.inside.tables c.answer_at_once.new.tables c.self.inside.stacks c.self.inside.stacks c.self.inside.incoming c.self.inside.outgoing c.self.inside.entries c.self.inside.cause
+    quiet_rests c.answer_at_once-said.result c.self.inside.tables c.answer_at_once-said.new.tables c.self.inside.stacks c.self.inside.stacks c.self.inside.incoming c.self.inside.outgoing c.self.inside.entries c.self.inside.cause
     c.args.self.now c.self.view_is (answers_at_once (setting_of c.args.setting.now) c.args.call.tid.now c.args.call.oid c.args.call.face (map plain_of c.deref.result.now) c.self.inside.tables.tables)
-    (answered_rests (setting_of c.args.setting.now) c.args.call.tid.now c.args.call.oid c.args.call.face (map plain_of c.deref.result.now) c.self.inside.tables.tables) c.answer_at_once.ensures.said
-    c.answer_at_once.ensures.kept
+    (answered_rests (setting_of c.args.setting.now) c.args.call.tid.now c.args.call.oid c.args.call.face (map plain_of c.deref.result.now) c.self.inside.tables.tables) c.answer_at_once-said.ensures.said
+    c.answer_at_once-said.ensures.kept
 
 pub returns-clause-rests : goal.returns-clause-rests
 returns-clause-rests c =

@@ -1,4 +1,4 @@
-use Rattle.std.proofs.Common.{rules, map, ap, sym, ◌∙◌}
+use Rattle.std.proofs.Common.{map, ap, sym, ◌∙◌}
 use Rattle.uno_values.specs.Values.{plain_of}
 use Rattle.urp_message.specs.Messages.{message_of}
 use Rattle.bridge_model.specs.Receiving.{refs_refusal, refusal}
@@ -12,5 +12,5 @@ returns-in_default c =
     c.values_refusal.ensures
     ∙ ap (λ vs. refs_refusal (setting_of c.args.setting.now) c.self.inside.tables.tables (refs_of_values (map plain_of vs))) c.deref.ensures.value
     ∙ request_fine (setting_of c.args.setting.now) c.args.self.now.side c.self.inside.tables.tables c.self.inside.stacks c.in-Request.tid c.in-Request.oid c.in-Request.face c.in-Request.function (map plain_of c.in-Request.args.items)
-    c.is_target.result c.thread_refusal.result (ap (λ e. e.side.tables) c.self.view_is) (ap (λ e. e.side.stacks) c.self.view_is) c.is_target.ensures c.if-not-is_target.false c.thread_refusal.ensures (search rules)
+    c.is_target.result c.thread_refusal.result (ap (λ e. e.side.tables) c.self.view_is) (ap (λ e. e.side.stacks) c.self.view_is) c.is_target.ensures c.if-not-is_target.false c.thread_refusal.ensures c.in_default.is
     ∙ ap (λ m. refusal (setting_of c.args.setting.now) c.args.self.now.side (message_of m)) (sym c.in-Request.is)

@@ -21,8 +21,8 @@ returns-in-Some-why_too_much-clause-asked c =
 pub returns-clause-asked : goal.returns-clause-asked
 returns-clause-asked c =
     let g = setting_of c.args.setting.now in
-    by_side c.ask_peer.result c.ask_peer.new.self c.args.self.now (asks_peer g c.args.root c.args.name.now c.in_ok-face.face c.args.wanted.now) (root_asks g c.args.root c.args.name.now c.args.wanted.now)
-    (ap (λ face. asks_peer g c.args.root c.args.name.now face c.args.wanted.now c.args.self.now.side) c.in_ok-face.ensures
+    by_side c.ask_peer.result c.ask_peer.new.self c.args.self.now (asks_peer g c.args.root c.args.name.now c.in-Ok.face c.args.wanted.now) (root_asks g c.args.root c.args.name.now c.args.wanted.now)
+    (ap (λ face. asks_peer g c.args.root c.args.name.now face c.args.wanted.now c.args.self.now.side) c.in-Ok.ensures
     ∙ ask_peer g c.args.root c.args.name.now c.args.wanted.now c.args.self.now.side
     (sym c.in_default-why_too_much.is
     ∙ before_told c.why_too_much.result _ _ _ _ x_interface_name x_interface_name 0 _ _ (c.why_too_much.ensures 0) c.in-Some.ensures.name c.as_str.ensures refl

@@ -29,8 +29,8 @@ returns-then-is_own-clause-called c =
     sym c.in_default-why_too_much.is
     ∙ before_told c.why_too_much.result _ _ _ _ _ _ c.args.function _ _ (c.why_too_much.ensures c.args.function) c.in-Some.ensures.name c.as_str.ensures c.as_str-2.ensures (ap (map plain_of) c.deref.ensures.value) in
     let ours = sym (c.is_own.ensures ∙ ap (is_own g) (c.as_bytes.ensures.value ∙ c.as_str-3.ensures)) ∙ c.if-is_own.true in
-    by_side c.begin_own.result c.begin_own.new.self c.args.self.now (begins_own g c.args.root c.in_ok-copy.field-0 c.in_ok-copy-2.field-0 c.args.function args) (root_calls g c.args.root c.args.oid.now c.args.face.now c.args.function args)
-    ((λ i. begins_own g c.args.root (c.in_ok-copy.ensures i) (c.in_ok-copy-2.ensures i) c.args.function args c.args.self.now.side)
+    by_side c.begin_own.result c.begin_own.new.self c.args.self.now (begins_own g c.args.root c.in-Ok.object c.in-Ok-copy.under c.args.function args) (root_calls g c.args.root c.args.oid.now c.args.face.now c.args.function args)
+    ((λ i. begins_own g c.args.root (c.in-Ok.ensures i) (c.in-Ok-copy.ensures i) c.args.function args c.args.self.now.side)
     ∙ call_own g c.args.root c.args.oid.now c.args.face.now c.args.function args c.args.self.now.side before ours)
     c.begin_own.ensures.begun
 
@@ -42,8 +42,8 @@ returns-else-is_own-clause-called c =
     sym c.in_default-why_too_much.is
     ∙ before_told c.why_too_much.result _ _ _ _ _ _ c.args.function _ _ (c.why_too_much.ensures c.args.function) c.in-Some.ensures.name c.as_str.ensures c.as_str-2.ensures (ap (map plain_of) c.deref.ensures.value) in
     let theirs = sym (c.is_own.ensures ∙ ap (is_own g) (c.as_bytes.ensures.value ∙ c.as_str-3.ensures)) ∙ c.if-is_own.false in
-    by_side c.begin_peer.result c.begin_peer.new.self c.args.self.now (begins_peer g c.args.root waits_call c.in_ok-copy.field-0 c.in_ok-copy-2.field-0 c.args.function args)
+    by_side c.begin_peer.result c.begin_peer.new.self c.args.self.now (begins_peer g c.args.root waits_call c.in-Ok.object c.in-Ok-copy.under c.args.function args)
     (root_calls g c.args.root c.args.oid.now c.args.face.now c.args.function args)
-    ((λ i. begins_peer g c.args.root waits_call (c.in_ok-copy.ensures i) (c.in_ok-copy-2.ensures i) c.args.function args c.args.self.now.side)
+    ((λ i. begins_peer g c.args.root waits_call (c.in-Ok.ensures i) (c.in-Ok-copy.ensures i) c.args.function args c.args.self.now.side)
     ∙ call_peer g c.args.root c.args.oid.now c.args.face.now c.args.function args c.args.self.now.side before theirs)
     c.begin_peer.ensures.begun

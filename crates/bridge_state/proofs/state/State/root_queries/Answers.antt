@@ -38,6 +38,6 @@ returns-clause-queried c =
     ∙ before_told c.why_too_much.result _ _ _ _ _ _ 0 _ _ (c.why_too_much.ensures 0) c.in-Some.ensures.name c.as_str.ensures c.as_str-2.ensures
     (ap (map plain_of) c.deref.ensures.value ∙ c.in_ok-args.ensures ∙ ap query_args c.in_ok-copy.ensures) in
     let theirs = sym (c.is_own.ensures ∙ ap (is_own g) (c.as_bytes.ensures.value ∙ c.as_str-3.ensures)) ∙ c.if-is_own.false in
-    by_side c.ask_peer.result c.ask_peer.new.self c.args.self.now (asks_peer g c.args.root c.args.oid.now c.in_ok-under.under c.args.wanted.now) (root_queries g c.args.root c.args.oid.now c.args.face.now c.args.wanted.now)
-    (ap (λ face. asks_peer g c.args.root c.args.oid.now face c.args.wanted.now c.args.self.now.side) c.in_ok-under.ensures
+    by_side c.ask_peer.result c.ask_peer.new.self c.args.self.now (asks_peer g c.args.root c.args.oid.now c.in-Ok.under c.args.wanted.now) (root_queries g c.args.root c.args.oid.now c.args.face.now c.args.wanted.now)
+    (ap (λ face. asks_peer g c.args.root c.args.oid.now face c.args.wanted.now c.args.self.now.side) c.in-Ok.ensures
     ∙ query_peer g c.args.root c.args.oid.now c.args.face.now c.args.wanted.now c.args.self.now.side before theirs) c.ask_peer.ensures.asked
