@@ -1,5 +1,5 @@
 -- What stands behind messages when methods begin, and behind each effect: what a request uses is held by the frame that calls.
-use Rattle.std.proofs.Common.{◌≡◌, ℕ, suc, ◌+◌, true, false, List, [], ◌∷◌, Result, Ok, Err, refl, ◌∙◌, arith}
+use Rattle.std.proofs.Common.{◌≤◌, Bool, not, ◌&&◌, ◌≡◌, ℕ, suc, ◌+◌, true, false, List, [], ◌∷◌, Result, Ok, Err, refl, ◌∙◌, arith}
 use Rattle.message_model.specs.Messages.{returned, raised, request}
 use Rattle.uno_model.specs.BuiltIn.{exception_name, x_interface_name}
 use Rattle.uno_model.specs.Kinds as kd
@@ -25,7 +25,8 @@ use Rattle.bridge_model.specs.References.{gains_all, takes_all, lets_go_all, ref
 use Rattle.bridge_model.specs.Settings.{Setting, is_own, own_oid}
 use Rattle.bridge_model.specs.Sides.{Tables}
 use Rattle.bridge_laws.specs.Counting.{total, one_if}
-use Rattle.bridge_laws.specs.Standing.{uses}
+use Rattle.bridge_laws.specs.Standing.{is_ask, uses}
+use Rattle.plan_model.specs.Forms.{is_export_name}
 use Rattle.bridge_laws.proofs.ApplyingCountLaws.{variables_of_counts, object_answer_counts, alone_counts, object_alone, refusal_counts}
 use Rattle.bridge_laws.proofs.BackingLaws.{own_told}
 use Rattle.bridge_laws.proofs.EffectLaws.{effect_counts, leaving_frame_counts}
@@ -59,10 +60,14 @@ serves_upholds p g oid face function args fs t =
 abbrev pub targets : Pair → (oid face : List ℕ) → ℕ
 targets p oid face = one_if (is_pair p (pair oid face))
 
+at_most : (b c : Bool) → one_if (b && c) ≤ one_if c
+at_most true c = omega arith
+at_most false c = omega arith
+
 request_uses : (p : Pair) (tid oid face : List ℕ) (function : ℕ) (args : List Plain)
-    → uses p (request tid oid face function args) ≡ targets p oid face + total (peers p) (refs_of_values args)
+    → uses p (request tid oid face function args) ≤ targets p oid face + total (peers p) (refs_of_values args)
 unfolding uses peers
-request_uses p tid oid face function args = refl
+request_uses p tid oid face function args = let most = at_most (not (is_ask oid function)) (is_pair p (pair oid face)) in omega arith
 
 -- a request whose target and arguments are backed
 pub calls_peer_upholds : (p : Pair) (g : Setting) (tid oid face : List ℕ) (function : ℕ) (args : List Plain) (fs : List Frame) (t : Tables)
@@ -79,6 +84,17 @@ target_counts p oid face = omega arith
 query_uses : (p : Pair) (wanted : List ℕ) → total (peers p) (refs_of_values (query_args wanted)) ≡ 0
 unfolding refs_of_values refs total
 query_uses p wanted = refl
+
+ask_uses : (p : Pair) (tid name face wanted : List ℕ) → is_export_name name ≡ true → uses p (request tid name face 0 (query_args wanted)) ≡ 0
+unfolding uses is_ask refs_of_values refs total
+ask_uses p tid name face wanted is = rw (is) refl
+
+-- a name that is asked for is backed by nothing, and need not be
+pub asks_name_upholds : (p : Pair) (g : Setting) (tid name face wanted : List ℕ) (fs : List Frame) (t : Tables) → is_export_name name ≡ true
+    → Upholds p t (calls_peer g tid name face 0 (query_args wanted) fs t).tables
+unfolding calls_peer
+asks_name_upholds p g tid name face wanted fs t is =
+    let none = ask_uses p tid name face wanted is in upholds_says p g (request tid name face 0 (query_args wanted)) t (λ used. absurd (omega arith))
 
 -- a query of a target that is backed
 pub queries_peer_upholds : (p : Pair) (g : Setting) (tid oid face wanted : List ℕ) (fs : List Frame) (t : Tables) → (holders p t.holdings ≡ 0 → targets p oid face ≡ 0)

@@ -1,9 +1,8 @@
 -- What stands behind messages over every history: each message that used a pair of the peer's has a release of it behind it, or the pair is held.
-use Rattle.std.proofs.Common.{◌≡◌, refl, sym, ap, ◌∙◌, subst, ℕ, ◌+◌, ◌≤◌, true, false, not, List, [], ◌∷◌, ◌++◌, length, drop, arith}
-use Rattle.std.proofs.lemmas.Bool.{and_parts, not-true}
+use Rattle.std.proofs.Common.{◌≡◌, refl, sym, ap, ◌∙◌, subst, ℕ, ◌+◌, ◌≤◌, true, false, List, [], ◌∷◌, ◌++◌, length, drop, arith}
+use Rattle.std.proofs.lemmas.Bool.{and_parts}
 use Rattle.std.proofs.lemmas.List.{drop_at}
 use Rattle.std.specs.List.{AllByRecursion, list_all}
-use Rattle.std.specs.Str.{bytes_eq}
 use Rattle.message_model.specs.Messages.{Message}
 use Rattle.table_model.specs.Pair.{Pair}
 use Rattle.bridge_model.specs.Ends.{ends_by}
@@ -16,7 +15,7 @@ use Rattle.bridge_model.specs.Sides.{Side, stands}
 use Rattle.bridge_model.specs.Steps.{turn, may, does}
 use Rattle.bridge_laws.specs.Counting.{total, one_if, releases_of}
 use Rattle.bridge_laws.specs.Living.{entry_refs, are_told, plan_constants}
-use Rattle.bridge_laws.specs.Standing.{Stands, asks_for, is_never_asked}
+use Rattle.bridge_laws.specs.Standing.{Stands, asks_by_name, asks_names}
 use Rattle.bridge_laws.proofs.LivingLaws.{called_held, queried_held}
 use Rattle.bridge_laws.proofs.PaidLaws.{counted_held, AllPaid, opening_paid, opening_in_order, paid_kept, each_told}
 use Rattle.bridge_laws.proofs.PaidSideLaws.{InOrder}
@@ -44,13 +43,13 @@ unfolding drains total Stands
 drained_keeps p g n s = record { kept = omega arith; behind = tt }
 
 module _ (g : Setting) (p : Pair) (foreign : is_own g p.oid ≡ false) (closed : plan_constants g.plan ≡ []) where
-  entry_keeps : (e : Entry) (s : Side) → may g s e ≡ true → not (asks_for p.oid e) ≡ true → stands s ≡ true → stands (does g e s).side ≡ true → InOrder g s
+  entry_keeps : (e : Entry) (s : Side) → may g s e ≡ true → asks_by_name e ≡ true → stands s ≡ true → stands (does g e s).side ≡ true → InOrder g s
       → KeepsStanding p (turn e s (does g e s)).said s (does g e s).side
   unfolding does ends_by
   entry_keeps (fed b) s can other before up order = keeps_by p s _ (fed_upholds g p foreign b s up order)
   entry_keeps ended s can other before up order = absurd (cc)
   entry_keeps failed s can other before up order = absurd (cc)
-  entry_keeps (asked root name wanted) s can other before up order = keeps_by p s _ (root_asks_upholds p g root name wanted s (not-true (bytes_eq name p.oid) other))
+  entry_keeps (asked root name wanted) s can other before up order = keeps_by p s _ (root_asks_upholds p g root name wanted s other)
   entry_keeps (called root oid face function args) s can other before up order =
       let held = called_held g root oid face function args s can in
       keeps_by p s _ (root_calls_upholds p g root oid face function args s held.0 held.1)
@@ -72,9 +71,9 @@ module _ (g : Setting) (p : Pair) (foreign : is_own g p.oid ≡ false) (closed :
   abbrev AllStand : Told → Type 0
   AllStand x = stands x.side ≡ true → Stands p (held_once p x.side.tables.holdings) x.said
 
-  -- arguments tell their references right, and the pair's identity is not asked for by its name
+  -- arguments tell their references right, and what is asked for is a name
   abbrev IsFit : Entry → Type 0
-  IsFit e = (list_all (is_told g) (entry_refs e) ≡ true) × (not (asks_for p.oid e) ≡ true)
+  IsFit e = (list_all (is_told g) (entry_refs e) ≡ true) × (asks_by_name e ≡ true)
 
   stands_more : (x : Told) (e : Entry) → KeepsStanding p (turn e x.side (does g e x.side)).said x.side (does g e x.side).side → Stands p (held_once p x.side.tables.holdings) x.said
       → Stands p (held_once p (turn e x.side (does g e x.side)).side.tables.holdings) (told_more x e (turn e x.side (does g e x.side))).said
@@ -96,10 +95,10 @@ module _ (g : Setting) (p : Pair) (foreign : is_own g p.oid ≡ false) (closed :
   nothing_stands n = tt
 
 each_fit : (g : Setting) (p : Pair) (foreign : is_own g p.oid ≡ false) (closed : plan_constants g.plan ≡ []) (es : List Entry) → AllByRecursion (λ e. list_all (is_told g) (entry_refs e) ≡ true) es
-    → list_all (λ e. not (asks_for p.oid e)) es ≡ true → AllByRecursion (IsFit g p foreign closed) es
+    → list_all asks_by_name es ≡ true → AllByRecursion (IsFit g p foreign closed) es
 each_fit g p foreign closed [] told other = tt
 each_fit g p foreign closed (e ∷ es) told other =
-    let parts = and_parts (not (asks_for p.oid e)) (list_all (λ e. not (asks_for p.oid e)) es) other in
+    let parts = and_parts (asks_by_name e) (list_all asks_by_name es) other in
     ((told.0, parts.0), each_fit g p foreign closed es told.1 parts.1)
 
 -- what stands behind messages stands behind the rest of them
@@ -109,16 +108,16 @@ stands_drop p n [] rest all = all
 stands_drop p n (m ∷ front) rest all = stands_drop p n front rest all.1
 
 -- behind each message that used a pair stands a release of it, or it is held
-pub all_stand : (g : Setting) (es : List Entry) (x : Told) (p : Pair) → plan_constants g.plan ≡ [] → are_told g es ≡ true → is_never_asked p.oid es ≡ true → Leads g es x
+pub all_stand : (g : Setting) (es : List Entry) (x : Told) (p : Pair) → plan_constants g.plan ≡ [] → are_told g es ≡ true → asks_names es ≡ true → Leads g es x
     → stands x.side ≡ true → is_own g p.oid ≡ false → Stands p (one_if (is_held p.oid p.face x.side.tables)) x.said
-unfolding some_of is_never_asked
+unfolding some_of asks_names
 all_stand g es x p closed told other leads up foreign =
     (along_replay_where g (IsFit g p foreign closed) (λ y. AllPaid g p foreign closed y × AllStand g p foreign closed y)
     ((λ up. (opening_paid g p foreign closed, opening_in_order g p foreign closed)), (λ up. nothing_stands g p foreign closed _))
     (all_kept g p foreign closed) es (each_fit g p foreign closed es (each_told g es told) other) x leads).1 up
 
 -- so it does in the rest of what was said
-pub rest_stands : (g : Setting) (es : List Entry) (x : Told) (p : Pair) (front rest : List Message) → plan_constants g.plan ≡ [] → are_told g es ≡ true → is_never_asked p.oid es ≡ true
+pub rest_stands : (g : Setting) (es : List Entry) (x : Told) (p : Pair) (front rest : List Message) → plan_constants g.plan ≡ [] → are_told g es ≡ true → asks_names es ≡ true
     → Leads g es x → stands x.side ≡ true → is_own g p.oid ≡ false → x.said ≡ front ++ rest → Stands p (one_if (is_held p.oid p.face x.side.tables)) rest
 rest_stands g es x p front rest closed told other leads up foreign said =
     stands_drop p (one_if (is_held p.oid p.face x.side.tables)) front rest

@@ -1,18 +1,15 @@
 -- What stands behind messages when messages come, when roots act, and when statements are run: what is used is held by who says it.
-use Rattle.std.proofs.Common.{◌≡◌, ℕ, suc, ◌+◌, ◌≤◌, Bool, true, false, ◌==◌, if◌then◌else◌, List, [], ◌∷◌, find, Option, None, Some, refl, sym, ap, ◌∙◌, subst, arith}
-use Rattle.std.proofs.lemmas.Slice.Eq.{bytes_eq-Decides}
-use Rattle.std.specs.Cmp.{Equal-is}
-use Rattle.std.specs.Str.{bytes_eq}
+use Rattle.std.proofs.Common.{◌≡◌, ℕ, suc, ◌+◌, ◌≤◌, Bool, true, false, ◌==◌, if◌then◌else◌, List, [], ◌∷◌, find, Option, None, Some, refl, ap, ◌∙◌, subst, arith}
 use Rattle.message_model.specs.Messages.{Message, request, release, reply, returned}
 use Rattle.uno_model.specs.BuiltIn.{x_interface_name}
 use Rattle.uno_model.specs.Kinds.{Kind}
 use Rattle.uno_model.specs.Kinds as kd
 use Rattle.uno_model.specs.Values.{Ref, null, own, peer, Plain, refs, object_in}
 use Rattle.table_model.specs.Holdings.{Hold, holders}
-use Rattle.table_model.specs.Pair.{Pair, pair, is_pair}
+use Rattle.table_model.specs.Pair.{Pair}
 use Rattle.table_model.specs.declared.holder.Holder.TheVariants as holder
-use Rattle.table_model.proofs.PairLaws.{same_pair}
 use Rattle.plan_model.specs.Asking.{Effect, disposes}
+use Rattle.plan_model.specs.Forms.{is_export_name}
 use Rattle.plan_model.specs.Frames.{Body, Frame, base, body, outgoing, frames_of}
 use Rattle.plan_model.specs.Plans.{exported}
 use Rattle.plan_model.specs.declared.runtime_cause.RuntimeCause.{RuntimeCause}
@@ -29,7 +26,7 @@ use Rattle.bridge_model.specs.Settings.{Setting, is_own, own_oid, root_tid, ref_
 use Rattle.bridge_model.specs.Sides.{Object, Side, Tables, stands, on_tables, waits_call, waits_query, with_root}
 use Rattle.bridge_model.specs.Stacks.{with_unwound}
 use Rattle.bridge_model.specs.Steps.{Picked, picked_in, picked, applies_effect, applies_picked, reaps_some}
-use Rattle.bridge_laws.specs.Counting.{total, one_if}
+use Rattle.bridge_laws.specs.Counting.{total}
 use Rattle.bridge_laws.specs.Living.{plan_constants}
 use Rattle.bridge_laws.proofs.ApplyingCountLaws.{variables_of_counts, object_answer_counts, alone_counts}
 use Rattle.bridge_laws.proofs.BackingLaws.{own_told}
@@ -47,7 +44,7 @@ use Rattle.bridge_laws.proofs.PaidStatementLaws.{variables_backed, fields_backed
 use Rattle.bridge_laws.proofs.PayingLaws.{peers, stray}
 use Rattle.bridge_laws.proofs.SideLaws.{apart, thread_covers, below_has}
 use Rattle.bridge_laws.proofs.StackCountLaws.{thread_counts}
-use Rattle.bridge_laws.proofs.StandingEffectLaws.{targets, target_counts, calls_own_upholds, serves_upholds, calls_peer_upholds, queries_peer_upholds, applies_upholds}
+use Rattle.bridge_laws.proofs.StandingEffectLaws.{target_counts, calls_own_upholds, serves_upholds, calls_peer_upholds, asks_name_upholds, queries_peer_upholds, applies_upholds}
 use Rattle.bridge_laws.proofs.StandingFrameLaws.{upholds_reply, root_gets_upholds, hands_from_peer_upholds}
 use Rattle.bridge_laws.proofs.StandingTableLaws.{Upholds, upheld_on, upholds_same, upholds_gains, upholds_gains_all, upholds_lets_go, upholds_lets_go_all, upholds_makes_default}
 use Rattle.bridge_laws.proofs.Sums.{found_at_most}
@@ -104,16 +101,6 @@ target_backed : (p : Pair) (g : Setting) (root : ℕ) (oid face : List ℕ) (t :
 unfolding ref_of
 target_backed p g root oid face t held none = target_by p oid face (is_own g oid) (holds_backed p (holder.Root root) (peer oid face) t held none)
 
--- a name that is asked for is no identity
-other_by : (p : Pair) (name face : List ℕ) (b : Bool) → bytes_eq name p.oid ≡ false → is_pair p (pair name face) ≡ b → b ≡ false
-other_by p name face true apart is =
-    let same : p.oid ≡ name = ap (λ q. q.oid) (same_pair p (pair name face) ((Equal-is _).0 is)) in
-    let there : bytes_eq name p.oid ≡ true = (bytes_eq-Decides name p.oid).1 (sym same) in absurd (cc)
-other_by p name face false apart is = refl
-
-asked_other : (p : Pair) (name face : List ℕ) → bytes_eq name p.oid ≡ false → targets p name face ≡ 0
-asked_other p name face apart = ap one_if (other_by p name face (is_pair p (pair name face)) apart refl)
-
 begins_call_upholds : (p : Pair) (g : Setting) (root : ℕ) (r : Ref) (function : ℕ) (args : List Plain) (s : Side)
     → (holders p s.tables.holdings ≡ 0 → total (peers p) (object_in r) + total (peers p) (refs_of_values args) ≡ 0) → Upholds p s.tables (begins_call g root r function args s).tables
 begins_call_upholds p g root null function args s back = upholds_same p s.tables
@@ -135,16 +122,16 @@ root_calls_upholds p g root oid face function args s held each =
     calls_unless_upholds p g root oid face function args (answered_before (root_tid g root) oid face function args) s
     (λ none. let target = target_backed p g root oid face s.tables held none in let rest = each_backed p root (refs_of_values args) s.tables each none in omega arith)
 
-asks_unless_upholds : (p : Pair) (g : Setting) (root : ℕ) (name wanted : List ℕ) (why : Option RuntimeCause) (s : Side) → targets p name x_interface_name ≡ 0
+asks_unless_upholds : (p : Pair) (g : Setting) (root : ℕ) (name wanted : List ℕ) (why : Option RuntimeCause) (s : Side) → is_export_name name ≡ true
     → Upholds p s.tables (asks_unless g root name wanted why s).tables
 asks_unless_upholds p g root name wanted (Some why) s other = upholds_same p s.tables
-asks_unless_upholds p g root name wanted None s other =
-    queries_peer_upholds p g (root_tid g root) name x_interface_name wanted (bottom root) (with_root root (waits_query wanted) s.tables) (λ none. other)
+asks_unless_upholds p g root name wanted None s is =
+    asks_name_upholds p g (root_tid g root) name x_interface_name wanted (bottom root) (with_root root (waits_query wanted) s.tables) is
 
-pub root_asks_upholds : (p : Pair) (g : Setting) (root : ℕ) (name wanted : List ℕ) (s : Side) → bytes_eq name p.oid ≡ false → Upholds p s.tables (root_asks g root name wanted s).tables
+pub root_asks_upholds : (p : Pair) (g : Setting) (root : ℕ) (name wanted : List ℕ) (s : Side) → is_export_name name ≡ true → Upholds p s.tables (root_asks g root name wanted s).tables
 unfolding root_asks
-root_asks_upholds p g root name wanted s apart =
-    asks_unless_upholds p g root name wanted (answered_before (root_tid g root) name x_interface_name 0 (query_args wanted)) s (asked_other p name x_interface_name apart)
+root_asks_upholds p g root name wanted s is =
+    asks_unless_upholds p g root name wanted (answered_before (root_tid g root) name x_interface_name 0 (query_args wanted)) s is
 
 pub root_makes_upholds : (p : Pair) (g : Setting) (root behaviour : ℕ) (wanted : List ℕ) (s : Side) → Upholds p s.tables (root_makes g root behaviour wanted s).tables
 unfolding root_makes

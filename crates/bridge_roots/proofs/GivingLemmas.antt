@@ -13,14 +13,16 @@ use Rattle.uno_model.specs.Functions as fn
 use Rattle.uno_model.specs.Functions.{functions_of}
 use Rattle.uno_model.specs.Sound.{IsSound}
 use Rattle.uno_model.specs.Values.{Plain, plains, depth, depth_in}
+use Rattle.plan_model.specs.Forms.{is_export_name}
 use Rattle.plan_model.specs.Plans.{Plan, Behaviour, faces_in, faces_of, manager, supports}
 use Rattle.plan_typing.specs.Effects.{MakingFits}
 use Rattle.plan_typing.proofs.CalleeNumbers.{query_at}
 use Rattle.plan_typing.proofs.EffectCalls.{interface_there}
 use Rattle.bridge_model.specs.Calls.{query_args}
+use Rattle.bridge_model.specs.Entries.{asked}
 use Rattle.bridge_model.specs.Settings.{Setting, root_tid}
 use Rattle.bridge_typing.proofs.TableLaws.{thread_named}
-use Rattle.bridge_typing.specs.Giving.{MayBeCalled}
+use Rattle.bridge_typing.specs.Giving.{MayBeCalled, MayGive}
 
 -- a test whose answer is no, of what follows from a claim
 pub refuted : {A X : Type 0} (answer : Bool) → (IsTrue answer ↔ A) → answer ≡ false → (X → A) → IsTrue false ↔ X
@@ -32,7 +34,7 @@ refuted answer told no_such follows = (λ there. absurd (true≢false (sym there
 pub query_said : (reg : List Entity) → IsSound reg → HasBuiltIn reg → (tid oid face wanted : List ℕ) → IsThread tid → IsIdentity oid → IsInterface reg face → IsInterface reg wanted
     → MayBeSaid reg (request tid oid face 0 (query_args wanted))
 unfolding Fits FitEach kinds_on depth depth_in
-query_said reg sound built tid oid face wanted thread identity there asked =
+query_said reg sound built tid oid face wanted thread identity there wished =
     let called : IsCalled reg face 0 (fn.call x_interface_name query_interface) =
     record {
       interface = there;
@@ -41,7 +43,7 @@ query_said reg sound built tid oid face wanted thread identity there asked =
       no_acquire = λ is. omega (arith, is);
       no_release = λ is. omega (arith, is);
     } in
-    (fn.call x_interface_name query_interface, called, thread, identity, record { fit = ((refl, asked), tt); deep = omega arith })
+    (fn.call x_interface_name query_interface, called, thread, identity, record { fit = ((refl, wished), tt); deep = omega arith })
 
 -- and only for an interface
 pub said_wanted : (reg : List Entity) → IsSound reg → HasBuiltIn reg → (tid oid face wanted : List ℕ) → MayBeSaid reg (request tid oid face 0 (query_args wanted))
@@ -56,6 +58,14 @@ said_wanted reg sound built tid oid face wanted (f, called, thread, identity, fi
   where
     option_same : {f g : Function} → Some f ≡ Some g → f ≡ g
     option_same is = cc
+
+-- a name is asked for that has the form of an export's
+pub name_refused : (g : Setting) (root : ℕ) (name wanted : List ℕ) → is_export_name name ≡ false → IsTrue false ↔ MayGive g (asked root name wanted)
+name_refused g root name wanted other = (λ there. absurd (true≢false (sym there)), λ gives. absurd (true≢false (sym gives.0 ∙ other)))
+
+pub name_given : (g : Setting) (root : ℕ) (name wanted : List ℕ) (answer : Bool) → is_export_name name ≡ true
+    → (IsTrue answer ↔ MayBeSaid g.registry (request (root_tid g root) name x_interface_name 0 (query_args wanted))) → IsTrue answer ↔ MayGive g (asked root name wanted)
+name_given g root name wanted answer is told = (λ there. (is, told.0 there), λ gives. told.1 gives.1)
 
 -- ---- what a root calls with
 
@@ -113,25 +123,30 @@ module _ (reg : List Entity) (left : List Plain) (ks after : List Kind) (all : T
 
 -- a function that may be called, with values that fit it
 pub call_given : (g : Setting) (root : ℕ) (reg : List Entity) (oid face : List ℕ) (number : ℕ) (f : Function) (args : List Plain) → g.registry ≡ reg → IsThread (root_tid g root) → IsIdentity oid
-    → IsInterface reg face → slice_get (functions_of reg face) number ≡ Some f → number < 2 ^ 16 → (number == 1) ≡ false → (number == 2) ≡ false → FitEach reg (plains args) (argument_kinds f)
+    → IsInterface reg face → slice_get (functions_of reg face) number ≡ Some f → number < 2 ^ 16 → 3 ≤ number → FitEach reg (plains args) (argument_kinds f)
     → MayBeCalled g root oid face number args
 unfolding numbered
-call_given g root reg oid face number f args same thread identity there found small no_acquire no_release fit =
+call_given g root reg oid face number f args same thread identity there found small real fit =
     let called : IsCalled reg face number f =
     record {
       interface = there;
       found = found;
       small = small;
-      no_acquire = λ is. true≢false (sym (ap (λ n. n == 1) is) ∙ no_acquire);
-      no_release = λ is. true≢false (sym (ap (λ n. n == 2) is) ∙ no_release);
+      no_acquire = λ is. omega (arith, is, real);
+      no_release = λ is. omega (arith, is, real);
     } in
     record {
+      real = real;
       declared = f;
       called = subst (λ r. IsCalled r face number f) (sym same) called;
       thread = thread;
       identity = identity;
       fit = subst (λ r. FitEach r (plains args) (argument_kinds f)) (sym same) fit;
     }
+
+-- the first three functions of an interface are no calls
+pub no_call : (g : Setting) (root : ℕ) (oid face : List ℕ) (number : ℕ) (args : List Plain) → number < 3 → IsTrue false ↔ MayBeCalled g root oid face number args
+no_call g root oid face number args less = (λ there. absurd (true≢false (sym there)), λ may. let real = may.real in absurd (omega arith))
 
 -- a function that may be called is there
 called_found : (g : Setting) (root : ℕ) (reg : List Entity) (oid face : List ℕ) (number : ℕ) (args : List Plain) → g.registry ≡ reg → (may : MayBeCalled g root oid face number args)

@@ -1,6 +1,7 @@
 //! Whether a root may give what a statement gives.
 ghost use Rattle.std.specs.Prelude.{◌≡◌, ◌≢◌, ◌↔◌, ℕ, IsTrue, List, map, slice_get};
 ghost use Rattle.bridge_model.specs.Calls.{query_args};
+ghost use Rattle.bridge_model.specs.Entries as entry;
 ghost use Rattle.bridge_model.specs.Settings.{Setting, root_tid};
 ghost use Rattle.bridge_typing.specs.Giving.{MayBeCalled, MayGive};
 ghost use Rattle.message_model.specs.Calls.{argument_kinds, goes, kinds_on};
@@ -19,16 +20,15 @@ ghost use Rattle.bridge_roots.specs.Asking.{entry_of};
 ghost use Rattle.bridge_roots.specs.Giving.{kind_or_none};
 
 use crate::asking::Asked;
+use crate::naming::is_export_name;
 use bridge_setting::supports;
 use plan_types::Plan;
 use type_registry::{FunctionRef, function_numbered};
 use uno_types::{Name, Registry, Text, TypeName, Way};
 use uno_values::{Value, fits};
 
-/// The functions that are no calls like others.
-const ACQUIRE: u16 = 1;
-
-const RELEASE: u16 = 2;
+/// The first function of an interface behind the three that each one has, which are no calls like others.
+const FIRST_CALL: u16 = 3;
 
 /// The number that stands for the service manager in the place of a behaviour's.
 const MANAGER: u32 = 256;
@@ -43,7 +43,7 @@ pub(crate) fn may_give(registry: &Registry, asked: &Asked) -> bool
     ensures { (g : Setting) (root : ℕ) → g.registry ≡ registry.now → IsThread (root_tid g root) → (IsTrue result ↔ MayGive g (entry_of root asked.now)) }
 {
     match asked {
-        Asked::Name { name, wanted } => may_query(registry, name, X_INTERFACE, wanted),
+        Asked::Name { name, wanted } => may_ask(registry, name, wanted),
         Asked::Call {
             oid,
             face,
@@ -54,7 +54,19 @@ pub(crate) fn may_give(registry: &Registry, asked: &Asked) -> bool
     }
 }
 
-/// Whether a root may ask an object for an interface, or the peer for a name under one, which is a query of `X_INTERFACE`.
+/// Whether a root may ask the peer for a name: it has the form of an export's, and what is asked is a query of `X_INTERFACE`.
+pub fn may_ask(registry: &Registry, name: &Text, wanted: &Name) -> bool
+    requires sound { IsSound registry.now }
+    requires built_in { HasBuiltIn registry.now }
+    ensures { (g : Setting) (root : ℕ) → g.registry ≡ registry.now → IsThread (root_tid g root) → (IsTrue result ↔ MayGive g (entry.asked root name.now wanted.now)) }
+{
+    if !is_export_name(name.as_str()) {
+        return false;
+    }
+    may_query(registry, name, X_INTERFACE, wanted)
+}
+
+/// Whether a root may ask an object for an interface.
 pub fn may_query(registry: &Registry, oid: &Text, face: &str, wanted: &Name) -> bool
     requires sound { IsSound registry.now }
     requires built_in { HasBuiltIn registry.now }
@@ -77,10 +89,7 @@ pub fn may_call(registry: &Registry, oid: &Text, face: &Name, number: u16, args:
     if !oid.is_identity() {
         return false;
     }
-    if number == ACQUIRE {
-        return false;
-    }
-    if number == RELEASE {
+    if number < FIRST_CALL {
         return false;
     }
     if !registry.has_interface(face.as_str()) {

@@ -9,13 +9,12 @@ use Rattle.message_model.specs.Sayable.{IsThread, IsCalled, Fill, message_weight
 use Rattle.message_model.proofs.FunctionKindLaws.{numbered_typed}
 use Rattle.uno_model.specs.BuiltIn.{factory_name}
 use Rattle.uno_model.specs.Entities.{Param}
-use Rattle.uno_model.specs.Fits.{IsIdentity}
 use Rattle.uno_model.specs.Functions.{Function}
 use Rattle.uno_model.specs.Reaches.{is_base_of}
 use Rattle.uno_model.specs.Registry.{IsBaseOf}
 use Rattle.uno_model.specs.Sound.{IsSound, is_storable}
 use Rattle.uno_model.specs.Types.{is_type}
-use Rattle.uno_model.specs.Values.{own, Plain}
+use Rattle.uno_model.specs.Values.{peer, own, Plain}
 use Rattle.uno_model.proofs.AllLaws.{each_of_both}
 use Rattle.uno_model.proofs.AssignableLaws.{base_told}
 use Rattle.uno_model.proofs.Options.{same_some}
@@ -40,7 +39,7 @@ use Rattle.bridge_typing.proofs.Fine.{wrong}
 use Rattle.bridge_typing.proofs.FramesFit.{behaviour_at, BodyFits, Pauses, FramesFit, UnwoundFits}
 use Rattle.bridge_typing.proofs.Given.{IsGiven}
 use Rattle.bridge_typing.proofs.TablesFit.{TablesFit}
-use Rattle.bridge_typing.proofs.FineLaws.{OwnFine, own_fine, fine_own}
+use Rattle.bridge_typing.proofs.FineLaws.{peer_fine, OwnFine, own_fine, fine_own}
 use Rattle.bridge_typing.proofs.TableLaws.{says_fits, gains_fits, gains_all_fits, takes_all_fits}
 
 -- ---- objects by their names
@@ -239,13 +238,14 @@ module _ (g : Setting) (given : IsGiven g) (os : List Object) (made : ℕ) where
       }
 
   -- an object of the peer's is called
-  pub calls_peer_fits : (tid oid face : List ℕ) (function : ℕ) (f : Function) (args : List Plain) (fs : List Frame) (t : Tables) → IsThread tid → IsIdentity oid
+  pub calls_peer_fits : (tid oid face : List ℕ) (function : ℕ) (f : Function) (args : List Plain) (fs : List Frame) (t : Tables) → IsThread tid → wrong g os (peer oid face) ≡ 0
       → Gives g os face function f args → message_weight (request tid oid face function args) ≤ 16777216 → FramesFit g os (Some f) fs → TablesFit g os made t
       → UnwoundFits g os made (calls_peer g tid oid face function args fs t)
-  unfolding calls_peer FramesFit
-  calls_peer_fits tid oid face function f args fs t thread identity gives light below fit =
+  unfolding calls_peer FramesFit total
+  calls_peer_fits tid oid face function f args fs t thread target gives light below fit =
+      let none = gives.fine in
       record {
         frames = (f, gives.called, below);
         tables =
-            says_fits g given os made (request tid oid face function args) t (record { may = (f, gives.called, thread, identity, gives.fill); light = light }) gives.fine fit;
+            says_fits g given os made (request tid oid face function args) t (record { may = (f, gives.called, thread, (peer_fine g os oid face target).identity, gives.fill); light = light }) (omega arith) fit;
       }

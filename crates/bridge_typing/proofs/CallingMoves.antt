@@ -30,7 +30,7 @@ use Rattle.bridge_typing.proofs.ObjectsFit.{ObjectsFit}
 use Rattle.bridge_typing.proofs.TablesFit.{TablesFit}
 use Rattle.bridge_typing.proofs.AskingFits.{CallsAt, QueriesAt}
 use Rattle.bridge_typing.proofs.BeginFits.{calls_own_fits, calls_peer_fits}
-use Rattle.bridge_typing.proofs.FineLaws.{OwnFine, own_fine, peer_fine}
+use Rattle.bridge_typing.proofs.FineLaws.{OwnFine, own_fine}
 use Rattle.bridge_typing.proofs.HandingFits.{hands_fits, gains_below_fits, ends_frame_fits}
 use Rattle.bridge_typing.proofs.LeavingFits.{IsLight}
 use Rattle.bridge_typing.proofs.OwnEffects.{lasts_itself}
@@ -87,8 +87,7 @@ module _ (g : Setting) (given : IsGiven g) (os : List Object) (made : ℕ) (obje
       (call_waits (own oid face) function fits.called at (same_some (sym at.found ∙ fits.found))) fit
   call_moves (peer oid face) function args t fits at fine fit =
       let one = one_count (wrong g os) (peer oid face) in
-      let fine_target = peer_fine g os oid face (omega arith) in
-      calls_peer_fits g given os made tid oid face function fits.called args (body b ∷ fs) t thread fine_target.identity
+      calls_peer_fits g given os made tid oid face function fits.called args (body b ∷ fs) t thread (omega arith)
       (record { called = called_is g.registry tid oid face function args fits; fill = fits.arguments; fine = omega arith }) fits.light
       (call_waits (peer oid face) function fits.called at (same_some (sym at.found ∙ fits.found))) fit
 
@@ -143,9 +142,8 @@ module _ (g : Setting) (given : IsGiven g) (os : List Object) (made : ℕ) (obje
       answered_fits oid face wanted fits.called t (called_is g.registry tid oid face 0 (query_args wanted) fits) (own_fine g os oid face (omega arith)) at fit
   query_moves (peer oid face) wanted t fits at fine fit =
       let one = one_count (wrong g os) (peer oid face) in
-      let fine_target = peer_fine g os oid face (omega arith) in
       let called = called_is g.registry tid oid face 0 (query_args wanted) fits in
-      calls_peer_fits g given os made tid oid face 0 fits.called (query_args wanted) (body b ∷ fs) t thread fine_target.identity
+      calls_peer_fits g given os made tid oid face 0 fits.called (query_args wanted) (body b ∷ fs) t thread (omega arith)
       (record { called = called; fill = fits.arguments; fine = asked_fine wanted }) fits.light
       (query_waits wanted fits.called at (query_result g given os made objects face fits.called called)) fit
 

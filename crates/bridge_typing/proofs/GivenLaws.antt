@@ -4,6 +4,7 @@ use Rattle.std.specs.List.{AllByRecursion}
 use Rattle.std.proofs.lemmas.List.{length-append, length-map}
 use Rattle.uno_model.specs.BuiltIn.{HasBuiltIn}
 use Rattle.uno_model.specs.Sound.{IsSound}
+use Rattle.message_model.specs.Messages.{Message}
 use Rattle.table_model.specs.Holdings.{Hold, Holdings}
 use Rattle.table_model.specs.Pair.{Pair}
 use Rattle.table_model.specs.Stubs.{Stubs}
@@ -22,6 +23,7 @@ use Rattle.bridge_model.specs.Sides.{Object}
 use Rattle.bridge_model.specs.Steps.{may, does}
 use Rattle.bridge_typing.specs.Fitting.{HasFields, IsPairOf}
 use Rattle.bridge_typing.specs.Giving.{MayGive, RootsGive}
+use Rattle.bridge_typing.specs.Telling.{AreRightlySaid}
 use Rattle.bridge_typing.proofs.Fine.{is_fine_own, is_fine_peer}
 use Rattle.bridge_typing.proofs.FineLaws.{own_tested, peer_tested}
 use Rattle.bridge_typing.proofs.Given.{IsGiven}
@@ -95,6 +97,10 @@ all_more : {X : Type 0} (P Q : X → Type 0) → ((x : X) → P x → Q x) → (
 all_more P Q more [] all = tt
 all_more P Q more (x ∷ xs) all = (more x all.0, all_more P Q more xs all.1)
 
+all_sayable : (g : Setting) (ms : List Message) → AreRightlySaid g ms → AreSayable g.registry ms
+all_sayable g [] all = tt
+all_sayable g (m ∷ ms) all = (all.0.sayable, all_sayable g ms all.1)
+
 -- ---- the laws
 
 module _ (g : Setting) (sound : IsSound g.registry) (built : HasBuiltIn g.registry) (differ : NamesDiffer g.registry) (keeps : KeepsTheRules g.registry g.plan) (short : length g.tag ≤ 32)
@@ -105,14 +111,17 @@ module _ (g : Setting) (sound : IsSound g.registry) (built : HasBuiltIn g.regist
   stays : Stays g given x
   stays = all_stays g given es x gives leads
 
+  pub said_rightly : AreRightlySaid g x.said
+  said_rightly = stays.said
+
   pub said_sayable : AreSayable g.registry x.said
-  said_sayable = stays.said
+  said_sayable = all_sayable g x.said stays.said
 
   pub unsaid_sayable : AreSayable g.registry x.side.tables.unsaid
-  unsaid_sayable = stays.fit.tables.sayable
+  unsaid_sayable = all_sayable g x.side.tables.unsaid stays.fit.tables.sayable
 
   pub next_sayable : (e : Entry) → MayGive g e → may g x.side e ≡ true → AreSayable g.registry (does g e x.side).side.tables.unsaid
-  next_sayable e gives_too is = (next_fits g given x e gives_too is stays).tables.sayable
+  next_sayable e gives_too is = all_sayable g (does g e x.side).side.tables.unsaid (next_fits g given x e gives_too is stays).tables.sayable
 
   pub objects_have : AllByRecursion (HasFields g) x.side.tables.objects
   objects_have =

@@ -39,3 +39,4 @@ pub mod StepFits
 pub mod TableLaws
 pub mod TablesFit
 pub mod WaitingFits
+pub mod NameLaws

@@ -1,5 +1,5 @@
 -- What roots do leaves a side of which all may be said, where what they give may be.
-use Rattle.std.proofs.Common.{◌≡◌, ℕ, suc, ◌≤◌, ◌<◌, Bool, true, false, nat_lt, if◌then◌else◌, List, [], length, Option, None, Some, slice_get, refl, sym, subst, arith}
+use Rattle.std.proofs.Common.{◌≡◌, ℕ, suc, ◌≤◌, ◌<◌, Bool, true, false, nat_lt, if◌then◌else◌, List, [], length, Option, None, Some, slice_get, refl, sym, ap, ◌∙◌, subst, arith}
 use Rattle.std.specs.List.{list_all}
 use Rattle.std.proofs.lemmas.Bool.{ltb-false}
 use Rattle.message_model.specs.Calls.{kinds_on, argument_kinds}
@@ -12,6 +12,7 @@ use Rattle.uno_model.specs.Kinds as kd
 use Rattle.uno_model.specs.Values.{Ref, null, own, peer, Plain, plains, refs, depth_in}
 use Rattle.table_model.specs.declared.holder.Holder.TheVariants as holder
 use Rattle.plan_model.specs.Evaluation.{is_heavy, is_deep}
+use Rattle.plan_model.specs.Forms.{is_export_name}
 use Rattle.plan_model.specs.Leaving.{caused}
 use Rattle.plan_model.specs.Plans.{supports, first_objects}
 use Rattle.plan_model.specs.declared.runtime_cause.RuntimeCause.{RuntimeCause}
@@ -35,7 +36,8 @@ use Rattle.bridge_typing.proofs.ObjectsFit.{ObjectsFit}
 use Rattle.bridge_typing.proofs.SideFits.{SideFits}
 use Rattle.bridge_typing.proofs.TablesFit.{TablesFit}
 use Rattle.bridge_typing.proofs.BeginFits.{calls_own_fits, calls_peer_fits}
-use Rattle.bridge_typing.proofs.FineLaws.{own_fine, peer_fine}
+use Rattle.bridge_typing.proofs.FineLaws.{own_fine, fine_peer}
+use Rattle.bridge_typing.proofs.NameLaws.{ask_foreign}
 use Rattle.bridge_typing.proofs.CreatedFits.{place_within, faces_are}
 use Rattle.bridge_typing.proofs.HandingFits.{root_gets_fits}
 use Rattle.bridge_typing.proofs.MakingFits.{push_lasts, defaults_fit, made_now, made_fit, made_fine, makes_fits}
@@ -94,9 +96,8 @@ module _ (g : Setting) (given : IsGiven g) (most root : ℕ) where
       own_same oid face name at false is = absurd (cc)
   call_fits (peer name at) oid face function args s fit is fine may args_fine light =
       let same = peer_same oid face name at (is_own g oid) is in
-      let target = peer_fine g fit.os name at fine in
       unwound_fits g most (root_tid g root) (calls_peer g (root_tid g root) name at function args (bottom root) (with_root root waits_call s.tables)) s fit may.2
-      (calls_peer_fits g given fit.os fit.made (root_tid g root) name at function may.0 args (bottom root) (with_root root waits_call s.tables) may.2 target.identity
+      (calls_peer_fits g given fit.os fit.made (root_tid g root) name at function may.0 args (bottom root) (with_root root waits_call s.tables) may.2 fine
       (record { called = subst (λ f. IsCalled g.registry f function may.0) same.1 may.1; fill = may.4; fine = args_fine })
       (subst (λ n. message_weight (request (root_tid g root) n at function args) ≤ 16777216) same.0
       (subst (λ f. message_weight (request (root_tid g root) oid f function args) ≤ 16777216) same.1 light))
@@ -139,11 +140,11 @@ module _ (g : Setting) (given : IsGiven g) (most root : ℕ) where
   asked_interface os made objects oid face wanted may =
       (subst (λ (h : Function). FitEach g.registry (plains (query_args wanted)) (argument_kinds h)) (query_is g given os made objects face may.0 may.1) may.4.fit).0.1
 
-  asks_fits : (oid face wanted : List ℕ) (s : Side) (fit : SideFits g most s) → MayBeSaid g.registry (request (root_tid g root) oid face 0 (query_args wanted))
+  asks_fits : (oid face wanted : List ℕ) (s : Side) (fit : SideFits g most s) → wrong g fit.os (peer oid face) ≡ 0 → MayBeSaid g.registry (request (root_tid g root) oid face 0 (query_args wanted))
       → message_weight (request (root_tid g root) oid face 0 (query_args wanted)) ≤ 16777216 → SideFits g most (asks_peer g root oid face wanted s)
-  asks_fits oid face wanted s fit may light =
+  asks_fits oid face wanted s fit fine may light =
       unwound_fits g most (root_tid g root) (calls_peer g (root_tid g root) oid face 0 (query_args wanted) (bottom root) (with_root root (waits_query wanted) s.tables)) s fit may.2
-      (calls_peer_fits g given fit.os fit.made (root_tid g root) oid face 0 may.0 (query_args wanted) (bottom root) (with_root root (waits_query wanted) s.tables) may.2 may.3
+      (calls_peer_fits g given fit.os fit.made (root_tid g root) oid face 0 may.0 (query_args wanted) (bottom root) (with_root root (waits_query wanted) s.tables) may.2 fine
       (record { called = may.1; fill = may.4; fine = query_fine fit.os wanted }) light (bottom_fits fit.os may.0) fit.tables)
 
   at_once_fits : (os : List Object) (made : ℕ) (objects : ObjectsFit g os made) (oid wanted : List ℕ) (t : Tables) → IsThread (root_tid g root) → is_own g oid ≡ true
@@ -159,6 +160,9 @@ module _ (g : Setting) (given : IsGiven g) (most root : ℕ) where
       same_face : (wanted other : List ℕ) → kd.interface wanted ≡ kd.interface other → wanted ≡ other
       same_face wanted other is = cc
 
+  same_fine : (os : List Object) {oid name face at : List ℕ} → oid ≡ name → face ≡ at → wrong g os (peer name at) ≡ 0 → wrong g os (peer oid face) ≡ 0
+  same_fine os {oid} {name} {face} {at} p q fine = ap (λ n. wrong g os (peer n face)) p ∙ (ap (λ f. wrong g os (peer name f)) q ∙ fine)
+
   query_fits : (r : Ref) (oid face wanted : List ℕ) (s : Side) (fit : SideFits g most s) → (r ≡ ref_of g oid face) → wrong g fit.os r ≡ 0
       → MayBeSaid g.registry (request (root_tid g root) oid face 0 (query_args wanted)) → message_weight (request (root_tid g root) oid face 0 (query_args wanted)) ≤ 16777216
       → SideFits g most (begins_query g root r wanted s)
@@ -170,7 +174,8 @@ module _ (g : Setting) (given : IsGiven g) (most root : ℕ) where
       (asked_interface fit.os fit.made fit.objects oid face wanted may) fit.tables)
   query_fits (peer name at) oid face wanted s fit is fine may light =
       subst (λ n. SideFits g most (asks_peer g root n at wanted s)) (peer_same (is_own g oid) is).0
-      (subst (λ f. SideFits g most (asks_peer g root oid f wanted s)) (peer_same (is_own g oid) is).1 (asks_fits oid face wanted s fit may light))
+      (subst (λ f. SideFits g most (asks_peer g root oid f wanted s)) (peer_same (is_own g oid) is).1
+      (asks_fits oid face wanted s fit (same_fine fit.os (peer_same (is_own g oid) is).0 (peer_same (is_own g oid) is).1 fine) may light))
     where
       peer_same : (b : Bool) → peer name at ≡ (if b then own oid face else peer oid face) → (oid ≡ name) × (face ≡ at)
       peer_same true is = absurd (cc)
@@ -188,15 +193,17 @@ module _ (g : Setting) (given : IsGiven g) (most root : ℕ) where
   root_queries_fits oid face wanted s may held fit =
       queries_by oid face wanted (answered_before (root_tid g root) oid face 0 (query_args wanted)) s fit refl (ref_held g fit.os root oid face s.tables held fit.tables.held) may
 
-  asks_by : (name wanted : List ℕ) (why : Option RuntimeCause) (s : Side) → SideFits g most s → answered_before (root_tid g root) name x_interface_name 0 (query_args wanted) ≡ why
+  asks_by : (name wanted : List ℕ) (why : Option RuntimeCause) (s : Side) → SideFits g most s → answered_before (root_tid g root) name x_interface_name 0 (query_args wanted) ≡ why → is_export_name name ≡ true
       → MayBeSaid g.registry (request (root_tid g root) name x_interface_name 0 (query_args wanted)) → SideFits g most (asks_unless g root name wanted why s)
-  asks_by name wanted (Some why) s fit is may = answered_fits (caused why) s fit
-  asks_by name wanted None s fit is may = asks_fits name x_interface_name wanted s fit may (light_before (root_tid g root) name x_interface_name 0 (query_args wanted) is)
+  asks_by name wanted (Some why) s fit is form may = answered_fits (caused why) s fit
+  asks_by name wanted None s fit is form may =
+      asks_fits name x_interface_name wanted s fit
+      (fine_peer g fit.os name x_interface_name (record { told = ask_foreign g name form; identity = may.3; interface = may.1.interface })) may (light_before (root_tid g root) name x_interface_name 0 (query_args wanted) is)
 
-  pub root_asks_fits : (name wanted : List ℕ) (s : Side) → MayBeSaid g.registry (request (root_tid g root) name x_interface_name 0 (query_args wanted)) → SideFits g most s
+  pub root_asks_fits : (name wanted : List ℕ) (s : Side) → is_export_name name ≡ true → MayBeSaid g.registry (request (root_tid g root) name x_interface_name 0 (query_args wanted)) → SideFits g most s
       → SideFits g most (root_asks g root name wanted s)
   unfolding root_asks
-  root_asks_fits name wanted s may fit = asks_by name wanted (answered_before (root_tid g root) name x_interface_name 0 (query_args wanted)) s fit refl may
+  root_asks_fits name wanted s form may fit = asks_by name wanted (answered_before (root_tid g root) name x_interface_name 0 (query_args wanted)) s fit refl form may
 
   -- ---- objects and references
 

@@ -7,18 +7,17 @@ use Rattle.message_model.specs.Arriving.{IsHeard}
 use Rattle.message_model.specs.Messages.{Message}
 use Rattle.message_model.specs.Sayable.{IsThread}
 use Rattle.message_model.proofs.MessageArrivalLaws.{nothing_is_heard}
-use Rattle.uno_model.specs.Entities.{Entity}
 use Rattle.plan_model.specs.Frames.{Frame, Stack, is_of, frames_of}
 use Rattle.bridge_laws.proofs.ThreadStackLaws.{AreApart, apart_put}
 use Rattle.bridge_model.specs.Calls.{Unwound}
 use Rattle.bridge_model.specs.Ends.{tables_at_end, ends_by, runs_out}
 use Rattle.bridge_model.specs.Going.{spells, spells_for, drains}
-use Rattle.bridge_model.specs.Saying.{AreSayable}
 use Rattle.bridge_model.specs.Settings.{Setting}
 use Rattle.bridge_model.specs.Sides.{Incoming, Object, Tables, Outgoing, Side, with_tables}
 use Rattle.bridge_model.specs.Stacks.{stack_with, puts_frames, with_unwound}
 use Rattle.bridge_model.specs.declared.cause.Cause.{Cause}
 use Rattle.bridge_model.specs.declared.cause.Cause.TheVariants as cause
+use Rattle.bridge_typing.specs.Telling.{AreRightlySaid}
 use Rattle.bridge_typing.proofs.FramesFit.{FramesFit, UnwoundFits}
 use Rattle.bridge_typing.proofs.Given.{IsGiven}
 use Rattle.bridge_typing.proofs.Moves.{Moves}
@@ -203,15 +202,15 @@ runs_out_fits g given most (Some why) s fit =
 
 -- ---- draining
 
-rest_by : (reg : List Entity) (b : Bool) (n : ℕ) (m : Message) (ms : List Message) (o : Outgoing) → AreSayable reg (m ∷ ms) → AreSayable reg (spells_for reg n ms (spells reg m o)).unsaid
-    → AreSayable reg (if b then spells_for reg n ms (spells reg m o) else record { outgoing = o; unsaid = m ∷ ms }).unsaid
-rest_by reg true n m ms o all behind = behind
-rest_by reg false n m ms o all behind = all
+rest_by : (g : Setting) (b : Bool) (n : ℕ) (m : Message) (ms : List Message) (o : Outgoing) → AreRightlySaid g (m ∷ ms) → AreRightlySaid g (spells_for g.registry n ms (spells g.registry m o)).unsaid
+    → AreRightlySaid g (if b then spells_for g.registry n ms (spells g.registry m o) else record { outgoing = o; unsaid = m ∷ ms }).unsaid
+rest_by g true n m ms o all behind = behind
+rest_by g false n m ms o all behind = all
 
-rest_sayable : (reg : List Entity) (n : ℕ) (ms : List Message) (o : Outgoing) → AreSayable reg ms → AreSayable reg (spells_for reg n ms o).unsaid
+rest_sayable : (g : Setting) (n : ℕ) (ms : List Message) (o : Outgoing) → AreRightlySaid g ms → AreRightlySaid g (spells_for g.registry n ms o).unsaid
 unfolding spells_for
-rest_sayable reg n [] o all = tt
-rest_sayable reg n (m ∷ ms) o all = rest_by reg _ n m ms o all (rest_sayable reg n ms (spells reg m o) all.1)
+rest_sayable g n [] o all = tt
+rest_sayable g n (m ∷ ms) o all = rest_by g _ n m ms o all (rest_sayable g n ms (spells g.registry m o) all.1)
 
 pub drains_fits : (g : Setting) (most n : ℕ) (s : Side) → SideFits g most s → SideFits g most (drains g n s)
 unfolding drains
@@ -226,7 +225,7 @@ drains_fits g most n s fit =
             counted = fit.tables.counted;
             held = fit.tables.held;
             sent = fit.tables.sent;
-            sayable = rest_sayable g.registry n s.tables.unsaid s.outgoing fit.tables.sayable;
+            sayable = rest_sayable g n s.tables.unsaid s.outgoing fit.tables.sayable;
           };
       stacks = fit.stacks;
       apart = fit.apart;

@@ -4,7 +4,6 @@ use Rattle.std.specs.List.{list_all}
 use Rattle.std.proofs.lemmas.Bool.{and_parts, ltb-true}
 use Rattle.message_model.specs.Messages.{Message}
 use Rattle.message_model.specs.Sayable.{IsThread}
-use Rattle.uno_model.specs.Entities.{Entity}
 use Rattle.uno_model.specs.Values.{Plain}
 use Rattle.plan_model.specs.Asking.{Effect, disposes}
 use Rattle.plan_model.specs.Frames.{Body, Frame, body, frames_of}
@@ -20,12 +19,12 @@ use Rattle.bridge_model.specs.Histories.{Told, nothing_told, told_more, told_by,
 use Rattle.bridge_model.specs.Objects.{lowest}
 use Rattle.bridge_model.specs.References.{refs_of_values}
 use Rattle.bridge_model.specs.Roots.{holds_each, holds_pair, root_asks, root_calls, root_queries, root_drops, root_takes}
-use Rattle.bridge_model.specs.Saying.{AreSayable}
 use Rattle.bridge_model.specs.Settings.{Setting, is_told}
 use Rattle.bridge_model.specs.Sides.{Object, Side, stands}
 use Rattle.bridge_model.specs.Steps.{Turn, turn, step, may, may_begin, may_give, has_entries, most_entries, is_picked, Picked, picked_in, picked, applies_effect, applies_picked, reaps_some, opening, does, said_by}
 use Rattle.bridge_model.specs.declared.cause.Cause.TheVariants as cause
 use Rattle.bridge_typing.specs.Giving.{MayGive, RootsGive}
+use Rattle.bridge_typing.specs.Telling.{AreRightlySaid}
 use Rattle.bridge_typing.proofs.FramesFit.{Runs, Pauses, FramesFit}
 use Rattle.bridge_typing.proofs.Given.{IsGiven}
 use Rattle.bridge_typing.proofs.Moves.{Moves}
@@ -115,7 +114,7 @@ module _ (g : Setting) (given : IsGiven g) where
   does_fits (fed b) s gives is covered fit = feeds_fits g given _ b s fit
   does_fits ended s gives is covered fit = later_fits g _ (ends_by cause.Ended s) (ends_fits g given _ cause.Ended s fit)
   does_fits failed s gives is covered fit = later_fits g _ (ends_by cause.Failed s) (ends_fits g given _ cause.Failed s fit)
-  does_fits (asked root name wanted) s gives is covered fit = later_fits g _ (root_asks g root name wanted s) (root_asks_fits g given _ root name wanted s gives fit)
+  does_fits (asked root name wanted) s gives is covered fit = later_fits g _ (root_asks g root name wanted s) (root_asks_fits g given _ root name wanted s gives.0 gives.1 fit)
   does_fits (called root oid face function args) s gives is covered fit =
       let calls = may_call g root oid face function args s is in
       later_fits g _ (root_calls g root oid face function args s) (root_calls_fits g given _ root oid face function args s gives calls.told calls.held calls.each fit)
@@ -144,23 +143,23 @@ module _ (g : Setting) (given : IsGiven g) where
 
   -- ---- histories
 
-  sayable_both : (reg : List Entity) (ms ns : List Message) → AreSayable reg ms → AreSayable reg ns → AreSayable reg (ms ++ ns)
-  sayable_both reg [] ns all also = also
-  sayable_both reg (m ∷ ms) ns all also = (all.0, sayable_both reg ms ns all.1 also)
+  sayable_both : (ms ns : List Message) → AreRightlySaid g ms → AreRightlySaid g ns → AreRightlySaid g (ms ++ ns)
+  sayable_both [] ns all also = also
+  sayable_both (m ∷ ms) ns all also = (all.0, sayable_both ms ns all.1 also)
 
-  sayable_rest : (reg : List Entity) (n : ℕ) (ms : List Message) → AreSayable reg ms → AreSayable reg (drop n ms)
-  sayable_rest reg zero ms all = all
-  sayable_rest reg (suc n) [] all = tt
-  sayable_rest reg (suc n) (m ∷ ms) all = sayable_rest reg n ms all.1
+  sayable_rest : (n : ℕ) (ms : List Message) → AreRightlySaid g ms → AreRightlySaid g (drop n ms)
+  sayable_rest zero ms all = all
+  sayable_rest (suc n) [] all = tt
+  sayable_rest (suc n) (m ∷ ms) all = sayable_rest n ms all.1
 
-  said_fits : (reg : List Entity) (e : Entry) (before now : List Message) → AreSayable reg now → AreSayable reg (said_by e before now)
-  said_fits reg (drained b) before now all = tt
-  said_fits reg e before now all = sayable_rest reg (length before) now all
+  said_fits : (e : Entry) (before now : List Message) → AreRightlySaid g now → AreRightlySaid g (said_by e before now)
+  said_fits (drained b) before now all = tt
+  said_fits e before now all = sayable_rest (length before) now all
 
   pub record Stays (x : Told) : Type 0 where
     pub covered : AllCovered g x.side
     pub fit : SideFits g (length (first_objects g.plan) + x.side.entries) x.side
-    pub said : AreSayable g.registry x.said
+    pub said : AreRightlySaid g x.said
 
   -- so it is behind the next entry
   pub next_fits : (x : Told) (e : Entry) → MayGive g e → may g x.side e ≡ true → Stays x
@@ -173,7 +172,7 @@ module _ (g : Setting) (given : IsGiven g) where
       record {
         covered = λ h. kept g h x e (stays.covered h) is;
         fit = counted_by (counts e) x.side.entries (does g e x.side).side (does_counts g e x.side) fit;
-        said = sayable_both g.registry x.said _ stays.said (said_fits g.registry e x.side.tables.unsaid (does g e x.side).side.tables.unsaid fit.tables.sayable);
+        said = sayable_both x.said _ stays.said (said_fits e x.side.tables.unsaid (does g e x.side).side.tables.unsaid fit.tables.sayable);
       }
 
   told_fine : (x : Told) (e : Entry) (o : Option Turn) → MayGive g e → Stays x → o ≡ step g x.side e → (y : Told) → told_by x e o ≡ Some y → Stays y

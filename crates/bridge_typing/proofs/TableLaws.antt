@@ -1,13 +1,14 @@
 -- Tables of which all may be said: fine references may be gained, said and taken, and all may be let go.
-use Rattle.std.proofs.Common.{◌≡◌, ℕ, ◌+◌, ◌≤◌, ◌<◌, ◌^◌, Bool, true, false, cond, not, ◌&&◌, ◌||◌, nat_lt, nat_le, if◌then◌else◌, List, [], ◌∷◌, ◌++◌, length, filter, Option, None, Some, refl, arith}
-use Rattle.std.proofs.lemmas.Bool.{and_parts, leb-true}
+use Rattle.std.proofs.Common.{◌≡◌, ℕ, ◌+◌, ◌≤◌, ◌<◌, ◌^◌, Bool, true, false, cond, not, ◌&&◌, ◌||◌, nat_lt, nat_le, if◌then◌else◌, List, [], ◌∷◌, ◌++◌, length, filter, Option, None, Some, refl, ap, arith}
+use Rattle.std.specs.List.{list_all}
+use Rattle.std.proofs.lemmas.Bool.{and_parts, and_from, leb-true}
 use Rattle.std.specs.Fmt.{decimal}
 use Rattle.std.proofs.lemmas.Fmt.{length-decimal-le}
 use Rattle.std.proofs.lemmas.List.{length-append}
 use Rattle.std.specs.Ordering.{eq_by_cmp}
 use Rattle.std.specs.declared.cmp.Ordering.{Ordering}
 use Rattle.message_model.specs.MessageNamings.{message_namings}
-use Rattle.message_model.specs.Messages.{Message, release}
+use Rattle.message_model.specs.Messages.{Message, request, release, reply}
 use Rattle.message_model.specs.Sayable.{IsThread, message_weight}
 use Rattle.uno_model.specs.Entities.{Entity}
 use Rattle.uno_model.specs.Fits.{IsIdentity, IsInterface}
@@ -30,17 +31,18 @@ use Rattle.std.specs.FinMap as rows
 use Rattle.bridge_model.specs.Ends.{tables_at_end}
 use Rattle.bridge_model.specs.Objects.{object_supports}
 use Rattle.bridge_model.specs.References.{counts_one, counts_sent, says, releases, gains, gains_all, is_held, takes, takes_all, loses, loses_all, stays, gives_back, holds_ref, lets_go, lets_go_all}
-use Rattle.bridge_model.specs.Saying.{IsSayable, AreSayable}
-use Rattle.bridge_model.specs.Settings.{Setting, prefix, root_tid, release_tid, own_oid}
+use Rattle.bridge_model.specs.Saying.{IsSayable}
+use Rattle.bridge_model.specs.Settings.{Setting, prefix, root_tid, release_tid, own_oid, is_told}
 use Rattle.bridge_model.specs.Sides.{Object, Tables}
 use Rattle.bridge_model.specs.declared.cause.Cause.{Cause}
 use Rattle.bridge_laws.specs.Counting.{total, one_if}
 use Rattle.bridge_laws.proofs.NamingLaws.{message_refs}
 use Rattle.bridge_laws.proofs.StrayLaws.{fewer_kept, more_put, found_passes}
+use Rattle.bridge_typing.specs.Telling.{referred, IsRightlySaid, AreRightlySaid}
 use Rattle.bridge_typing.proofs.Fine.{is_fine_own, is_fine_peer, wrong}
 use Rattle.bridge_typing.proofs.Given.{IsGiven}
 use Rattle.bridge_typing.proofs.TablesFit.{is_wrong_pair, held_wrong, is_unsupported, sent_wrong, TablesFit}
-use Rattle.bridge_typing.proofs.FineLaws.{peer_fine}
+use Rattle.bridge_typing.proofs.FineLaws.{own_fine, peer_fine}
 use Rattle.bridge_typing.proofs.NamedLaws.{unsupported, message_named}
 
 -- ---- weights and names
@@ -124,9 +126,28 @@ module _ (g : Setting) (os : List Object) where
   sent_less p stubs none = released_from_by p (stub p stubs) stubs refl none
 
 -- messages, and one more
-pub sayable_more : (reg : List Entity) (ms : List Message) (m : Message) → AreSayable reg ms → IsSayable reg m → AreSayable reg (ms ++ m ∷ [])
-sayable_more reg [] m are is = (is, tt)
-sayable_more reg (n ∷ ms) m are is = (are.0, sayable_more reg ms m are.1 is)
+pub sayable_more : (g : Setting) (ms : List Message) (m : Message) → AreRightlySaid g ms → IsRightlySaid g m → AreRightlySaid g (ms ++ m ∷ [])
+sayable_more g [] m are is = (is, tt)
+sayable_more g (n ∷ ms) m are is = (are.0, sayable_more g ms m are.1 is)
+
+-- fine references are told by their identities
+ref_told : (g : Setting) (os : List Object) (r : Ref) → wrong g os r ≡ 0 → is_told g r ≡ true
+unfolding is_told
+ref_told g os null none = refl
+ref_told g os (own oid face) none = (own_fine g os oid face none).told
+ref_told g os (peer oid face) none = ap not (peer_fine g os oid face none).told
+
+refs_told : (g : Setting) (os : List Object) (rs : List Ref) → total (wrong g os) rs ≡ 0 → list_all (is_told g) rs ≡ true
+unfolding total
+refs_told g os [] none = refl
+refs_told g os (r ∷ rs) none = and_from (is_told g r) (list_all (is_told g) rs) (ref_told g os r (omega arith)) (refs_told g os rs (omega arith))
+
+-- what a message refers to counts no less than its values
+values_most : (f : Ref → ℕ) (m : Message) → total f (message_refs m) ≤ total f (referred m)
+unfolding total
+values_most f (request tid oid face function args) = omega arith
+values_most f (release tid oid face) = omega arith
+values_most f (reply tid face function a) = omega arith
 
 wrong_step : (own other : Bool) → one_if (not (own || other)) ≤ one_if (not own)
 wrong_step true other = omega arith
@@ -141,13 +162,14 @@ wrong_other false false = omega arith
 module _ (g : Setting) (given : IsGiven g) (os : List Object) (made : ℕ) where
   -- ---- saying
 
-  pub says_fits : (m : Message) (t : Tables) → IsSayable g.registry m → total (wrong g os) (message_refs m) ≡ 0 → TablesFit g os made t → TablesFit g os made (says g m t)
+  pub says_fits : (m : Message) (t : Tables) → IsSayable g.registry m → total (wrong g os) (referred m) ≡ 0 → TablesFit g os made t → TablesFit g os made (says g m t)
   unfolding says
   says_fits m t sayable fine fit =
       let none = fit.sent in
       let named = message_named g given.sound os m sayable.may in
+      let most = values_most (wrong g os) m in
       let more = sent_more g os (message_namings g.registry m) t.stubs in
-      record { same = fit.same; counted = fit.counted; held = fit.held; sent = omega arith; sayable = sayable_more g.registry t.unsaid m fit.sayable sayable }
+      record { same = fit.same; counted = fit.counted; held = fit.held; sent = omega arith; sayable = sayable_more g t.unsaid m fit.sayable (record { sayable = sayable; told = refs_told g os (referred m) fine }) }
 
   release_light : (tid oid face : List ℕ) → IsThread tid → IsIdentity oid → IsInterface g.registry face → message_weight (release tid oid face) ≤ 16777216
   release_light tid oid face thread identity interface =
@@ -163,7 +185,7 @@ module _ (g : Setting) (given : IsGiven g) (os : List Object) (made : ℕ) where
   unfolding total
   releases_fits oid face t fine fit =
       let is = peer_fine g os oid face fine in
-      says_fits (release (release_tid g) oid face) t (release_sayable oid face is.identity is.interface) refl fit
+      says_fits (release (release_tid g) oid face) t (release_sayable oid face is.identity is.interface) (omega arith) fit
 
   -- ---- gaining
 

@@ -6,9 +6,9 @@ use Rattle.table_model.specs.Holdings.{Holdings}
 use Rattle.table_model.specs.Pair.{Pair}
 use Rattle.table_model.specs.Stubs.{Stubs}
 use Rattle.bridge_model.specs.Objects.{object_supports}
-use Rattle.bridge_model.specs.Saying.{AreSayable}
 use Rattle.bridge_model.specs.Settings.{Setting}
 use Rattle.bridge_model.specs.Sides.{Object, Tables}
+use Rattle.bridge_typing.specs.Telling.{AreRightlySaid}
 use Rattle.bridge_typing.proofs.Fine.{is_fine_own, is_fine_peer}
 
 abbrev pub is_wrong_pair : Setting → List Object → Pair → Bool
@@ -29,7 +29,7 @@ pub record Table (g : Setting) (os : List Object) (made : ℕ) (objects : List O
   pub counted : count ≡ made
   pub held : held_wrong g os hs ≡ 0
   pub sent : sent_wrong g os stubs ≡ 0
-  pub sayable : AreSayable g.registry unsaid
+  pub sayable : AreRightlySaid g unsaid
 
 abbrev pub TablesFit : Setting → List Object → ℕ → Tables → Type 0
 TablesFit g os made t = Table g os made t.objects t.objects_made t.holdings t.stubs t.unsaid

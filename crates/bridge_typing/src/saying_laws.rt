@@ -6,6 +6,7 @@ ghost use Rattle.bridge_model.specs.Saying.{AreSayable};
 ghost use Rattle.bridge_model.specs.Settings.{Setting};
 ghost use Rattle.bridge_model.specs.Steps.{may, does};
 ghost use Rattle.bridge_typing.specs.Giving.{MayGive, RootsGive};
+ghost use Rattle.bridge_typing.specs.Telling.{AreRightlySaid};
 ghost use Rattle.plan_model.specs.Keeps.{KeepsTheRules};
 ghost use Rattle.plan_typing.specs.Effects.{NamesDiffer};
 ghost use Rattle.uno_model.specs.BuiltIn.{HasBuiltIn};
@@ -28,4 +29,10 @@ pub fn what_an_entry_says_may_be_said()
     ensures { (g : Setting) → IsSound g.registry → HasBuiltIn g.registry → NamesDiffer g.registry → KeepsTheRules g.registry g.plan → length g.tag ≤ 32
         → (es : List Entry) (x : Told) → RootsGive g es → Leads g es x → (e : Entry) → MayGive g e → may g x.side e ≡ true
         → AreSayable g.registry (does g e x.side).side.tables.unsaid }
+{}
+
+/// Each message that was said tells what it refers to by the identities, and releases nothing of this end.
+pub fn what_was_said_is_rightly_said()
+    ensures { (g : Setting) → IsSound g.registry → HasBuiltIn g.registry → NamesDiffer g.registry → KeepsTheRules g.registry g.plan → length g.tag ≤ 32
+        → (es : List Entry) (x : Told) → RootsGive g es → Leads g es x → AreRightlySaid g x.said }
 {}

@@ -15,7 +15,7 @@ returns c = λ g root same thread.
     let found = ap (λ n. slice_get (functions_of c.args.registry.now n) c.args.number) (sym c.as_str-2.ensures) ∙ sym c.in-Some.ensures in (
       λ there.
           call_given g root c.args.registry.now c.args.oid.now c.args.face.now c.args.number (lent_function c.in-Some.function) (map plain_of c.args.args.now) same thread (search rules)
-          (search rules) found (search rules) (search rules) (search rules) (c.arguments_fit.ensures.0 there),
+          (search rules) found (search rules) (search rules) (c.arguments_fit.ensures.0 there),
       λ may.
           c.arguments_fit.ensures.1
           (called_fit g root c.args.registry.now c.args.oid.now c.args.face.now c.args.number (lent_function c.in-Some.function) (map plain_of c.args.args.now) same found may),

@@ -1,0 +1,15 @@
+pub mod CrossingFrames
+pub mod PairedLaws
+pub mod SomebodyLaws
+pub mod StayLaws
+pub mod CrossingLaws
+pub mod AskedRuns
+pub mod StepFrames
+pub mod ServedRuns
+pub mod OwnAnswers
+pub mod AnswerLaws
+pub mod RunAnswers
+pub mod HandedLaws
+pub mod RunEntries
+pub mod GivenAcross
+pub mod RootAnswers

@@ -1,0 +1,4 @@
+pub mod Ends
+pub mod Serving
+pub mod Calls
+pub mod Roots

@@ -1,0 +1,15 @@
+pub mod AnswerLaws
+pub mod ApplyingLaws
+pub mod CountLaws
+pub mod DoingLaws
+pub mod EntryLaws
+pub mod GivenLaws
+pub mod MayLaws
+pub mod MoveLaws
+pub mod OpenLaws
+pub mod OrderLaws
+pub mod RootConstantLaws
+pub mod RunLaws
+pub mod StateLaws
+pub mod ToldLaws
+pub mod ToldRunLaws

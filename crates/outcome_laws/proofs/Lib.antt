@@ -1,0 +1,12 @@
+pub mod StillLaws
+pub mod HandingFates
+pub mod ApplyingFates
+pub mod ReplyLaws
+pub mod MessageFates
+pub mod HistoryLaws
+pub mod OutcomeLaws
+pub mod CauseLaws
+pub mod ServingLaws
+pub mod GivenLaws
+pub mod StackShapes
+pub mod RaisingLaws

@@ -1,0 +1,3 @@
+pub mod Kept
+pub mod Proxies
+pub mod Ready

@@ -1,0 +1,4 @@
+mod CallbackRows
+mod CrossingRows
+mod OnLiterals
+mod Rows
