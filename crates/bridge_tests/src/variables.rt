@@ -71,9 +71,12 @@ fn show(shown: &mut Shown, variables: &[Variable]) {
 }
 
 /// Shows what a query gave back.
-fn show_rest(shown: &mut Shown, rest: &Option<Value>) {
+fn show_rest(shown: &mut Shown, rest: Option<Value>) {
     match rest {
-        Some(value) => show_value(shown, value),
+        Some(value) => {
+            show_value(shown, &value);
+            drop(value);
+        }
         None => shown.word("-"),
     }
 }
@@ -93,10 +96,20 @@ fn on_variable(
         "add" => shown.done(add(variables, name, value_of(rt, alloc, word))),
         "put" => {
             let was = put(variables, &name, value_of(rt, alloc, word));
+            drop(name);
             show_value(shown, &was);
+            drop(was);
         }
-        "out" => show_value(shown, &take_out(variables, &name)),
-        _ => shown.word("?"),
+        "out" => {
+            let was = take_out(variables, &name);
+            drop(name);
+            show_value(shown, &was);
+            drop(was);
+        }
+        _ => {
+            drop(name);
+            shown.word("?");
+        }
     }
 }
 
@@ -108,8 +121,9 @@ fn show_first(rt: &impl Abort, alloc: Global, registry: &Registry, words: &str, 
     let number = number.parse::<u16>().unwrap_or(0);
     let function = function_numbered(registry, NODE, number).expect(rt, "no function");
     let args = values_of(rt, alloc, words);
-    let variables = first_variables(alloc, registry, &function, args);
-    show(shown, &variables.expect(rt, "no memory"));
+    let variables = first_variables(alloc, registry, &function, args).expect(rt, "no memory");
+    show(shown, &variables);
+    drop(variables);
 }
 
 /// The call at a place of the one method of the plan.
@@ -136,8 +150,9 @@ fn answered(
     let call = call_at(plan, if to == "-" { 1 } else { 0 }).expect(rt, "no call");
     let value = value_of(rt, alloc, value);
     let outs = values_of(rt, alloc, outs);
-    let gone = take_answer(alloc, call, value, outs, variables);
-    show_values(shown, &gone.expect(rt, "no memory"));
+    let gone = take_answer(alloc, call, value, outs, variables).expect(rt, "no memory");
+    show_values(shown, &gone);
+    drop(gone);
 }
 
 /// The answer to a query, which becomes a variable.
@@ -156,8 +171,9 @@ fn taken(
     let wanted = name(rt, alloc, wanted);
     let to = name(rt, alloc, to);
     let answer = value_of(rt, alloc, word);
-    let rest = take_reference(registry, &wanted, to, answer, variables);
-    show_rest(shown, &rest.expect(rt, "no memory"));
+    let rest = take_reference(registry, &wanted, to, answer, variables).expect(rt, "no memory");
+    drop(wanted);
+    show_rest(shown, rest);
 }
 
 /// The reference in the answer to a query.
@@ -167,9 +183,11 @@ fn sorted(rt: &impl Abort, alloc: Global, registry: &Registry, words: &str, show
     let (wanted, word) = cut(words, ' ');
     let wanted = name(rt, alloc, wanted);
     let Found { reference, rest } = sort_answer(registry, &wanted, value_of(rt, alloc, word));
+    drop(wanted);
     shown.put(" ");
     put_reference(shown, &reference);
-    show_rest(shown, &rest);
+    drop(reference);
+    show_rest(shown, rest);
 }
 
 fn step(
@@ -203,7 +221,9 @@ fn see(rt: &impl Abort, alloc: Global, registry: &Registry, plan: &Plan, calls: 
     for call in calls.split(',') {
         step(rt, alloc, registry, plan, &mut variables, call, &mut shown);
     }
+    drop(variables);
     shown.see(rt, calls, wanted);
+    drop(shown);
 }
 
 #[test]
@@ -213,4 +233,6 @@ fn calls_answer_as_the_rows_say(rt: HostRuntime) {
     for (calls, wanted) in ROWS {
         see(&rt, rt.alloc(), &registry, &plan, calls, wanted);
     }
+    drop(plan);
+    drop(registry);
 }

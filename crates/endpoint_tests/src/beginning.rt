@@ -10,7 +10,7 @@ ghost use Rattle.uno_values.specs.Values.{plain_of};
 use crate::shown::{Shown, cut, number_in};
 use crate::values::values_of;
 use bridge_endpoint::{Begun, Endpoint, Made, RootState};
-use bridge_roots::{X_INTERFACE, may_call, may_make, may_query};
+use bridge_roots::{may_ask, may_call, may_make, may_query};
 use std::alloc::Global;
 use std::process::Abort;
 use uno_types::{Name, Text};
@@ -24,8 +24,11 @@ pub(crate) fn ask(rt: &impl Abort, alloc: Global, end: &mut Endpoint, words: &st
     let name = Text::of(alloc, name).expect(rt, "no memory");
     let wanted = Name::of(alloc, wanted).expect(rt, "no memory");
     assert!(rt; is_idle(end, root));
-    assert!(rt; may_ask(end, root, &name, &wanted));
-    end.ask(root, &name, &wanted)
+    assert!(rt; may_ask_it(end, root, &name, &wanted));
+    let begun = end.ask(root, &name, &wanted);
+    drop(wanted);
+    drop(name);
+    begun
 }
 
 /// An identity, its interface, the function and the arguments.
@@ -41,7 +44,10 @@ pub(crate) fn call(rt: &impl Abort, alloc: Global, end: &mut Endpoint, words: &s
     let args = values_of(rt, alloc, words);
     assert!(rt; is_idle(end, root));
     assert!(rt; may_call_it(end, root, &oid, &face, function, &args));
-    end.call(root, &oid, &face, function, args)
+    let begun = end.call(root, &oid, &face, function, args);
+    drop(face);
+    drop(oid);
+    begun
 }
 
 /// An identity, its interface and the wanted one.
@@ -55,7 +61,11 @@ pub(crate) fn query(rt: &impl Abort, alloc: Global, end: &mut Endpoint, words: &
     let wanted = Name::of(alloc, wanted).expect(rt, "no memory");
     assert!(rt; is_idle(end, root));
     assert!(rt; may_query_it(end, root, &oid, &face, &wanted));
-    end.query(root, &oid, &face, &wanted)
+    let begun = end.query(root, &oid, &face, &wanted);
+    drop(wanted);
+    drop(face);
+    drop(oid);
+    begun
 }
 
 /// A behaviour and the wanted interface. It shows what the object is called.
@@ -72,8 +82,13 @@ pub(crate) fn make(
     let wanted = Name::of(alloc, wanted).expect(rt, "no memory");
     assert!(rt; is_root_of(end, root));
     assert!(rt; makes(end, behaviour, &wanted));
-    match end.make(root, behaviour, &wanted) {
-        Made::Made(oid) => shown.put(oid.as_str()),
+    let made = end.make(root, behaviour, &wanted);
+    drop(wanted);
+    match made {
+        Made::Made(oid) => {
+            shown.put(oid.as_str());
+            drop(oid);
+        }
         Made::Full => shown.put("Full"),
         Made::Gone => shown.put("Gone"),
         Made::NoMemory => shown.put("NoMemory"),
@@ -98,10 +113,10 @@ fn is_idle(end: &Endpoint, root: u32) -> bool
 }
 
 /// Whether a root may ask for a name.
-fn may_ask(end: &Endpoint, root: u32, name: &Text, wanted: &Name) -> bool
+fn may_ask_it(end: &Endpoint, root: u32, name: &Text, wanted: &Name) -> bool
     ensures { result ≡ true → MayGive (setting_at end.now) (entry.asked root name.now wanted.now) }
 {
-    may_query(end.registry(), name, X_INTERFACE, wanted)
+    may_ask(end.registry(), name, wanted)
 }
 
 /// Whether a root may call an object with these arguments.

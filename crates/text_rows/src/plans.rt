@@ -15,7 +15,9 @@ pub(crate) fn plan(registry: &Registry, text: &str, answer: &mut Answer)
     requires { IsSound registry.now }
 {
     let bytes = bytes_of(registry.allocator(), text);
-    match read_plan(registry.allocator(), registry, &bytes) {
+    let read = read_plan(registry.allocator(), registry, &bytes);
+    drop(bytes);
+    match read {
         Ok(plan) => {
             put_counts(&plan, answer);
             drop(plan);
@@ -49,7 +51,9 @@ pub(crate) fn line(registry: &Registry, text: &str, answer: &mut Answer) {
 
 fn read_in(alloc: Global, words: &Words<'_>, text: &str, answer: &mut Answer) {
     let bytes = bytes_of(alloc, text);
-    match read_line(alloc, words, &bytes) {
+    let read = read_line(alloc, words, &bytes);
+    drop(bytes);
+    match read {
         Ok(Some(line)) => {
             drop(line);
             answer.word("yes");

@@ -54,12 +54,14 @@ pub(crate) fn value_of(registry: &Registry, kind: &TypeName, text: &str) -> Resu
     requires { IsSound registry.now }
 {
     let bytes = bytes_of(registry.allocator(), text);
-    read_value(
+    let value = read_value(
         registry.allocator(),
         registry,
         std::str::from_utf8(&bytes).unwrap_or(""),
         kind,
-    )
+    );
+    drop(bytes);
+    value
 }
 
 /// `literal TYPE | TEXT`: the literal of its value, or why and where it has none.
@@ -138,6 +140,7 @@ fn put_bytes(
         }
         Err(error) => answer.show(&error),
     }
+    drop(bytes);
 }
 
 /// `read TYPE | BYTES`: the literal of the value that a new end reads, and how many bytes spell it, or why it is refused.
@@ -163,7 +166,9 @@ fn read_with(
     requires { IsSound registry.now }
 {
     let bytes = bytes_of(registry.allocator(), text);
-    match read_bytes(registry.allocator(), registry, caches, kind, &bytes) {
+    let read = read_bytes(registry.allocator(), registry, caches, kind, &bytes);
+    drop(bytes);
+    match read {
         Ok((value, used)) => {
             answer.value(registry, &value);
             drop(value);

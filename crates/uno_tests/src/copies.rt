@@ -58,8 +58,12 @@ fn found_copy(alloc: Global, found: &Result<Option<TypeName>, NoMemory>) -> Resu
 }
 
 fn kind_copy(alloc: Global, kind: &TypeName) -> Result<bool, NoMemory> {
-    match &kind.copy(alloc) {
-        Ok(copy) => Ok(copy.is(kind)),
+    match kind.copy(alloc) {
+        Ok(copy) => {
+            let right = copy.is(kind);
+            drop(copy);
+            Ok(right)
+        }
         Err(NoMemory) => Err(NoMemory),
     }
 }
@@ -99,9 +103,12 @@ const KINDS: &str = "unoreg 1\n\
 
 /// Whether a copy has as many entities, and is sound as the registry is.
 fn is_copied(registry: &Registry) -> bool {
-    match &registry.copy() {
+    match registry.copy() {
         Ok(copy) => {
-            copy.entities().len() == registry.entities().len() && copy.is_sound() == Ok(true)
+            let as_many = copy.entities().len() == registry.entities().len();
+            let sound = copy.is_sound();
+            drop(copy);
+            as_many && sound == Ok(true)
         }
         Err(_) => false,
     }

@@ -154,13 +154,20 @@ pub(crate) fn goes(rt: &impl Abort, alloc: Global, row: &Row, text: &[u8]) -> bo
         &mut output,
         &mut errors,
     );
-    is_right(
+    let right = is_right(
         row,
         status,
         &mut input,
         output.as_bytes(),
         errors.as_bytes(),
-    )
+    );
+    drop(errors);
+    drop(output);
+    drop(input);
+    drop(files);
+    drop(words);
+    drop(tag);
+    right
 }
 
 /// Sees that runs go as the rows say.

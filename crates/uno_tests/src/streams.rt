@@ -62,7 +62,9 @@ fn is_right(rt: &impl Abort, alloc: Global, row: &Row) -> bool {
     let (sizes, failing, pieces) = row;
     let text = Vec::from_slice(alloc, TEXT).expect(rt, "no memory");
     let mut source = source_of(rt, alloc, text, sizes, failing);
-    gives(&mut source, pieces)
+    let right = gives(&mut source, pieces);
+    drop(source);
+    right
 }
 
 #[test]
@@ -107,7 +109,9 @@ fn takes_until_closed(sink: &mut MemSink) -> bool {
 fn sink_is_right(rt: &impl Abort, alloc: Global) -> bool {
     let failing = Vec::from_slice(alloc, &[1]).expect(rt, "no memory");
     let mut sink = MemSink::with_room(alloc, 64, failing).expect(rt, "no memory");
-    takes_until_closed(&mut sink)
+    let right = takes_until_closed(&mut sink);
+    drop(sink);
+    right
 }
 
 /// Whether the text is too long for a room.
