@@ -105,11 +105,11 @@ fn makes_call(
         drop(args);
         return Err(NoMemory);
     };
-    let Ok(to) = name_of(alloc, &call.to) else {
+    let Ok(to) = name_of(&call.to) else {
         drop(args);
         return Err(NoMemory);
     };
-    let Ok(target) = target.copy(alloc) else {
+    let Ok(target) = target.copy() else {
         drop(to);
         drop(args);
         return Err(NoMemory);
@@ -153,13 +153,13 @@ fn request_weight(tid: &Tid, oid: &str, face: &str, args: &[Value]) -> u64
 }
 
 /// The name of the variable that a result becomes.
-fn name_of(alloc: Global, to: &Option<Field>) -> Result<Option<Name>, NoMemory>
+fn name_of(to: &Option<Field>) -> Result<Option<Name>, NoMemory>
     ensures { IfOk result (λ name. name ≡ option_map (λ f. f.name) (option_map field_of to.now)) }
 {
     let Some(field) = to else {
         return Ok(None);
     };
-    Ok(Some(field.name.copy(alloc)?))
+    Ok(Some(field.name.copy()?))
 }
 
 /// The values that go with a call: those of expressions, and of variables that go both ways; none where an operation has no result.
@@ -261,20 +261,20 @@ fn queries_with(
     drop(args);
     match why {
         Some(cause) => fails(alloc, registry, running, cause),
-        None => makes_query(alloc, query, target),
+        None => makes_query(query, target),
     }
 }
 
 /// The query itself.
-fn makes_query(alloc: Global, query: &Query, target: Target) -> Result<Effect, NoMemory>
+fn makes_query(query: &Query, target: Target) -> Result<Effect, NoMemory>
     ensures { IfOk result (λ e. effect_of e ≡ queries (target_of target.entry) query.now.wanted query.now.to) }
 {
-    let wanted = query.wanted.copy(alloc)?;
-    let Ok(to) = query.to.copy(alloc) else {
+    let wanted = query.wanted.copy()?;
+    let Ok(to) = query.to.copy() else {
         drop(wanted);
         return Err(NoMemory);
     };
-    let Ok(target) = target.copy(alloc) else {
+    let Ok(target) = target.copy() else {
         drop(wanted);
         drop(to);
         return Err(NoMemory);
@@ -286,7 +286,7 @@ fn makes_query(alloc: Global, query: &Query, target: Target) -> Result<Effect, N
 fn wanted_type(alloc: Global, query: &Query) -> Result<Vec<Value>, NoMemory>
     ensures { IfOk result (λ xs. map plain_of xs.items ≡ plain.kind (kd.interface query.now.wanted) ∷ []) }
 {
-    let kind = TypeName::Interface(query.wanted.copy(alloc)?);
+    let kind = TypeName::Interface(query.wanted.copy()?);
     let mut args = Vec::new(alloc);
     if let Err(error) = push_value(&mut args, Value::Kind(kind)) {
         drop(args);

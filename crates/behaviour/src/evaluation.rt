@@ -44,9 +44,7 @@ pub(crate) fn value_of(
             Ok(result)
         }
         Expression::Any(kind, held) => any_of(alloc, kind, value_of(held, alloc, scene)?),
-        Expression::Tuple(name, members) => {
-            tuple_of(alloc, name, values_of(members, alloc, scene)?)
-        }
+        Expression::Tuple(name, members) => { tuple_of(name, values_of(members, alloc, scene)?) }
         Expression::List(kind, elements) => {
             list_of(alloc, kind, values_of(elements, alloc, scene)?)
         }
@@ -111,17 +109,13 @@ fn any_of(alloc: Global, kind: &TypeName, held: Option<Value>) -> Result<Option<
 }
 
 /// The struct or the exception of this name, where all members are there.
-fn tuple_of(
-    alloc: Global,
-    name: &Name,
-    members: Option<Vec<Value>>,
-) -> Result<Option<Value>, NoMemory>
+fn tuple_of(name: &Name, members: Option<Vec<Value>>) -> Result<Option<Value>, NoMemory>
     ensures { IfOk result (λ x. option_map plain_of x ≡ option_map (plain.tuple name.now) (option_map (λ vs. plains_of vs.items) members)) }
 {
     let Some(members) = members else {
         return Ok(None);
     };
-    let Ok(name) = name.copy(alloc) else {
+    let Ok(name) = name.copy() else {
         drop(members);
         return Err(NoMemory);
     };

@@ -61,7 +61,7 @@ pub(crate) fn undeclared_value(alloc: Global, name: &str) -> Result<Value, NoMem
         drop(message);
         return Err(NoMemory);
     };
-    runtime_value(alloc, Text::from(message))
+    runtime_value(alloc, Text::from_string(message)?)
 }
 
 const UNDECLARED: &str = "undeclared ";

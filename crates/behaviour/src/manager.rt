@@ -102,7 +102,7 @@ fn text_of(alloc: Global, value: Option<&Value>) -> Result<Text, NoMemory>
     let Value::Str(text) = value else {
         return Text::of(alloc, "");
     };
-    text.copy(alloc)
+    text.copy()
 }
 
 /// The elements of a sequence; what is none has none.

@@ -43,8 +43,8 @@ pub(crate) fn statement_effect(
         }
         Statement::Call(call) => call_effect(alloc, registry, running, call),
         Statement::Query(query) => query_effect(alloc, registry, running, query),
-        Statement::Make(making) => make_effect(alloc, making),
-        Statement::Drop(name) => Ok(Effect::Drops(name.copy(alloc)?)),
+        Statement::Make(making) => make_effect(making),
+        Statement::Drop(name) => Ok(Effect::Drops(name.copy()?)),
         Statement::When(test, back) => when_effect(alloc, registry, running, test, back),
         Statement::Return(back) => return_effect(alloc, registry, running, back),
         Statement::Raise(name, value) => raise_effect(alloc, registry, running, name, value),
@@ -65,7 +65,7 @@ fn let_effect(
     ensures { IfOk result (λ e. effect_of e ≡ let_effect registry.now (running_of running.entry) name.now (expression_of value.now)) }
 {
     match evaluated(alloc, registry, running.scene, value)? {
-        Ok(value) => Ok(Effect::Lets(variable(alloc, name, value)?)),
+        Ok(value) => Ok(Effect::Lets(variable(name, value)?)),
         Err(cause) => fails(alloc, registry, running, cause),
     }
 }
@@ -83,7 +83,7 @@ fn set_effect(
     ensures { IfOk result (λ e. effect_of e ≡ set_effect registry.now (running_of running.entry) name.now (expression_of value.now)) }
 {
     match evaluated(alloc, registry, running.scene, value)? {
-        Ok(value) => Ok(Effect::Sets(variable(alloc, name, value)?)),
+        Ok(value) => Ok(Effect::Sets(variable(name, value)?)),
         Err(cause) => fails(alloc, registry, running, cause),
     }
 }
@@ -101,15 +101,15 @@ fn set_field_effect(
     ensures { IfOk result (λ e. effect_of e ≡ set_field_effect registry.now (running_of running.entry) name.now (expression_of value.now)) }
 {
     match evaluated(alloc, registry, running.scene, value)? {
-        Ok(value) => Ok(Effect::SetsField(variable(alloc, name, value)?)),
+        Ok(value) => Ok(Effect::SetsField(variable(name, value)?)),
         Err(cause) => fails(alloc, registry, running, cause),
     }
 }
 
-fn variable(alloc: Global, name: &Name, value: Value) -> Result<Variable, NoMemory>
+fn variable(name: &Name, value: Value) -> Result<Variable, NoMemory>
     ensures { IfOk result (λ x. (x.name ≡ name.now) × (plain_of x.value ≡ plain_of value)) }
 {
-    let Ok(name) = name.copy(alloc) else {
+    let Ok(name) = name.copy() else {
         drop(value);
         return Err(NoMemory);
     };
@@ -117,11 +117,11 @@ fn variable(alloc: Global, name: &Name, value: Value) -> Result<Variable, NoMemo
 }
 
 /// A new object.
-fn make_effect(alloc: Global, making: &Making) -> Result<Effect, NoMemory>
+fn make_effect(making: &Making) -> Result<Effect, NoMemory>
     ensures { IfOk result (λ e. effect_of e ≡ make_effect (making_of making.now)) }
 {
-    let face = making.face.copy(alloc)?;
-    let Ok(to) = making.to.copy(alloc) else {
+    let face = making.face.copy()?;
+    let Ok(to) = making.to.copy() else {
         drop(face);
         return Err(NoMemory);
     };
@@ -162,7 +162,7 @@ fn returns_where(
     requires { IsSound registry.now }
     ensures { IfOk result (λ e. effect_of e ≡ (if compares test.now.comparison (value_of_word (scene_of running.entry.scene) (word_of test.now.left)) (plain_of right) then return_effect registry.now (running_of running.entry) (option_map expression_of back.now) else skips)) }
 {
-    let holds = holds(alloc, running.scene, test, &right);
+    let holds = holds(running.scene, test, &right);
     drop(right);
     if !holds? {
         return Ok(Effect::Skips);
@@ -171,7 +171,7 @@ fn returns_where(
 }
 
 /// Whether a test holds of what its word stands for and of this value.
-fn holds(alloc: Global, scene: Scene, test: &Test, right: &Value) -> Result<bool, NoMemory>
+fn holds(scene: Scene, test: &Test, right: &Value) -> Result<bool, NoMemory>
     ensures { IfOk result (λ holds. holds ≡ compares test.now.comparison (value_of_word (scene_of scene.entry) (word_of test.now.left)) (plain_of right.now)) }
 {
     match &test.left {
@@ -182,7 +182,7 @@ fn holds(alloc: Global, scene: Scene, test: &Test, right: &Value) -> Result<bool
         )),
         Word::Field(name) => Ok(holds_of(test.comparison, value_under(name, scene.fields), right)),
         Word::Own => {
-            let own = Value::Ref(own_object(alloc, scene)?);
+            let own = Value::Ref(own_object(scene)?);
             let holds = compares(test.comparison, &own, right);
             drop(own);
             Ok(holds)

@@ -10,7 +10,6 @@ ghost use Rattle.behaviour.specs.Running.{scene_of, value_or_void};
 use crate::running::{Scene, Target};
 use crate::words::value_under;
 use plan_types::Word;
-use std::alloc::Global;
 use uno_base::NoMemory;
 use uno_values::{Reference, Value};
 
@@ -36,25 +35,19 @@ impl<'a> Target<'a> {
     }
 
     /// The same as a reference of its own.
-    pub fn copy(&self, alloc: Global) -> Result<Reference, NoMemory>
+    pub fn copy(&self) -> Result<Reference, NoMemory>
         ensures { IfOk result (λ r. ref_of r ≡ target_of self.now) }
     {
         match self {
             Target::Null => Ok(Reference::Null),
             Target::Local { oid, face } => {
-                let oid = oid.copy(alloc)?;
-                let Ok(face) = face.copy(alloc) else {
-                    drop(oid);
-                    return Err(NoMemory);
-                };
+                let oid = oid.copy()?;
+                let face = face.copy()?;
                 Ok(Reference::Local { oid, face })
             }
             Target::Remote { oid, face } => {
-                let oid = oid.copy(alloc)?;
-                let Ok(face) = face.copy(alloc) else {
-                    drop(oid);
-                    return Err(NoMemory);
-                };
+                let oid = oid.copy()?;
+                let face = face.copy()?;
                 Ok(Reference::Remote { oid, face })
             }
         }

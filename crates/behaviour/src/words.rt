@@ -47,13 +47,13 @@ pub(crate) fn value_of_word(alloc: Global, scene: Scene, word: &Word) -> Result<
     match word {
         Word::Variable(name) => copy_under(alloc, name, scene.variables),
         Word::Field(name) => copy_under(alloc, name, scene.fields),
-        Word::Own => Ok(Value::Ref(own_object(alloc, scene)?)),
+        Word::Own => Ok(Value::Ref(own_object(scene)?)),
     }
 }
 
 /// The own object.
-pub(crate) fn own_object(alloc: Global, scene: Scene) -> Result<Reference, NoMemory>
+pub(crate) fn own_object(scene: Scene) -> Result<Reference, NoMemory>
     ensures { IfOk result (λ r. ref_of r ≡ (scene_of scene.entry).own) }
 {
-    scene.own.copy(alloc)
+    scene.own.copy()
 }

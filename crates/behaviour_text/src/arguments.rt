@@ -87,11 +87,11 @@ fn argument_of(
     match param.way {
         Way::Into => into_argument(alloc, registry, context, param, term),
         Way::Out => match getting(registry, context, param, term) {
-            Some(name) => Ok(Some(Argument::Out(name.copy(alloc)?))),
+            Some(name) => Ok(Some(Argument::Out(name.copy()?))),
             None => Ok(None),
         },
         Way::Both => match getting(registry, context, param, term) {
-            Some(name) => Ok(Some(Argument::Both(name.copy(alloc)?))),
+            Some(name) => Ok(Some(Argument::Both(name.copy()?))),
             None => Ok(None),
         },
     }

@@ -29,7 +29,7 @@ use std::mem;
 use type_registry::Function;
 use uno_base::NoMemory;
 use uno_entities::copy_names;
-use uno_types::{Field, Name, Param, Registry, Text, Way};
+use uno_types::{Field, Name, Param, Registry, Way};
 
 /// The block of a behaviour begins.
 pub(crate) fn open_behaviour(
@@ -50,7 +50,7 @@ fn behaviour_of(alloc: Global, name: &Name, faces: &[Name]) -> Result<OpenBehavi
     ensures { IfOk result (λ b. open_of b ≡ record { name = name.now; faces = faces.now; fields = []; methods = [] }) }
 {
     let faces = copy_names(alloc, faces)?;
-    match name.copy(alloc) {
+    match name.copy() {
         Ok(name) => Ok(OpenBehaviour {
             name,
             faces,
@@ -150,7 +150,7 @@ fn parameters(alloc: Global, params: &[Param]) -> Result<Scope, NoMemory>
 fn parameter(alloc: Global, param: &Param) -> Result<Scoped, NoMemory>
     ensures { IfOk result (λ x. scoped_of x ∷ [] ≡ parameters (param_of param.now ∷ [])) }
 {
-    let name = param.name.copy(alloc)?;
+    let name = param.name.copy()?;
     match param.kind.copy(alloc) {
         Ok(kind) => Ok(Scoped {
             name,
@@ -196,8 +196,8 @@ fn method_of(
 fn empty_method(alloc: Global, face: &Name, name: &Name) -> Result<Method, NoMemory>
     ensures { IfOk result (λ method. method_of method ≡ record { face = face.now; function = name.now; body = [] }) }
 {
-    let face = face.copy(alloc)?;
-    match name.copy(alloc) {
+    let face = face.copy()?;
+    match name.copy() {
         Ok(function) => Ok(Method {
             face,
             function,

@@ -1,10 +1,11 @@
 //! Types: by their names, and which of them fits which.
 ghost use Rattle.std.specs.Prelude.{◌≡◌, option_map, IfOk, is_some};
 ghost use Rattle.plan_model.specs.Contexts.{kind_fits};
-ghost use Rattle.plan_model.specs.TypedStatements.{face_of, face_of_text};
+ghost use Rattle.plan_model.specs.TypedStatements.{face_of_text};
 ghost use Rattle.plan_model.specs.KnownNames.{is_type_known};
 ghost use Rattle.plan_model.specs.Typing.{is_whole};
 ghost use Rattle.uno_model.specs.Codes.{same_kind};
+ghost use Rattle.uno_model.specs.Kinds.{interface_of};
 ghost use Rattle.uno_model.specs.Kinds as kd;
 ghost use Rattle.uno_model.specs.NamedTypes.{type_of_text};
 ghost use Rattle.uno_model.specs.Reaches.{is_base_of};
@@ -30,44 +31,18 @@ impl<'a> LentKind<'a> {
     {
         match self {
             LentKind::Whole(kind) => kind.copy(alloc),
-            LentKind::Interface(name) => Ok(TypeName::Interface(name.copy(alloc)?)),
+            LentKind::Interface(name) => Ok(TypeName::Interface(name.copy()?)),
         }
     }
 
     /// The name of the interface that it is.
     pub(crate) fn face(self) -> Option<&'a Name>
-        ensures { option_map (λ name. name.now) result ≡ face_of (lent_kind self.entry) }
+        ensures { option_map (λ name. name.now) result ≡ interface_of (lent_kind self.entry) }
     {
         match self {
-            LentKind::Whole(kind) => face_of(kind),
+            LentKind::Whole(kind) => kind.interface(),
             LentKind::Interface(name) => Some(name),
         }
-    }
-}
-
-/// The name of the interface that a type is.
-pub(crate) fn face_of(kind: &TypeName) -> Option<&Name>
-    ensures { option_map (λ name. name.now) result ≡ face_of (kind_of kind.now) }
-{
-    match kind {
-        TypeName::Interface(name) => Some(name),
-        TypeName::Void
-        | TypeName::Char
-        | TypeName::Boolean
-        | TypeName::Byte
-        | TypeName::Short
-        | TypeName::UnsignedShort
-        | TypeName::Long
-        | TypeName::UnsignedLong
-        | TypeName::Hyper
-        | TypeName::UnsignedHyper
-        | TypeName::Str
-        | TypeName::Kind
-        | TypeName::Any
-        | TypeName::Enum(_)
-        | TypeName::Struct(_)
-        | TypeName::Exception(_)
-        | TypeName::Sequence(_) => None,
     }
 }
 
@@ -106,33 +81,8 @@ pub(crate) fn face_named(
     ensures { IfOk result (λ found. found ≡ face_of_text registry.now text.now) }
 {
     match type_named(alloc, registry, text)? {
-        Some(kind) => Ok(into_face(kind)),
+        Some(kind) => Ok(kind.into_interface()),
         None => Ok(None),
-    }
-}
-
-fn into_face(kind: TypeName) -> Option<Name>
-    ensures { result ≡ face_of (kind_of kind) }
-{
-    match kind {
-        TypeName::Interface(name) => Some(name),
-        TypeName::Void
-        | TypeName::Char
-        | TypeName::Boolean
-        | TypeName::Byte
-        | TypeName::Short
-        | TypeName::UnsignedShort
-        | TypeName::Long
-        | TypeName::UnsignedLong
-        | TypeName::Hyper
-        | TypeName::UnsignedHyper
-        | TypeName::Str
-        | TypeName::Kind
-        | TypeName::Any
-        | TypeName::Enum(_)
-        | TypeName::Struct(_)
-        | TypeName::Exception(_)
-        | TypeName::Sequence(_) => None,
     }
 }
 

@@ -9,13 +9,11 @@ use crate::behaviours::behaviour_number;
 use crate::context::Context;
 use crate::statements::number_of;
 use plan_types::{Export, Offer};
-use std::alloc::Global;
 use uno_base::NoMemory;
 use uno_types::{Name, Text};
 
 /// A service more, whose objects are of the behaviour.
 pub(crate) fn add_service(
-    alloc: Global,
     context: &mut Context,
     name: &Name,
     behaviour: &Name,
@@ -25,14 +23,13 @@ pub(crate) fn add_service(
     let Some(place) = behaviour_number(context, behaviour.as_str()) else {
         return Ok(());
     };
-    let offer = offer_of(alloc, name, place)?;
+    let offer = offer_of(name, place)?;
     context.plan.services.push(offer)?;
     Ok(())
 }
 
 /// A singleton more, whose object is of the behaviour.
 pub(crate) fn add_singleton(
-    alloc: Global,
     context: &mut Context,
     name: &Name,
     behaviour: &Name,
@@ -42,14 +39,13 @@ pub(crate) fn add_singleton(
     let Some(place) = behaviour_number(context, behaviour.as_str()) else {
         return Ok(());
     };
-    let offer = offer_of(alloc, name, place)?;
+    let offer = offer_of(name, place)?;
     context.plan.singletons.push(offer)?;
     Ok(())
 }
 
 /// An export more, whose object is of the behaviour.
 pub(crate) fn add_export(
-    alloc: Global,
     context: &mut Context,
     name: &Text,
     behaviour: &Name,
@@ -59,23 +55,23 @@ pub(crate) fn add_export(
     let Some(place) = behaviour_number(context, behaviour.as_str()) else {
         return Ok(());
     };
-    let export = export_of(alloc, name, place)?;
+    let export = export_of(name, place)?;
     context.plan.exports.push(export)?;
     Ok(())
 }
 
-fn offer_of(alloc: Global, name: &Name, place: usize) -> Result<Offer, NoMemory>
+fn offer_of(name: &Name, place: usize) -> Result<Offer, NoMemory>
     ensures { IfOk result (λ offer. offer_of offer ≡ record { name = name.now; behaviour = place }) }
 {
     let behaviour = number_of(place)?;
-    let name = name.copy(alloc)?;
+    let name = name.copy()?;
     Ok(Offer { name, behaviour })
 }
 
-fn export_of(alloc: Global, name: &Text, place: usize) -> Result<Export, NoMemory>
+fn export_of(name: &Text, place: usize) -> Result<Export, NoMemory>
     ensures { IfOk result (λ export. export_of export ≡ record { name = name.now; behaviour = place }) }
 {
     let behaviour = number_of(place)?;
-    let name = name.copy(alloc)?;
+    let name = name.copy()?;
     Ok(Export { name, behaviour })
 }

@@ -6,6 +6,7 @@ ghost use Rattle.plan_model.specs.Expressions as e;
 ghost use Rattle.plan_model.specs.Statements as s;
 ghost use Rattle.plan_model.specs.TypedStatements as typed;
 ghost use Rattle.plan_model.specs.Typing as typing;
+ghost use Rattle.uno_model.specs.Kinds.{exception_of};
 ghost use Rattle.uno_model.specs.Kinds as kd;
 ghost use Rattle.uno_model.specs.Sound.{IsSound};
 ghost use Rattle.plan_types.specs.Expressions.{expression_of, word_of};
@@ -68,7 +69,7 @@ pub(crate) fn statement_of(
             Some(making) => Ok(Some(Statement::Make(making))),
             None => Ok(None),
         },
-        Line::Drop(name) => drop_of(alloc, context, name),
+        Line::Drop(name) => drop_of(context, name),
         Line::When {
             left,
             comparison,
@@ -101,7 +102,7 @@ pub(crate) fn declared_field(
     requires { IsSound registry.now }
     ensures { IfOk result (λ found. option_map field_of found ≡ typed.declared_field registry.now (declared_of declared.now)) }
 {
-    let name = declared.name.copy(alloc)?;
+    let name = declared.name.copy()?;
     match type_named(alloc, registry, &declared.kind) {
         Ok(Some(kind)) => Ok(Some(Field { name, kind })),
         Ok(None) => {
@@ -205,7 +206,7 @@ fn named_value(
     ensures value { IfOk result (λ found. (mk : e.Expression → s.Statement) → option_map (λ x. mk (expression_of x.1)) found ≡ option_map mk (typing.expression_of registry.now (context_of context.now) (term_of term.now) (kind_of kind.now))) }
     ensures name { IfOk result (λ found. IfSome found (λ x. x.0 ≡ name.now)) }
 {
-    let name = name.copy(alloc)?;
+    let name = name.copy()?;
     match expression_of(alloc, registry, context, term, kind) {
         Ok(Some(value)) => Ok(Some((name, value))),
         Ok(None) => {
@@ -220,13 +221,13 @@ fn named_value(
 }
 
 /// A parameter whose value comes out stays.
-fn drop_of(alloc: Global, context: &Context, name: &Name) -> Result<Option<Statement>, NoMemory>
+fn drop_of(context: &Context, name: &Name) -> Result<Option<Statement>, NoMemory>
     ensures { IfOk result (λ found. option_map statement_of found ≡ typed.drop_of (context_of context.now) name.now) }
 {
     if context.variables.comes_out(name.as_str()) {
         return Ok(None);
     }
-    Ok(Some(Statement::Drop(name.copy(alloc)?)))
+    Ok(Some(Statement::Drop(name.copy()?)))
 }
 
 fn return_of(
@@ -268,7 +269,7 @@ fn raise_kind(
     term: &Term,
 ) -> Result<Option<Statement>, NoMemory>
     requires { IsSound registry.now }
-    ensures { IfOk result (λ found. option_map statement_of found ≡ and_then (typed.raised_name (kind_of kind)) (λ name. option_map (s.raise name) (typing.expression_of registry.now (context_of context.now) (term_of term.now) (kd.exception name)))) }
+    ensures { IfOk result (λ found. option_map statement_of found ≡ and_then (exception_of (kind_of kind)) (λ name. option_map (s.raise name) (typing.expression_of registry.now (context_of context.now) (term_of term.now) (kd.exception name)))) }
 {
     match expression_of(alloc, registry, context, term, &kind) {
         Ok(Some(value)) => Ok(raised(kind, value)),
@@ -284,29 +285,8 @@ fn raise_kind(
 }
 
 fn raised(kind: TypeName, value: Expression) -> Option<Statement>
-    ensures { option_map statement_of result ≡ option_map (λ name. s.raise name (expression_of value)) (typed.raised_name (kind_of kind)) }
+    ensures { option_map statement_of result ≡ option_map (λ name. s.raise name (expression_of value)) (exception_of (kind_of kind)) }
 {
-    match kind {
-        TypeName::Exception(name) => Some(Statement::Raise(name, value)),
-        TypeName::Void
-        | TypeName::Char
-        | TypeName::Boolean
-        | TypeName::Byte
-        | TypeName::Short
-        | TypeName::UnsignedShort
-        | TypeName::Long
-        | TypeName::UnsignedLong
-        | TypeName::Hyper
-        | TypeName::UnsignedHyper
-        | TypeName::Str
-        | TypeName::Kind
-        | TypeName::Any
-        | TypeName::Enum(_)
-        | TypeName::Struct(_)
-        | TypeName::Interface(_)
-        | TypeName::Sequence(_) => {
-            drop(value);
-            None
-        }
-    }
+    let name = kind.into_exception()?;
+    Some(Statement::Raise(name, value))
 }

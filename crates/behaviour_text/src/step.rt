@@ -142,9 +142,9 @@ fn go_behind(
         Line::Behaviour { name, faces } => open_behaviour(alloc, context, name, faces),
         Line::Field(declared) => add_field(alloc, registry, context, declared),
         Line::Method { face, function } => open_method(alloc, registry, context, face, function),
-        Line::Service { name, behaviour } => add_service(alloc, context, name, behaviour),
-        Line::Singleton { name, behaviour } => add_singleton(alloc, context, name, behaviour),
-        Line::Export { name, behaviour } => add_export(alloc, context, name, behaviour),
+        Line::Service { name, behaviour } => add_service(context, name, behaviour),
+        Line::Singleton { name, behaviour } => add_singleton(context, name, behaviour),
+        Line::Export { name, behaviour } => add_export(context, name, behaviour),
         Line::Thread => {
             open_thread(alloc, context);
             Ok(())

@@ -51,7 +51,7 @@ pub(crate) fn expression_of(
         Term::Typed(text, content) => any_at(alloc, registry, context, content, text, kind),
         Term::Elements(terms) => elements_at(alloc, registry, context, terms, kind),
         Term::Members(terms) => members_at(alloc, registry, context, terms, kind),
-        Term::Word(word) => word_at(alloc, registry, context, kind, word),
+        Term::Word(word) => word_at(registry, context, kind, word),
         Term::Operation(operation, left, right) => {
             if !is_whole(kind) {
                 return Ok(None);
@@ -258,7 +258,7 @@ fn tuple_at(
 {
     let mut all = Vec::new(alloc);
     match fields_at(alloc, registry, context, terms, name, &mut all) {
-        Ok(true) => tuple_of(alloc, name, all),
+        Ok(true) => tuple_of(name, all),
         Ok(false) => {
             drop(all);
             Ok(None)

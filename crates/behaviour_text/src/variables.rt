@@ -23,8 +23,8 @@ pub(crate) fn scope_behind(
     match statement {
         Statement::Let(field, _) => add(alloc, variables, field),
         Statement::Call(call) => add_result(alloc, variables, &call.to),
-        Statement::Query(query) => add_interface(alloc, variables, &query.to, &query.wanted),
-        Statement::Make(making) => add_interface(alloc, variables, &making.to, &making.face),
+        Statement::Query(query) => add_interface(variables, &query.to, &query.wanted),
+        Statement::Make(making) => add_interface(variables, &making.to, &making.face),
         Statement::Drop(name) => {
             variables.remove(name.as_str());
             Ok(())
@@ -51,11 +51,11 @@ pub(crate) fn scope_behind_root(
             to,
             wanted,
             name: _,
-        } => add_interface(alloc, variables, to, wanted),
-        RootStatement::AskInstance { to, wanted } => add_interface(alloc, variables, to, wanted),
+        } => add_interface(variables, to, wanted),
+        RootStatement::AskInstance { to, wanted } => add_interface(variables, to, wanted),
         RootStatement::Call(call) => add_result(alloc, variables, &call.to),
-        RootStatement::Query(query) => add_interface(alloc, variables, &query.to, &query.wanted),
-        RootStatement::Make(making) => add_interface(alloc, variables, &making.to, &making.face),
+        RootStatement::Query(query) => add_interface(variables, &query.to, &query.wanted),
+        RootStatement::Make(making) => add_interface(variables, &making.to, &making.face),
         RootStatement::Drop(name) => {
             variables.remove(name.as_str());
             Ok(())
@@ -68,7 +68,7 @@ fn add(alloc: Global, variables: &mut Scope, field: &Field) -> Result<(), NoMemo
     ensures { OnOk result (variables.new ≡ scoped_more (field_of field.now).name (field_of field.now).kind variables.old) }
 {
     let kind = field.kind.copy(alloc)?;
-    add_kind(alloc, variables, &field.name, kind)
+    add_kind(variables, &field.name, kind)
 }
 
 fn add_result(alloc: Global, variables: &mut Scope, to: &Option<Field>) -> Result<(), NoMemory>
@@ -80,27 +80,17 @@ fn add_result(alloc: Global, variables: &mut Scope, to: &Option<Field>) -> Resul
     }
 }
 
-fn add_interface(
-    alloc: Global,
-    variables: &mut Scope,
-    name: &Name,
-    face: &Name,
-) -> Result<(), NoMemory>
+fn add_interface(variables: &mut Scope, name: &Name, face: &Name) -> Result<(), NoMemory>
     ensures { OnOk result (variables.new ≡ scoped_more name.now (kd.interface face.now) variables.old) }
 {
-    let kind = TypeName::Interface(face.copy(alloc)?);
-    add_kind(alloc, variables, name, kind)
+    let kind = TypeName::Interface(face.copy()?);
+    add_kind(variables, name, kind)
 }
 
-fn add_kind(
-    alloc: Global,
-    variables: &mut Scope,
-    name: &Name,
-    kind: TypeName,
-) -> Result<(), NoMemory>
+fn add_kind(variables: &mut Scope, name: &Name, kind: TypeName) -> Result<(), NoMemory>
     ensures { OnOk result (variables.new ≡ scoped_more name.now (kind_of kind) variables.old) }
 {
-    match name.copy(alloc) {
+    match name.copy() {
         Ok(name) => variables.push(Scoped {
             name,
             kind,

@@ -9,7 +9,6 @@ ghost use Rattle.behaviour_text.specs.Lent.{lent_kind};
 use crate::context::{Block, Context};
 use crate::kinds::LentKind;
 use plan_types::Word;
-use std::alloc::Global;
 use uno_base::NoMemory;
 use uno_types::TypeName;
 
@@ -62,12 +61,12 @@ pub(crate) fn kind_of_word<'a>(context: &'a Context, word: &Word) -> Option<Lent
 }
 
 /// An equal word.
-pub(crate) fn copy_word(alloc: Global, word: &Word) -> Result<Word, NoMemory>
+pub(crate) fn copy_word(word: &Word) -> Result<Word, NoMemory>
     ensures { IfOk result (λ copy. word_of copy ≡ word_of word.now) }
 {
     match word {
-        Word::Variable(name) => Ok(Word::Variable(name.copy(alloc)?)),
-        Word::Field(name) => Ok(Word::Field(name.copy(alloc)?)),
+        Word::Variable(name) => Ok(Word::Variable(name.copy()?)),
+        Word::Field(name) => Ok(Word::Field(name.copy()?)),
         Word::Own => Ok(Word::Own),
     }
 }

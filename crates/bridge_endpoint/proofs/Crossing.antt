@@ -39,7 +39,8 @@ use Rattle.bridge_setting.proofs.names.Names.TheSendSync as own_names
 use Rattle.bridge_setting.specs.contracts.setting.Setting as Setting
 use Rattle.bridge_journal.specs.contracts.entry.Entry as Entry
 use Rattle.bridge_journal.specs.contracts.journal.Journal as Journal
-use Rattle.bridge_state.proofs.Crossing.{kind_send, state_send, value_row_send, value_send}
+use Rattle.bridge_streams.proofs.Crossing.{kind_send, value_send, value_row_send}
+use Rattle.bridge_state.proofs.Crossing.{state_send}
 use Rattle.bridge_endpoint.specs.contracts.endpoint.Endpoint as Endpoint
 
 -- ---- the journal

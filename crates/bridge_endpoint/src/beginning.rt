@@ -39,7 +39,6 @@ impl Endpoint {
             return refused.begun();
         }
         match ask_standing(
-            self.alloc,
             &self.setting,
             &mut self.state,
             &mut self.journal,
@@ -114,7 +113,6 @@ impl Endpoint {
             return Begun::NotHeld;
         }
         match query_standing(
-            self.alloc,
             &self.setting,
             &mut self.state,
             &mut self.journal,
@@ -143,7 +141,6 @@ fn started(state: RootState) -> Begun
 }
 
 fn ask_standing(
-    alloc: Global,
     setting: &Setting,
     state: &mut State,
     journal: &mut Journal,
@@ -167,8 +164,8 @@ fn ask_standing(
     reserve(journal, 2)?;
     let entry = Entry::Asked {
         root,
-        name: name.copy(alloc)?,
-        wanted: wanted.copy(alloc)?,
+        name: name.copy()?,
+        wanted: wanted.copy()?,
     };
     state.root_asks(setting, root, name, wanted)?;
     enter(state, journal, entry);
@@ -202,8 +199,8 @@ fn call_standing(
     reserve(journal, 2)?;
     let entry = Entry::Called {
         root,
-        oid: oid.copy(alloc)?,
-        face: face.copy(alloc)?,
+        oid: oid.copy()?,
+        face: face.copy()?,
         function,
         args: copy_all(&args, alloc)?,
     };
@@ -213,7 +210,6 @@ fn call_standing(
 }
 
 fn query_standing(
-    alloc: Global,
     setting: &Setting,
     state: &mut State,
     journal: &mut Journal,
@@ -238,9 +234,9 @@ fn query_standing(
     reserve(journal, 3)?;
     let entry = Entry::Queried {
         root,
-        oid: oid.copy(alloc)?,
-        face: face.copy(alloc)?,
-        wanted: wanted.copy(alloc)?,
+        oid: oid.copy()?,
+        face: face.copy()?,
+        wanted: wanted.copy()?,
     };
     state.root_queries(setting, root, oid, face, wanted)?;
     enter(state, journal, entry);

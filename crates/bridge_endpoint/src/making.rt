@@ -23,7 +23,6 @@ use bridge_objects::NotHeld;
 use bridge_setting::Setting;
 use bridge_state::State;
 use bridge_tables::Outcome;
-use std::alloc::Global;
 use uno_base::NoMemory;
 use uno_types::{Name, Text};
 
@@ -40,7 +39,6 @@ impl Endpoint {
             return refused.made();
         }
         match make_standing(
-            self.alloc,
             &self.setting,
             &mut self.state,
             &mut self.journal,
@@ -101,7 +99,6 @@ impl Endpoint {
 }
 
 fn make_standing(
-    alloc: Global,
     setting: &Setting,
     state: &mut State,
     journal: &mut Journal,
@@ -121,7 +118,7 @@ fn make_standing(
     ensures within { IsWithin journal.old → IsWithin journal.new }
 {
     reserve(journal, 3)?;
-    let wanted_too = wanted.copy(alloc)?;
+    let wanted_too = wanted.copy()?;
     let oid = state.root_makes(setting, root, behaviour, wanted)?;
     enter(
         state,

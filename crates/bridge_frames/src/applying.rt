@@ -136,7 +136,7 @@ fn apply_call(
                 face,
                 function,
             };
-            call_peer(alloc, setting, call, args, stacks, tables)
+            call_peer(setting, call, args, stacks, tables)
         }
     }
 }
@@ -174,7 +174,7 @@ fn apply_query(
                 face,
                 function: 0,
             };
-            call_peer(alloc, setting, call, args, stacks, tables)
+            call_peer(setting, call, args, stacks, tables)
         }
     }
 }

@@ -182,7 +182,7 @@ fn hold_own(
     ensures kept { OnErr result (tables.new ≡ tables.old) }
 {
     let oid = setting.own_oid(alloc, object)?;
-    let face = face.copy(alloc)?;
+    let face = face.copy()?;
     let own = Reference::Local { oid, face };
     let held = tables.gain(setting, Holder::Frame(number), &own);
     drop(own);
@@ -212,7 +212,6 @@ fn variables_of(
 
 /// An object of the peer's is called: a request, and a frame that waits for its reply.
 pub fn call_peer(
-    alloc: Global,
     setting: &Setting,
     call: Call,
     args: Vec<Value>,
@@ -227,7 +226,7 @@ pub fn call_peer(
     let Ok(number) = next_number(tables) else {
         return Err(NoMemory);
     };
-    if let Err(error) = say_request(alloc, setting, &call, args, tables) {
+    if let Err(error) = say_request(setting, &call, args, tables) {
         return Err(error);
     }
     let outgoing = Outgoing {
@@ -245,7 +244,6 @@ pub fn call_peer(
 
 /// Its request.
 fn say_request(
-    alloc: Global,
     setting: &Setting,
     call: &Call,
     args: Vec<Value>,
@@ -255,13 +253,13 @@ fn say_request(
     ensures said { OnOk result (tables.new ≡ on_tables (says (setting_of setting.now) (request call.now.tid.now call.now.oid call.now.face call.now.function (map plain_of args.items))) tables.old) }
     ensures kept { OnErr result (quiet tables.new ≡ quiet tables.old) }
 {
-    let Ok(tid) = call.tid.copy(alloc) else {
+    let Ok(tid) = call.tid.copy() else {
         return Err(NoMemory);
     };
-    let Ok(oid) = call.oid.copy(alloc) else {
+    let Ok(oid) = call.oid.copy() else {
         return Err(NoMemory);
     };
-    let Ok(face) = call.face.copy(alloc) else {
+    let Ok(face) = call.face.copy() else {
         return Err(NoMemory);
     };
     let message = Message::Request {

@@ -187,7 +187,7 @@ fn refusal(alloc: Global, front: &str, name: &Text) -> Result<AnyValue, NoMemory
     let mut message = String::from_str(alloc, front)?;
     message.push_str(name.as_str())?;
     let mut members = Vec::new(alloc);
-    members.push(Value::Str(Text::from(message)))?;
+    members.push(Value::Str(Text::from_string(message)?))?;
     members.push(Value::Ref(Reference::Null))?;
     Ok(AnyValue {
         kind: TypeName::Exception(kind),

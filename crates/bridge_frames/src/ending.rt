@@ -48,7 +48,7 @@ pub(crate) fn answer_peer(
         drop(answer);
         return Err(NoMemory);
     };
-    if let Err(error) = say_reply(alloc, setting, tid, body, answer, tables) {
+    if let Err(error) = say_reply(setting, tid, body, answer, tables) {
         drop(own);
         return Err(error);
     }
@@ -59,7 +59,6 @@ pub(crate) fn answer_peer(
 
 /// Its reply.
 fn say_reply(
-    alloc: Global,
     setting: &Setting,
     tid: &Tid,
     body: &Body,
@@ -70,11 +69,11 @@ fn say_reply(
     ensures said { OnOk result (tables.new ≡ on_tables (says (setting_of setting.now) (reply tid.now body.now.face body.now.function (answer_of answer))) tables.old) }
     ensures kept { OnErr result (quiet tables.new ≡ quiet tables.old) }
 {
-    let Ok(tid) = tid.copy(alloc) else {
+    let Ok(tid) = tid.copy() else {
         drop(answer);
         return Err(NoMemory);
     };
-    let Ok(face) = body.face.copy(alloc) else {
+    let Ok(face) = body.face.copy() else {
         drop(answer);
         return Err(NoMemory);
     };
@@ -122,7 +121,7 @@ pub(crate) fn own_reference(
     ensures { IfOk result (λ r. ref_of r ≡ v.own (own_oid (setting_of setting.now) body.now.object) body.now.face) }
 {
     let oid = setting.own_oid(alloc, body.object)?;
-    let face = body.face.copy(alloc)?;
+    let face = body.face.copy()?;
     Ok(Reference::Local { oid, face })
 }
 

@@ -122,7 +122,7 @@ fn take_found(
     requires { IsSound setting.now.registry }
     ensures { IfOk result (λ gone. taken_of variables.new.items gone.items ≡ takes_reference setting.now.registry query.now.wanted query.now.to (plain_of value) (variables_of variables.old.items)) }
 {
-    let Ok(to) = query.to.copy(alloc) else {
+    let Ok(to) = query.to.copy() else {
         drop(value);
         return Err(NoMemory);
     };

@@ -3,7 +3,6 @@ use uno_types::{Name, Text, Tid};
 use uno_values::Value;
 
 /// An entry of a journal. Roots are numbered from 1, behaviours from 0, and objects by the number in their identity.
-#[derive(Drop)]
 pub enum Entry {
     /// Bytes came in.
     Fed(Vec<u8>),
@@ -63,4 +62,59 @@ pub enum Entry {
     /// A limit was reached.
     Full,
     NoMemory,
+}
+
+impl Drop for Entry {
+    fn drop(self) {
+        match self {
+            Entry::Fed(bytes) => drop(bytes),
+            Entry::Asked {
+                root: _,
+                name,
+                wanted,
+            } => {
+                drop(name);
+                drop(wanted);
+            }
+            Entry::Called {
+                root: _,
+                oid,
+                face,
+                function: _,
+                args,
+            } => {
+                drop(oid);
+                drop(face);
+                drop(args);
+            }
+            Entry::Queried {
+                root: _,
+                oid,
+                face,
+                wanted,
+            } => {
+                drop(oid);
+                drop(face);
+                drop(wanted);
+            }
+            Entry::Made {
+                root: _,
+                behaviour: _,
+                wanted,
+            } => drop(wanted),
+            Entry::Dropped { root: _, oid, face } => {
+                drop(oid);
+                drop(face);
+            }
+            Entry::Applied { tid } => drop(tid),
+            Entry::Drained(bytes) => drop(bytes),
+            Entry::Ended
+            | Entry::Failed
+            | Entry::Took { root: _ }
+            | Entry::Reaped { object: _ }
+            | Entry::Disposed
+            | Entry::Full
+            | Entry::NoMemory => {}
+        }
+    }
 }

@@ -13,7 +13,8 @@ use Rattle.urp_model.specs.declared.reason.Reason.TheVariants.{NobodyWaits, NotI
 use Rattle.message_model.specs.Calls.{acquire_number, release_number, numbered, argument_kinds, Waiting, Waits, waiting}
 use Rattle.message_model.specs.Headers.{Heard, Opening, Target, has, new_tid_flag, exception_flag}
 use Rattle.message_model.specs.Messages.{Message, reply}
-use Rattle.message_model.specs.ReadingMessages.{new_or_last_at, opening_at, target_at, face_of, answer_at, release_at, arguments_at, call_at, asked_at, request_at, awaited, reply_at, opens_reply, message_at}
+use Rattle.uno_model.specs.Kinds.{interface_of}
+use Rattle.message_model.specs.ReadingMessages.{new_or_last_at, opening_at, target_at, answer_at, release_at, arguments_at, call_at, asked_at, request_at, awaited, reply_at, opens_reply, message_at}
 use Rattle.plan_model.specs.Frames.{Frame, base, body, outgoing, Outgoing, Stack, frames_of, first_frame, outgoing_in}
 use Rattle.bridge_model.specs.Stacks.{wait_of, waits_of}
 use Rattle.bridge_laws.proofs.ThreadStackLaws.{AreApart}
@@ -77,7 +78,7 @@ unfolding request_at
 request_awaited waits reg heard first bytes =
     bind_awaited waits (opening_at first bytes) _
     (λ opening is. bind_awaited waits (target_at reg opening.0 heard opening.1) _
-    (λ target found. bind_awaited waits (judged NotInterface (face_of target.0.kind)) _ (λ face faced. asked_awaited waits reg opening.0 face target.0 target.1 target.2)))
+    (λ target found. bind_awaited waits (judged NotInterface (interface_of target.0.kind)) _ (λ face faced. asked_awaited waits reg opening.0 face target.0 target.1 target.2)))
 
 reads_awaited : (reg : List Entity) (waits : Waits) (heard : Heard) (bytes : List ℕ) → ReadsAwaited waits (message_at reg waits heard bytes)
 unfolding message_at

@@ -3,7 +3,7 @@ use Rattle.std.proofs.Common.{◌≡◌, ℕ, ◌+◌, Bool, true, false, if◌t
 use Rattle.literal_model.specs.Readings.{and_then}
 use Rattle.uno_model.specs.Entities.{Entity, Field}
 use Rattle.uno_model.specs.Functions.{Function}
-use Rattle.uno_model.specs.Kinds.{Kind}
+use Rattle.uno_model.specs.Kinds.{Kind, exception_of}
 use Rattle.uno_model.specs.Kinds as kd
 use Rattle.uno_model.specs.NamedTypes.{type_of_text}
 use Rattle.uno_model.specs.Values.{Ref}
@@ -17,7 +17,7 @@ use Rattle.plan_model.specs.Lines as line
 use Rattle.plan_model.specs.Plans.{Plan, Behaviour, Method}
 use Rattle.plan_model.specs.Statements.{Statement, RootStatement}
 use Rattle.plan_model.specs.Statements as s
-use Rattle.plan_model.specs.TypedStatements.{face_of_word, call_with, declared_field, result_field, call_of, query_of, making_of, set_of, stays, result_kind_of, back_of, is_compared, test_of, raised_name, statement_of, root_statement_of}
+use Rattle.plan_model.specs.TypedStatements.{face_of_word, call_with, declared_field, result_field, call_of, query_of, making_of, set_of, stays, result_kind_of, back_of, is_compared, test_of, statement_of, root_statement_of}
 use Rattle.plan_model.specs.Typing.{only_if, expression_of, arguments_of}
 use Rattle.plan_model.specs.declared.comparison.Comparison.{Comparison}
 use Rattle.bridge_laws.specs.Counting.{total}
@@ -139,7 +139,7 @@ line_counts f reg c (line.drop_variable name) = drop_counts f (stays (known_vari
 line_counts f reg c (line.when left comparison right back) =
     when_counts f (test_of reg c left comparison right) (back_of reg c back) (test_of_counts f reg c left comparison right (kind_of_word c left)) (back_of_counts f reg c back)
 line_counts f reg c (line.return back) = return_counts f (back_of reg c back) (back_of_counts f reg c back)
-line_counts f reg c (line.raise k t) = raise_counts f reg c t (and_then (type_of_text reg k) raised_name)
+line_counts f reg c (line.raise k t) = raise_counts f reg c t (and_then (type_of_text reg k) exception_of)
 line_counts f reg c line.dispose = refl
 line_counts f reg c l = refl
 

@@ -14,7 +14,7 @@ pub fn oid_of(alloc: Global, prefix: &Text, number: u32) -> Result<Text, NoMemor
     let mut oid = String::from_str(alloc, prefix.as_str())?;
     let mut buffer = Buffer::new();
     oid.push_str(buffer.format(number))?;
-    Ok(Text::from(oid))
+    Text::from_string(oid)
 }
 
 /// The number of the object that has an identity.

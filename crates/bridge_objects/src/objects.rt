@@ -65,7 +65,7 @@ impl Objects {
         prefix.push_str(";")?;
         Ok(Objects {
             alloc,
-            prefix: Text::from(prefix),
+            prefix: Text::from_string(prefix)?,
             first,
             store: ObjectStore::new(alloc),
             environment: Environment::new(alloc),

@@ -60,22 +60,22 @@ pub(crate) fn asked_by(
             wanted,
             name,
             to: _,
-        } => Ok(Some(asks_name(alloc, name, wanted)?)),
+        } => Ok(Some(asks_name(name, wanted)?)),
         RootStatement::AskInstance { wanted, to: _ } => {
-            Ok(Some(asks_name(alloc, &run.instance, wanted)?))
+            Ok(Some(asks_name(&run.instance, wanted)?))
         }
         RootStatement::Call(call) => asks_call(alloc, registry, run, call),
-        RootStatement::Query(query) => asks_query(alloc, run, query),
+        RootStatement::Query(query) => asks_query(run, query),
         _ => Err(NoMemory),
     }
 }
 
-fn asks_name(alloc: Global, name: &Text, wanted: &Name) -> Result<Asked, NoMemory>
+fn asks_name(name: &Text, wanted: &Name) -> Result<Asked, NoMemory>
     ensures { IfOk result (λ a. (root : ℕ) → entry_of root a ≡ asked root name.now wanted.now) }
 {
     Ok(Asked::Name {
-        name: name.copy(alloc)?,
-        wanted: wanted.copy(alloc)?,
+        name: name.copy()?,
+        wanted: wanted.copy()?,
     })
 }
 
@@ -114,8 +114,8 @@ fn calls(
         return Err(NoMemory);
     };
     Ok(Asked::Call {
-        oid: oid.copy(alloc)?,
-        face: face.copy(alloc)?,
+        oid: oid.copy()?,
+        face: face.copy()?,
         function,
         args: values(alloc, variables, call)?,
     })
@@ -130,15 +130,15 @@ fn values(alloc: Global, variables: &[Variable], call: &Call) -> Result<Vec<Valu
     }
 }
 
-fn asks_query(alloc: Global, run: &RootRun, query: &Query) -> Result<Option<Asked>, NoMemory>
+fn asks_query(run: &RootRun, query: &Query) -> Result<Option<Asked>, NoMemory>
     ensures { (s : Side) → IfOk result (λ a. queries_on s (run_of run.now) (query_of query.now) (object_of (value_of_word (root_scene (variables_of run.now.variables.items)) (word_of query.now.target))) ≡ asks s (run_of run.now) a) }
 {
     match root_target(&run.variables, &query.target) {
         Target::Null => Ok(None),
         Target::Local { oid, face } | Target::Remote { oid, face } => Ok(Some(Asked::Query {
-            oid: oid.copy(alloc)?,
-            face: face.copy(alloc)?,
-            wanted: query.wanted.copy(alloc)?,
+            oid: oid.copy()?,
+            face: face.copy()?,
+            wanted: query.wanted.copy()?,
         })),
     }
 }

@@ -64,8 +64,8 @@ fn begin_statement(end: &mut Endpoint, run: &mut RootRun) -> Result<(), NoMemory
     match statement {
         RootStatement::Make(making) => {
             let behaviour = making.behaviour;
-            let wanted = making.face.copy(alloc)?;
-            match making.to.copy(alloc) {
+            let wanted = making.face.copy()?;
+            match making.to.copy() {
                 Ok(to) => make(end, run, behaviour, wanted, to),
                 Err(NoMemory) => {
                     drop(wanted);

@@ -77,7 +77,7 @@ fn prepare(end: &Endpoint, run: &mut RootRun, wanted: &Name) -> Result<Ready, No
     let alloc = end.registry().allocator();
     run.variables.reserve(1)?;
     let oid = end.next_oid()?;
-    let face = wanted.copy(alloc)?;
+    let face = wanted.copy()?;
     let new = Value::Ref(Reference::Local { oid, face });
     let text = text_of(alloc, end.registry(), &new)?;
     let made = line_for(alloc, run, text.as_str())?;

@@ -74,7 +74,7 @@ fn prepare(end: &Endpoint, run: &mut RootRun) -> Result<(Text, Option<Name>), No
         return Err(NoMemory);
     };
     let alloc = end.registry().allocator();
-    let name = result_name(alloc, statement)?;
+    let name = result_name(statement)?;
     match outcome_line(alloc, end.registry(), run, statement, outcome) {
         Ok(line) => Ok((line, name)),
         Err(NoMemory) => {
@@ -120,23 +120,23 @@ fn outcome_line(
 }
 
 /// The name of the variable that the result becomes, where it has one.
-fn result_name(alloc: Global, statement: &RootStatement) -> Result<Option<Name>, NoMemory>
+fn result_name(statement: &RootStatement) -> Result<Option<Name>, NoMemory>
     ensures { IfOk result (λ name. name ≡ result_name (root_statement_of statement.now)) }
 {
     match statement {
-        RootStatement::Ask { to, .. } => Ok(Some(to.copy(alloc)?)),
-        RootStatement::AskInstance { to, .. } => Ok(Some(to.copy(alloc)?)),
-        RootStatement::Query(query) => Ok(Some(query.to.copy(alloc)?)),
-        RootStatement::Call(call) => name_of(alloc, &call.to),
+        RootStatement::Ask { to, .. } => Ok(Some(to.copy()?)),
+        RootStatement::AskInstance { to, .. } => Ok(Some(to.copy()?)),
+        RootStatement::Query(query) => Ok(Some(query.to.copy()?)),
+        RootStatement::Call(call) => name_of(&call.to),
         _ => Ok(None),
     }
 }
 
-fn name_of(alloc: Global, to: &Option<Field>) -> Result<Option<Name>, NoMemory>
+fn name_of(to: &Option<Field>) -> Result<Option<Name>, NoMemory>
     ensures { IfOk result (λ name. name ≡ option_map (λ f. f.name) (option_map field_of to.now)) }
 {
     match to {
-        Some(field) => Ok(Some(field.name.copy(alloc)?)),
+        Some(field) => Ok(Some(field.name.copy()?)),
         None => Ok(None),
     }
 }

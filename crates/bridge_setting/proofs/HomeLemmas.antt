@@ -24,15 +24,15 @@ below_rest n m below = omega (arith, below)
 none_there : (x : Value) (xs : List Value) → map plain_of (x ∷ xs) ≡ [] → ⊥
 none_there x xs same = cc
 
--- one more is as it is here: it is taken out, another stands in its place meanwhile, and it comes back
-pub one_more_home : (g : Setting) (n : ℕ) (xs : List Value) (olds : List Plain) (x meanwhile now : Value) → AreHome g n xs olds → n < length xs
-    → x ≡ get_or xs n x → plain_of now ≡ home_value g (plain_of x) → AreHome g (suc n) (set (set xs n meanwhile) n now) olds
-one_more_home g n [] olds x meanwhile now home below is same = absurd (not_below_none n below)
-one_more_home g zero (y ∷ xs) olds x meanwhile now home below is same =
+-- one more is as it is here
+pub one_more_home : (g : Setting) (n : ℕ) (xs : List Value) (olds : List Plain) (x now : Value) → AreHome g n xs olds → n < length xs
+    → x ≡ get_or xs n x → plain_of now ≡ home_value g (plain_of x) → AreHome g (suc n) (set xs n now) olds
+one_more_home g n [] olds x now home below is same = absurd (not_below_none n below)
+one_more_home g zero (y ∷ xs) olds x now home below is same =
     subst (λ os. AreHome g 1 (now ∷ xs) os) home (same ∙ ap (λ v. home_value g (plain_of v)) is, refl)
-one_more_home g (suc n) (y ∷ xs) [] x meanwhile now home below is same = home
-one_more_home g (suc n) (y ∷ xs) (old ∷ olds) x meanwhile now home below is same =
-    (home.0, one_more_home g n xs olds x meanwhile now home.1 (below_rest n (length xs) below) is same)
+one_more_home g (suc n) (y ∷ xs) [] x now home below is same = home
+one_more_home g (suc n) (y ∷ xs) (old ∷ olds) x now home below is same =
+    (home.0, one_more_home g n xs olds x now home.1 (below_rest n (length xs) below) is same)
 
 none_past : (n : ℕ) → suc n ≤ 0 → ⊥
 none_past n past = absurd (omega (arith, past))
@@ -63,14 +63,13 @@ other_place n k past = λ same. omega (arith, past, same)
 past_it : (n k : ℕ) → n + 1 ≤ k → n ≤ k
 past_it n k past = omega (arith, past)
 
-pub one_more : (g : Setting) (n end : ℕ) (xs olds : List Value) (x meanwhile now taken : Value) → SoFar g n xs olds → n < end → end ≡ length olds
-    → x ≡ get_or xs n x → taken ≡ x → plain_of now ≡ home_value g (plain_of taken) → SoFar g (n + 1) (set (set xs n meanwhile) n now) olds
-one_more g n end xs olds x meanwhile now taken so below all is took same =
+pub one_more : (g : Setting) (n end : ℕ) (xs olds : List Value) (x now : Value) → SoFar g n xs olds → n < end → end ≡ length olds
+    → x ≡ get_or xs n x → plain_of now ≡ home_value g (plain_of x) → SoFar g (n + 1) (set xs n now) olds
+one_more g n end xs olds x now so below all is same =
     let within : n < length xs = omega (arith, below, all, so.1) in (
-      subst (λ m. AreHome g m (set (set xs n meanwhile) n now) (map plain_of olds)) (sym (add-one n))
-          (one_more_home g n xs (map plain_of olds) x meanwhile now so.0 within is (same ∙ ap (λ v. home_value g (plain_of v)) took)),
-      length-set (set xs n meanwhile) n now ∙ (length-set xs n meanwhile ∙ so.1),
-      λ k d past. get_or-set_other (set xs n meanwhile) n k now d (other_place n k past) ∙ (get_or-set_other xs n k meanwhile d (other_place n k past) ∙ so.2 k d (past_it n k past)),
+      subst (λ m. AreHome g m (set xs n now) (map plain_of olds)) (sym (add-one n)) (one_more_home g n xs (map plain_of olds) x now so.0 within is same),
+      length-set xs n now ∙ so.1,
+      λ k d past. get_or-set_other xs n k now d (other_place n k past) ∙ so.2 k d (past_it n k past),
     )
 
 pub all_so_far : (g : Setting) (n end : ℕ) (xs olds : List Value) → SoFar g n xs olds → end ≤ n → end ≡ length olds → map plain_of xs ≡ each_home g (map plain_of olds)

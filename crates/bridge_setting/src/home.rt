@@ -20,56 +20,78 @@ pub fn home_answer(setting: &Setting, answer: Answer) -> Answer
 {
     match answer {
         Answer::Returned { value, outs } => {
-            let value = home_value(setting, value);
+            let mut value = value;
+            home_value(setting, &mut value);
             let outs = home_each(setting, outs);
             Answer::Returned { value, outs }
         }
-        Answer::Raised(AnyValue { kind, value }) => Answer::Raised(AnyValue {
-            kind,
-            value: home_value(setting, value),
-        }),
+        Answer::Raised(any) => {
+            let mut any = any;
+            home_value(setting, &mut any.value);
+            Answer::Raised(any)
+        }
     }
-}
-
-/// A value as it is here.
-#[cycle(home)]
-#[tactic(auto, unfolding(bridge_model::specs::References::home_value))]
-fn home_value(setting: &Setting, value: Value) -> Value
-    ensures { plain_of result ≡ home_value (setting_of setting.now) (plain_of value) }
-{
-    match value {
-        Value::Any(any) => Value::Any(home_any(setting, any)),
-        Value::Tuple(name, members) => Value::Tuple(name, home_each(setting, members)),
-        Value::List(kind, elements) => Value::List(kind, home_each(setting, elements)),
-        Value::Ref(reference) => Value::Ref(at_home(setting, reference)),
-        other => other,
-    }
-}
-
-/// What an any holds as it is here.
-#[cycle(home)]
-fn home_any(setting: &Setting, any: Box<AnyValue>) -> Box<AnyValue>
-    ensures kind { result.value.kind ≡ any.value.kind }
-    ensures value { plain_of result.value.value ≡ home_value (setting_of setting.now) (plain_of any.value.value) }
-{
-    let mut any = any;
-    let value = mem::replace(&mut any.value, Value::Void);
-    any.value = home_value(setting, value);
-    any
 }
 
 /// Each value as it is here.
-#[cycle(home)]
 pub fn home_each(setting: &Setting, values: Vec<Value>) -> Vec<Value>
     ensures each { map plain_of result.items ≡ each_home (setting_of setting.now) (map plain_of values.items) }
     ensures all { plains_of result.items ≡ home_values (setting_of setting.now) (plains_of values.items) }
 {
     let mut values = values;
-    for place in 0..values.len() {
-        let value = mem::replace(&mut values[place], Value::Void);
-        values[place] = home_value(setting, value);
-    }
+    home_all(setting, &mut values);
     values
+}
+
+/// A value becomes what it is here.
+#[cycle(home)]
+#[tactic(auto, unfolding(bridge_model::specs::References::home_value))]
+fn home_value(setting: &Setting, value: &mut Value)
+    ensures { plain_of value.new ≡ home_value (setting_of setting.now) (plain_of value.old) }
+{
+    match value {
+        Value::Any(any) => home_any(setting, any),
+        Value::Tuple(_, members) => home_all(setting, members),
+        Value::List(_, elements) => home_all(setting, elements),
+        Value::Ref(reference) => {
+            let held = mem::replace(reference, Reference::Null);
+            *reference = at_home(setting, held);
+        }
+        Value::Void
+        | Value::Char(_)
+        | Value::Boolean(_)
+        | Value::Byte(_)
+        | Value::Short(_)
+        | Value::UnsignedShort(_)
+        | Value::Long(_)
+        | Value::UnsignedLong(_)
+        | Value::Hyper(_)
+        | Value::UnsignedHyper(_)
+        | Value::Str(_)
+        | Value::Kind(_)
+        | Value::Enum(_, _)
+        | Value::Bytes(_) => {}
+    }
+}
+
+/// What an any holds becomes what it is here.
+#[cycle(home)]
+fn home_any(setting: &Setting, any: &mut Box<AnyValue>)
+    ensures kind { any.new.value.kind ≡ any.old.value.kind }
+    ensures value { plain_of any.new.value.value ≡ home_value (setting_of setting.now) (plain_of any.old.value.value) }
+{
+    home_value(setting, &mut any.value);
+}
+
+/// Each value becomes what it is here.
+#[cycle(home)]
+fn home_all(setting: &Setting, values: &mut Vec<Value>)
+    ensures each { map plain_of values.new.items ≡ each_home (setting_of setting.now) (map plain_of values.old.items) }
+    ensures all { plains_of values.new.items ≡ home_values (setting_of setting.now) (plains_of values.old.items) }
+{
+    for place in 0..values.len() {
+        home_value(setting, &mut values[place]);
+    }
 }
 
 /// A reference is told by its identity.

@@ -76,7 +76,7 @@ impl Names {
         ensures { IfOk result (λ oid. oid ≡ name_of self.now.tag number) }
     {
         let name = named(alloc, &self.prefix, number as u64)?;
-        Ok(Text::from(name))
+        Text::from_string(name)
     }
 
     /// Whether a name is the identity of the object of a number.
@@ -109,7 +109,7 @@ fn prefix_of(alloc: Global, tag: &Tag) -> Result<Text, NoMemory>
 {
     let mut prefix = String::from_str(alloc, tag.as_str())?;
     prefix.push_str(";")?;
-    Ok(Text::from(prefix))
+    Text::from_string(prefix)
 }
 
 /// Whether a number is printed so.

@@ -5,11 +5,6 @@ use Rattle.std.proofs.MapsCrossing as maps
 use Rattle.uno_entities.proofs.name.Name.TheSendSync as names
 use Rattle.uno_entities.proofs.text.Text.TheSendSync as texts
 use Rattle.uno_entities.proofs.tid.Tid.TheSendSync as tids
-use Rattle.uno_entities.proofs.type_name.TypeName.TheLaws.TheKnot as kinds
-use Rattle.uno_entities.specs.contracts.type_name.TypeName as TypeName
-use Rattle.uno_values.proofs.value.Value.TheLaws.TheKnot as values
-use Rattle.uno_values.specs.contracts.reference.Reference as Reference
-use Rattle.uno_values.specs.contracts.value.AnyValue as AnyValue
 use Rattle.uno_values.specs.contracts.value.Value as Value
 use Rattle.plan_types.specs.contracts.frame.Body as Body
 use Rattle.plan_types.specs.contracts.frame.Frame as Frame
@@ -23,8 +18,6 @@ use Rattle.urp_cache.proofs.read_caches.ReadCaches.TheSendSync as read_caches
 use Rattle.urp_cache.proofs.send_caches.SendCaches.TheSendSync as send_caches
 use Rattle.urp_message.proofs.error.ReadError.TheSendSync as errors
 use Rattle.urp_message.specs.contracts.listener.Listener as Listener
-use Rattle.urp_message.specs.contracts.message.Answer as Answer
-use Rattle.urp_message.specs.contracts.message.Message as Message
 use Rattle.urp_message.specs.contracts.remembered.Heard as Heard
 use Rattle.urp_message.specs.contracts.remembered.Last as Last
 use Rattle.urp_message.specs.contracts.remembered.Spoken as Spoken
@@ -37,31 +30,14 @@ use Rattle.proxy_table.proofs.proxy_table.ProxyTable.TheSendSync as proxies
 use Rattle.stub_table.proofs.stub_table.StubTable.TheSendSync as stubs
 use Rattle.bridge_model.proofs.cause.Cause.TheSendSync as causes
 use Rattle.bridge_objects.specs.contracts.objects.Objects as Objects
+use Rattle.bridge_streams.proofs.Crossing.{kind_send, value_send, value_row_send, any_send, unsaid_send}
 use Rattle.bridge_streams.proofs.ready.Ready.TheSendSync as ready
 use Rattle.bridge_streams.specs.contracts.incoming.Incoming as Incoming
 use Rattle.bridge_streams.specs.contracts.outgoing.Outgoing as Outgoing
-use Rattle.bridge_streams.specs.contracts.unsaid.Unsaid as Unsaid
 use Rattle.bridge_tables.specs.contracts.roots.Outcome as Outcome
 use Rattle.bridge_tables.specs.contracts.roots.Root as Root
 use Rattle.bridge_tables.specs.contracts.tables.Tables as Tables
 use Rattle.bridge_state.specs.contracts.state.State as State
-
--- ---- values
-
-pub kind_send : IsSend TypeName.the_field.row
-kind_send = let a = names.the_send in search (kinds.crosses, crosses, sendable) depth 20
-
-reference_send : IsSend Reference.the_field.row
-reference_send = let a = names.the_send in let b = texts.the_send in search sendable depth 20
-
-pub value_send : IsSend Value.the_field.row
-value_send = let a = kind_send in let b = reference_send in let c = names.the_send in let d = texts.the_send in search (values.crosses, maps.crosses, crosses, sendable) depth 20
-
-pub value_row_send : IsSend Value.the_row
-value_row_send = let a = kind_send in let b = reference_send in let c = names.the_send in let d = texts.the_send in search (values.crosses, maps.crosses, crosses, sendable) depth 20
-
-any_send : IsSend AnyValue.the_field.row
-any_send = let a = kind_send in let b = value_send in search sendable depth 20
 
 -- ---- stacks
 
@@ -87,15 +63,6 @@ stacks_send : IsSend Stacks.the_row
 stacks_send = let a = by_birth_send in search (maps.crosses, crosses, sendable) depth 20
 
 -- ---- messages
-
-answer_send : IsSend Answer.the_field.row
-answer_send = let a = value_send in let b = value_row_send in let c = any_send in search (crosses, sendable) depth 20
-
-message_send : IsSend Message.the_row
-message_send = let a = names.the_send in let b = texts.the_send in let c = tids.the_send in let d = value_row_send in let e = answer_send in search (crosses, sendable) depth 20
-
-unsaid_send : IsSend Unsaid.the_row
-unsaid_send = let a = tids.the_send in let b = message_send in search (crosses, sendable) depth 20
 
 last_send : IsSend Last.the_field.row
 last_send = let a = kind_send in let b = texts.the_send in let c = tids.the_send in search (crosses, sendable) depth 20

@@ -67,11 +67,11 @@ impl State {
             drop(args);
             return self.answer_root(root, cause);
         }
-        let Ok(object) = oid.copy(self.alloc) else {
+        let Ok(object) = oid.copy() else {
             drop(args);
             return Err(NoMemory);
         };
-        let Ok(under) = face.copy(self.alloc) else {
+        let Ok(under) = face.copy() else {
             drop(object);
             drop(args);
             return Err(NoMemory);
@@ -110,7 +110,7 @@ impl State {
         let Some(tid) = setting.root_tid(root) else {
             return Err(NoMemory);
         };
-        let args = query_args(self.alloc, wanted.copy(self.alloc)?)?;
+        let args = query_args(self.alloc, wanted.copy()?)?;
         if let Some(cause) = why_too_much(tid, oid.as_str(), face.as_str(), &args) {
             drop(args);
             return self.answer_root(root, cause);
@@ -119,7 +119,7 @@ impl State {
             drop(args);
             return self.query_own(setting, root, oid, wanted);
         }
-        let Ok(under) = face.copy(self.alloc) else {
+        let Ok(under) = face.copy() else {
             drop(args);
             return Err(NoMemory);
         };
@@ -146,7 +146,7 @@ impl State {
         let Some(tid) = setting.root_tid(root) else {
             return Err(NoMemory);
         };
-        let args = query_args(self.alloc, wanted.copy(self.alloc)?)?;
+        let args = query_args(self.alloc, wanted.copy()?)?;
         if let Some(cause) = why_too_much(tid, name.as_str(), X_INTERFACE, &args) {
             drop(args);
             return self.answer_root(root, cause);
@@ -189,7 +189,7 @@ impl State {
         ensures lost { OnErr result (remains self.new.side ≡ remains self.old.side) }
         ensures names { self.new ≡ with_side self.new.side self.old }
     {
-        let Ok(object) = oid.copy(self.alloc) else {
+        let Ok(object) = oid.copy() else {
             drop(face);
             drop(args);
             return Err(NoMemory);
@@ -200,7 +200,7 @@ impl State {
             face,
             function: 0,
         };
-        let Ok(wanted) = wanted.copy(self.alloc) else {
+        let Ok(wanted) = wanted.copy() else {
             drop(call);
             drop(args);
             return Err(NoMemory);
@@ -223,7 +223,7 @@ impl State {
         ensures lost { OnErr result (remains self.new.side ≡ remains self.old.side) }
         ensures names { self.new ≡ with_side self.new.side self.old }
     {
-        let asked = Root::Queries(wanted.copy(self.alloc)?);
+        let asked = Root::Queries(wanted.copy()?);
         match self.own_answer(setting, root, oid, wanted) {
             Ok(answer) => {
                 drop(self.tables.set_root(root, asked));
@@ -281,7 +281,7 @@ impl State {
         requires sound { IsSound setting.now.registry }
         ensures { IfOk result (λ x. plain_of x ≡ object_answer (setting_of setting.now) oid.now (kd.interface wanted.now) self.now.side.tables.objects) }
     {
-        let kind = TypeName::Interface(wanted.copy(self.alloc)?);
+        let kind = TypeName::Interface(wanted.copy()?);
         let answer = self.tables.object_answer(setting, oid, &kind);
         drop(kind);
         answer
@@ -394,13 +394,6 @@ impl State {
             drop(args);
             return Err(error);
         }
-        call_peer(
-            self.alloc,
-            setting,
-            call,
-            args,
-            &mut self.stacks,
-            &mut self.tables,
-        )
+        call_peer(setting, call, args, &mut self.stacks, &mut self.tables)
     }
 }

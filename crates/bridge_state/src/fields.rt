@@ -40,7 +40,7 @@ fn push_field(
 ) -> Result<(), NoMemory>
     ensures { OnOk result (variables_of variables.new.items ≡ variables_of variables.old.items ++ record { name = (field_of field.now).name; value = plain_of value.now } ∷ []) }
 {
-    let name = field.name.copy(alloc)?;
+    let name = field.name.copy()?;
     let value = value.copy(alloc)?;
     variables.push(Variable { name, value })?;
     Ok(())

@@ -40,7 +40,7 @@ impl State {
         let depth = self.depth(tid)?;
         let behaviour = self.tables.behaviour_of(body.object);
         let own = setting.own_oid(self.alloc, body.object)?;
-        let tid = tid.copy(self.alloc)?;
+        let tid = tid.copy()?;
         let fields = self.fields(setting, body.object, behaviour)?;
         let Ok(method) = body.copy(self.alloc) else {
             drop(fields);

@@ -227,7 +227,7 @@ fn answer_at_once(
         face,
         function: _,
     } = call;
-    let tid = tid.copy(alloc)?;
+    let tid = tid.copy()?;
     let value = answer_asked(setting, &oid, args, tables)?;
     let message = Message::Reply {
         tid,

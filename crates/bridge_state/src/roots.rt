@@ -65,8 +65,8 @@ impl State {
         ensures kept { OnErr result (self.new ≡ self.old) }
     {
         let oid = setting.own_oid(self.alloc, number)?;
-        let given = oid.copy(self.alloc)?;
-        let face = wanted.copy(self.alloc)?;
+        let given = oid.copy()?;
+        let face = wanted.copy()?;
         let reference = Reference::Local { oid, face };
         let holder = Holder::Root(root);
         if let Err(error) = self.tables.gain(setting, holder, &reference) {

@@ -1,3 +1,4 @@
+pub mod Crossing
 mod CuttingLemmas
 mod DrainingLemmas
 mod HeaderLemmas

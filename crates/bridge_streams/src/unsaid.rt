@@ -60,7 +60,7 @@ impl Unsaid {
         ensures kept { OnOk result (self.new ≡ kept_more self.old) }
         ensures same { OnErr result (self.new ≡ self.old) }
     {
-        let tid = self.tid.copy(self.alloc)?;
+        let tid = self.tid.copy()?;
         make_room(&mut self.said, self.kept.len())?;
         self.kept.push(tid)?;
         Ok(())

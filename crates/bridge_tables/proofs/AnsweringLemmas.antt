@@ -5,7 +5,7 @@ use Rattle.std.specs.Prelude.{IfOk, Result, Ok, Err, decimal}
 use Rattle.std.specs.List.{find}
 use Rattle.std.specs.Str.{bytes_eq}
 use Rattle.uno_model.specs.Entities.{Entity}
-use Rattle.uno_model.specs.Kinds.{Kind}
+use Rattle.uno_model.specs.Kinds.{Kind, interface_of}
 use Rattle.uno_model.specs.Kinds as kd
 use Rattle.uno_model.specs.Values.{Plain}
 use Rattle.plan_model.specs.Holdings.{query_answer, no_object}
@@ -18,7 +18,7 @@ use Rattle.bridge_objects.specs.Kept.{Kept, named, behaviour_of}
 use Rattle.bridge_objects.specs.Kept as kept
 use Rattle.uno_values.specs.Values.{plain_of}
 use Rattle.uno_values.specs.declared.value.Value.{Value}
-use Rattle.bridge_tables.specs.Answering.{interface_in, any_of_own}
+use Rattle.bridge_tables.specs.Answering.{any_of_own}
 use Rattle.bridge_tables.specs.EndTables.{EndTables}
 
 -- ---- which object an identity is
@@ -112,7 +112,7 @@ abbrev answer_of_face : List Entity → List (List ℕ) → List ℕ → Option 
 answer_of_face reg faces oid None = no_object
 answer_of_face reg faces oid (Some wanted) = if supports reg faces wanted then any_of_own oid wanted else no_object
 
-answers_face : (reg : List Entity) (faces : List (List ℕ)) (oid : List ℕ) (k : Kind) → query_answer reg faces oid k ≡ answer_of_face reg faces oid (interface_in k)
+answers_face : (reg : List Entity) (faces : List (List ℕ)) (oid : List ℕ) (k : Kind) → query_answer reg faces oid k ≡ answer_of_face reg faces oid (interface_of k)
 unfolding query_answer
 answers_face reg faces oid kd.void = refl
 answers_face reg faces oid kd.char = refl
@@ -136,18 +136,18 @@ answers_face reg faces oid (kd.sequence k) = refl
 abbrev answer_of : Setting → List ℕ → List Object → Option (List ℕ) → Plain
 answer_of g oid os face = answer_of_face g.registry (faces_at g (object_named g oid os)) oid face
 
-answers : (g : Setting) (oid : List ℕ) (k : Kind) (os : List Object) → object_answer g oid k os ≡ answer_of g oid os (interface_in k)
+answers : (g : Setting) (oid : List ℕ) (k : Kind) (os : List Object) → object_answer g oid k os ≡ answer_of g oid os (interface_of k)
 unfolding object_answer
 answers g oid k os = answers_face g.registry (faces_at g (object_named g oid os)) oid k
 
-pub answer_no_face : (g : Setting) (oid : List ℕ) (k : Kind) (os : List Object) → interface_in k ≡ None → object_answer g oid k os ≡ no_object
+pub answer_no_face : (g : Setting) (oid : List ℕ) (k : Kind) (os : List Object) → interface_of k ≡ None → object_answer g oid k os ≡ no_object
 answer_no_face g oid k os is = answers g oid k os ∙ ap (answer_of g oid os) is
 
-pub answer_unsupported : (g : Setting) (oid face : List ℕ) (k : Kind) (os : List Object) → interface_in k ≡ Some face → object_supports g oid face os ≡ false → object_answer g oid k os ≡ no_object
+pub answer_unsupported : (g : Setting) (oid face : List ℕ) (k : Kind) (os : List Object) → interface_of k ≡ Some face → object_supports g oid face os ≡ false → object_answer g oid k os ≡ no_object
 unfolding object_supports
 answer_unsupported g oid face k os is misses = answers g oid k os ∙ ap (answer_of g oid os) is ∙ ap (λ b. if b then any_of_own oid face else no_object) misses
 
-pub answer_supported : (g : Setting) (oid face : List ℕ) (k : Kind) (os : List Object) → interface_in k ≡ Some face → object_supports g oid face os ≡ true → object_answer g oid k os ≡ any_of_own oid face
+pub answer_supported : (g : Setting) (oid face : List ℕ) (k : Kind) (os : List Object) → interface_of k ≡ Some face → object_supports g oid face os ≡ true → object_answer g oid k os ≡ any_of_own oid face
 unfolding object_supports
 answer_supported g oid face k os is does = answers g oid k os ∙ ap (answer_of g oid os) is ∙ ap (λ b. if b then any_of_own oid face else no_object) does
 

@@ -5,11 +5,6 @@ use Rattle.uno_model.specs.Kinds as kd
 use Rattle.uno_model.specs.Values.{own, Plain}
 use Rattle.uno_model.specs.Values as v
 
--- the name of the interface that a type is
-abbrev pub interface_in : Kind → Option (List ℕ)
-interface_in (kd.interface name) = Some name
-interface_in k = None
-
 -- an own object under an interface, in an any of that type
 abbrev pub any_of_own : (oid face : List ℕ) → Plain
 any_of_own oid face = v.any (kd.interface face) (v.ref (own oid face))

@@ -16,7 +16,7 @@ ghost use Rattle.uno_entities.specs.TypeNames.{kind_of};
 ghost use Rattle.uno_model.specs.Sound.{IsSound};
 ghost use Rattle.uno_model.specs.Values.{any};
 ghost use Rattle.uno_values.specs.Values.{plain_of};
-ghost use Rattle.bridge_tables.specs.Answering.{interface_in, any_of_own};
+ghost use Rattle.bridge_tables.specs.Answering.{any_of_own};
 ghost use Rattle.bridge_tables.specs.EndTables.{IsOf, on_tables};
 
 use crate::Tables;
@@ -62,7 +62,7 @@ impl Tables {
         requires sound { IsSound setting.now.registry }
         ensures { IfOk result (λ answer. plain_of answer ≡ object_answer (setting_of setting.now) oid.now (kind_of wanted.now) self.now.tables.objects) }
     {
-        let Some(face) = interface_in(wanted) else {
+        let Some(face) = wanted.interface() else {
             return void_any(self.alloc);
         };
         if !self.object_supports(setting, oid, face) {
@@ -137,42 +137,16 @@ impl Tables {
     }
 }
 
-/// The name of the interface that a type is.
-fn interface_in(kind: &TypeName) -> Option<&Name>
-    ensures { option_map (λ name. name.now) result ≡ interface_in (kind_of kind.now) }
-{
-    match kind {
-        TypeName::Interface(name) => Some(name),
-        TypeName::Void
-        | TypeName::Char
-        | TypeName::Boolean
-        | TypeName::Byte
-        | TypeName::Short
-        | TypeName::UnsignedShort
-        | TypeName::Long
-        | TypeName::UnsignedLong
-        | TypeName::Hyper
-        | TypeName::UnsignedHyper
-        | TypeName::Str
-        | TypeName::Kind
-        | TypeName::Any
-        | TypeName::Enum(_)
-        | TypeName::Struct(_)
-        | TypeName::Exception(_)
-        | TypeName::Sequence(_) => None,
-    }
-}
-
 /// An own object under an interface, in an any of that type.
 fn any_of_local(alloc: Global, oid: &Text, face: &Name) -> Result<Value, NoMemory>
     ensures { IfOk result (λ answer. plain_of answer ≡ any_of_own oid.now face.now) }
 {
-    let oid = oid.copy(alloc)?;
-    let Ok(held) = face.copy(alloc) else {
+    let oid = oid.copy()?;
+    let Ok(held) = face.copy() else {
         drop(oid);
         return Err(NoMemory);
     };
-    let Ok(face) = face.copy(alloc) else {
+    let Ok(face) = face.copy() else {
         drop(oid);
         drop(held);
         return Err(NoMemory);

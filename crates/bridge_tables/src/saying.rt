@@ -49,12 +49,12 @@ impl Tables {
         ensures said { OnOk result (self.new ≡ on_tables (releases (setting_of setting.now) oid.now face.now) self.old) }
         ensures kept { OnErr result (self.new ≡ self.old) }
     {
-        let tid = setting.release_tid().copy(self.alloc)?;
-        let Ok(oid) = oid.copy(self.alloc) else {
+        let tid = setting.release_tid().copy()?;
+        let Ok(oid) = oid.copy() else {
             drop(tid);
             return Err(NoMemory);
         };
-        let Ok(face) = face.copy(self.alloc) else {
+        let Ok(face) = face.copy() else {
             drop(tid);
             drop(oid);
             return Err(NoMemory);

@@ -56,7 +56,7 @@ impl Tables {
     pub fn new(alloc: Global, setting: &Setting) -> Result<Tables, NoMemory>
         ensures { IfOk result (λ tables. tables ≡ opening_tables (setting_of setting.now)) }
     {
-        let tid = setting.release_tid().copy(alloc)?;
+        let tid = setting.release_tid().copy()?;
         let Ok(roots) = idle_roots(alloc, setting.plan.threads.len()) else {
             drop(tid);
             return Err(NoMemory);

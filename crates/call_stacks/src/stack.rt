@@ -27,7 +27,7 @@ pub fn stack_with(alloc: Global, tid: &Tid, frame: Frame) -> Result<Stack, NoMem
 {
     let mut frames = VecDeque::with_capacity(alloc, 1)?;
     frames.push_front(frame)?;
-    let tid = tid.copy(alloc)?;
+    let tid = tid.copy()?;
     Ok(Stack { tid, frames })
 }
 

@@ -67,7 +67,7 @@ impl Part {
         if rows::times(&self.pairs, holder, oid, face) == 0 {
             return Err(NotHeld);
         }
-        Ok(rows::let_go(self.alloc, &mut self.pairs, holder, oid, face))
+        Ok(rows::let_go(&mut self.pairs, holder, oid, face))
     }
 
     /// How many occurrences a pair has.

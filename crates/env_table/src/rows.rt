@@ -59,13 +59,7 @@ pub fn hold(
 }
 
 /// Counts an occurrence less, and tells whether it was the last of the pair.
-pub fn let_go(
-    alloc: Global,
-    pairs: &mut PairMap<Holders>,
-    holder: Holder,
-    oid: &Text,
-    face: &Name,
-) -> bool
+pub fn let_go(pairs: &mut PairMap<Holders>, holder: Holder, oid: &Text, face: &Name) -> bool
     requires { 0 < how_often holder_cmp holder (holders_at (pair oid.now face.now) pairs.old) }
     ensures last { result ≡ nat_eq (length (holders_at (pair oid.now face.now) pairs.old)) 1 }
     ensures gone { pairs.new ≡ with_holders (pair oid.now face.now) (one_less holder_cmp holder (holders_at (pair oid.now face.now) pairs.old)) pairs.old }

@@ -3,15 +3,14 @@ use Rattle.std.proofs.Common.{◌≡◌, ℕ, false, List, refl, sym, ap}
 use Rattle.std.specs.Prelude.{None, Some}
 use Rattle.plan_model.specs.Holdings.{is_taken}
 use Rattle.uno_model.specs.Entities.{Entity}
-use Rattle.uno_model.specs.Kinds.{Kind}
+use Rattle.uno_model.specs.Kinds.{Kind, interface_of}
 use Rattle.uno_model.specs.Kinds as kd
 use Rattle.uno_model.specs.Reaches.{is_base_of}
 use Rattle.uno_model.specs.Values.{Ref, Plain}
 use Rattle.uno_model.specs.Values as v
-use Rattle.frame_variables.specs.Taking.{interface_in}
 
 -- no interface
-pub not_taken : (reg : List Entity) (wanted : List ℕ) (k : Kind) (x : Plain) → None ≡ interface_in k → false ≡ is_taken reg wanted (v.any k x)
+pub not_taken : (reg : List Entity) (wanted : List ℕ) (k : Kind) (x : Plain) → None ≡ interface_of k → false ≡ is_taken reg wanted (v.any k x)
 not_taken reg wanted kd.void x is = refl
 not_taken reg wanted kd.char x is = refl
 not_taken reg wanted kd.boolean x is = refl
@@ -32,7 +31,7 @@ not_taken reg wanted (kd.interface name) x is = let bad : ⊥ = cc in absurd bad
 not_taken reg wanted (kd.sequence k) x is = refl
 
 -- an interface
-pub is_interface : (k : Kind) (name : List ℕ) → Some name ≡ interface_in k → k ≡ kd.interface name
+pub is_interface : (k : Kind) (name : List ℕ) → Some name ≡ interface_of k → k ≡ kd.interface name
 is_interface kd.void name is = let bad : ⊥ = cc in absurd bad
 is_interface kd.char name is = let bad : ⊥ = cc in absurd bad
 is_interface kd.boolean name is = let bad : ⊥ = cc in absurd bad
@@ -52,5 +51,5 @@ is_interface (kd.exception n) name is = let bad : ⊥ = cc in absurd bad
 is_interface (kd.interface n) name is = let same : name ≡ n = cc in ap kd.interface (sym same)
 is_interface (kd.sequence k) name is = let bad : ⊥ = cc in absurd bad
 
-pub taken_where : (reg : List Entity) (wanted name : List ℕ) (k : Kind) (r : Ref) → Some name ≡ interface_in k → is_base_of reg wanted name ≡ is_taken reg wanted (v.any k (v.ref r))
+pub taken_where : (reg : List Entity) (wanted name : List ℕ) (k : Kind) (r : Ref) → Some name ≡ interface_of k → is_base_of reg wanted name ≡ is_taken reg wanted (v.any k (v.ref r))
 taken_where reg wanted name k r is = rw (is_interface k name is) refl

@@ -8,7 +8,7 @@ use Rattle.uno_model.specs.Values as v
 use Rattle.plan_model.specs.Holdings.{Taken, takes}
 use Rattle.plan_types.specs.Frames.{variables_of}
 use Rattle.plan_types.specs.declared.frame.Variable.{Variable}
-use Rattle.uno_values.specs.Values.{plain_of}
+use Rattle.uno_values.specs.Values.{plain_of, reference_in}
 use Rattle.uno_values.specs.declared.value.Value.{Value}
 
 -- the references in values, in order
@@ -36,10 +36,5 @@ one_or_none (Some x) = x ∷ []
 
 -- the reference in an any
 abbrev pub reference_inside : Plain → Ref
-reference_inside (v.any k (v.ref r)) = r
+reference_inside (v.any k x) = reference_in x
 reference_inside x = null
-
--- the name of the interface that a type is
-abbrev pub interface_in : Kind → Option (List ℕ)
-interface_in (kd.interface name) = Some name
-interface_in k = None

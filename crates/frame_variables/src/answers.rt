@@ -30,14 +30,13 @@ pub fn take_answer(
     ensures { IfOk result (λ gone. taken_of variables.new.items gone.items ≡ takes_answer (call_of call.now) (plain_of value) (map plain_of outs.items) (variables_of variables.old.items)) }
 {
     let mut gone = Vec::new(alloc);
-    take_result(alloc, &call.to, value, variables, &mut gone)?;
+    take_result(&call.to, value, variables, &mut gone)?;
     take_outs(&call.arguments, outs, variables, &mut gone)?;
     Ok(gone)
 }
 
 /// A result that is not named is let go.
 fn take_result(
-    alloc: Global,
     to: &Option<Field>,
     value: Value,
     variables: &mut Vec<Variable>,
@@ -47,7 +46,7 @@ fn take_result(
     ensures { OnOk result (taken_of variables.new.items gone.new.items ≡ takes_result (option_map field_of to.now) (plain_of value) (variables_of variables.old.items)) }
 {
     match to {
-        Some(field) => take_named(alloc, &field.name, value, variables),
+        Some(field) => take_named(&field.name, value, variables),
         None => {
             gone.push(value)?;
             Ok(())
@@ -55,15 +54,10 @@ fn take_result(
     }
 }
 
-fn take_named(
-    alloc: Global,
-    name: &Name,
-    value: Value,
-    variables: &mut Vec<Variable>,
-) -> Result<(), NoMemory>
+fn take_named(name: &Name, value: Value, variables: &mut Vec<Variable>) -> Result<(), NoMemory>
     ensures { OnOk result (variables_of variables.new.items ≡ with_variable name.now (plain_of value) (variables_of variables.old.items)) }
 {
-    match name.copy(alloc) {
+    match name.copy() {
         Ok(name) => add(variables, name, value),
         Err(error) => {
             drop(value);

@@ -58,7 +58,7 @@ fn push_first(
     let Some(param) = param else {
         return Ok(());
     };
-    let name = param.name.copy(alloc)?;
+    let name = param.name.copy()?;
     let value = first_value(alloc, registry, param, given)?;
     variables.push(Variable { name, value })?;
     Ok(())

@@ -7,13 +7,13 @@ ghost use Rattle.uno_model.specs.Sound.{IsSound};
 ghost use Rattle.uno_model.specs.Values.{refs};
 ghost use Rattle.uno_values.specs.References.{ref_of};
 ghost use Rattle.uno_values.specs.Values.{plain_of};
-ghost use Rattle.frame_variables.specs.Taking.{interface_in, reference_inside, refs_of_rest, taken_with};
+ghost use Rattle.frame_variables.specs.Taking.{reference_inside, refs_of_rest, taken_with};
 
 use crate::variables::add;
 use bridge_setting::is_base_of;
 use plan_types::Variable;
 use uno_base::NoMemory;
-use uno_types::{Name, Registry, TypeName};
+use uno_types::{Name, Registry};
 use uno_values::{AnyValue, Reference, Value};
 
 /// The reference that a query found, and what it was answered where that is not taken.
@@ -49,7 +49,7 @@ fn is_taken(registry: &Registry, wanted: &Name, answer: &Value) -> bool
     let Value::Any(any) = answer else {
         return false;
     };
-    let Some(face) = interface_in(&any.kind) else {
+    let Some(face) = any.kind.interface() else {
         return false;
     };
     let Value::Ref(_) = &any.value else {
@@ -58,44 +58,18 @@ fn is_taken(registry: &Registry, wanted: &Name, answer: &Value) -> bool
     is_base_of(registry, wanted.as_str(), face.as_str())
 }
 
-/// The name of the interface that a type is.
-fn interface_in(kind: &TypeName) -> Option<&Name>
-    ensures { option_map (λ name. name.now) result ≡ interface_in (kind_of kind.now) }
-{
-    match kind {
-        TypeName::Interface(name) => Some(name),
-        TypeName::Void
-        | TypeName::Char
-        | TypeName::Boolean
-        | TypeName::Byte
-        | TypeName::Short
-        | TypeName::UnsignedShort
-        | TypeName::Long
-        | TypeName::UnsignedLong
-        | TypeName::Hyper
-        | TypeName::UnsignedHyper
-        | TypeName::Str
-        | TypeName::Kind
-        | TypeName::Any
-        | TypeName::Enum(_)
-        | TypeName::Struct(_)
-        | TypeName::Exception(_)
-        | TypeName::Sequence(_) => None,
-    }
-}
-
 /// The reference in an any.
 fn reference_in(answer: Value) -> Reference
     ensures { ref_of result ≡ reference_inside (plain_of answer) }
 {
-    let Value::Any(any) = answer else {
-        return Reference::Null;
-    };
-    let AnyValue { kind: _, value } = Box::into_inner(any);
-    let Value::Ref(reference) = value else {
-        return Reference::Null;
-    };
-    reference
+    match answer.into_any() {
+        Some(any) => {
+            let AnyValue { kind, value } = Box::into_inner(any);
+            drop(kind);
+            value.into_reference()
+        }
+        None => Reference::Null,
+    }
 }
 
 /// The reference that a query found becomes a variable; the value is given whose references are let go for that.

@@ -9,7 +9,6 @@ ghost use Rattle.registry_text_model.specs.Lines.{way_word};
 ghost use Rattle.idl_print.specs.Tokens.{followed, tokens_at};
 
 use crate::token::{push_absolute, push_behind_colon, push_kind, push_token, push_tokens};
-use std::alloc::Global;
 use uno_base::NoMemory;
 use uno_types::{Attribute, Base, Member, Method, Name, Param, Way};
 

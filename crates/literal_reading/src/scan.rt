@@ -66,8 +66,8 @@ pub(crate) fn value_at<'a>(alloc: Global, registry: &Registry, bytes: &'a [u8]) 
 fn cast_of<'a>(left: usize, kind: TypeName, rest: &'a [u8]) -> Scan<'a, Token>
     ensures { Scans (λ x. (token_of x.0, x.1.now)) result (cast_of left (kind_of kind, rest.now)) }
 {
-    match kind {
-        TypeName::Any => Err(Stop::Bad(left)),
-        _ => Ok((Token::Cast(kind), rest)),
+    if matches!(&kind, TypeName::Any) {
+        return Err(Stop::Bad(left));
     }
+    Ok((Token::Cast(kind), rest))
 }

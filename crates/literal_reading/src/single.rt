@@ -30,9 +30,9 @@ pub fn token_value(
     match kind {
         TypeName::Void => Ok(void_in(token)),
         TypeName::Boolean => Ok(boolean_in(token)),
-        TypeName::Str => string_in(alloc, token),
+        TypeName::Str => string_in(token),
         TypeName::Kind => kind_in(alloc, token),
-        TypeName::Enum(name) => enum_in(alloc, registry, name, token),
+        TypeName::Enum(name) => enum_in(registry, name, token),
         TypeName::Interface(_) => Ok(null_in(token)),
         TypeName::Char
         | TypeName::Byte
@@ -112,11 +112,11 @@ fn number_as(kind: &TypeName, token: &Token) -> Option<Value>
     }
 }
 
-fn string_in(alloc: Global, token: &Token) -> Result<Option<Value>, NoMemory>
+fn string_in(token: &Token) -> Result<Option<Value>, NoMemory>
     ensures { IfOk result (λ found. option_map plain_of found ≡ some_as plain.str (string_in (token_of token.now))) }
 {
     match token {
-        Token::String(text) => Ok(Some(Value::Str(text.copy(alloc)?))),
+        Token::String(text) => Ok(Some(Value::Str(text.copy()?))),
         _ => Ok(None),
     }
 }
@@ -130,16 +130,11 @@ fn kind_in(alloc: Global, token: &Token) -> Result<Option<Value>, NoMemory>
     }
 }
 
-fn enum_in(
-    alloc: Global,
-    registry: &Registry,
-    name: &Name,
-    token: &Token,
-) -> Result<Option<Value>, NoMemory>
+fn enum_in(registry: &Registry, name: &Name, token: &Token) -> Result<Option<Value>, NoMemory>
     ensures { IfOk result (λ found. option_map plain_of found ≡ some_as (plain.enum name.now) (item_in (items_of (find_entity name.now registry.now)) (token_of token.now))) }
 {
     match item_in(registry, name.as_str(), token) {
-        Some(number) => Ok(Some(Value::Enum(name.copy(alloc)?, number))),
+        Some(number) => Ok(Some(Value::Enum(name.copy()?, number))),
         None => Ok(None),
     }
 }

@@ -10,7 +10,6 @@ pub enum Bracket {
 }
 
 /// A bracket, a comma, or a value that is one token; `Cast` is a type that stands before a value of it.
-#[derive(Drop)]
 pub enum Token {
     Opens(Bracket),
     Closes(Bracket),
@@ -20,6 +19,18 @@ pub enum Token {
     String(Text),
     Named(TypeName),
     Cast(TypeName),
+}
+
+impl Drop for Token {
+    fn drop(self) {
+        match self {
+            Token::Word(name) => drop(name),
+            Token::String(text) => drop(text),
+            Token::Named(kind) => drop(kind),
+            Token::Cast(kind) => drop(kind),
+            Token::Opens(_) | Token::Closes(_) | Token::Comma | Token::Number(_) => {}
+        }
+    }
 }
 
 /// A token, and how many bytes of the text are left from its front on.

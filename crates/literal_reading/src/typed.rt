@@ -258,7 +258,7 @@ fn tuple_of<'a>(
     let read = members_on(alloc, registry, inner, &fields, left, rest, &mut members);
     drop(fields);
     match read {
-        Ok(rest) => tuple_before(alloc, name, members, rest),
+        Ok(rest) => tuple_before(name, members, rest),
         Err(stop) => {
             drop(members);
             Err(stop)
@@ -267,15 +267,10 @@ fn tuple_of<'a>(
 }
 
 /// A tuple of members, and the tokens behind it.
-fn tuple_before<'a>(
-    alloc: Global,
-    name: &Name,
-    members: Vec<Value>,
-    rest: &'a [Placed],
-) -> Read<'a, Value>
+fn tuple_before<'a>(name: &Name, members: Vec<Value>, rest: &'a [Placed]) -> Read<'a, Value>
     ensures { Gives (λ x. (plain_of x.0, all_placed x.1.now)) result (before (plain.tuple name.now (plains (map plain_of members.items))) (all_placed rest.now)) }
 {
-    let Ok(name) = name.copy(alloc) else {
+    let Ok(name) = name.copy() else {
         drop(members);
         return Err(Stop::NoMemory);
     };

@@ -4,7 +4,7 @@ use Rattle.std.specs.List.{list_all}
 use Rattle.std.proofs.lemmas.Bool.{eqb-true, eqb-false, eq-eqb, ne_eqb}
 use Rattle.uno_model.specs.Entities.{Entity}
 use Rattle.uno_model.specs.Functions.{Function}
-use Rattle.uno_model.specs.Kinds.{Kind}
+use Rattle.uno_model.specs.Kinds.{Kind, interface_of}
 use Rattle.uno_model.specs.Kinds as kd
 use Rattle.uno_model.specs.Sound.{is_named}
 use Rattle.uno_model.specs.Values.{Plain}
@@ -19,7 +19,7 @@ use Rattle.urp_model.proofs.ValueLaws.{members_agree, value_agrees}
 use Rattle.message_model.specs.Calls.{acquire_number, release_number, numbered, argument_kinds}
 use Rattle.message_model.specs.Headers.{Heard, hearing, Opening, Target}
 use Rattle.message_model.specs.Messages.{Message, request, release}
-use Rattle.message_model.specs.ReadingMessages.{face_of, release_at, arguments_at, call_at, asked_at, request_at, opens_reply}
+use Rattle.message_model.specs.ReadingMessages.{release_at, arguments_at, call_at, asked_at, request_at, opens_reply}
 use Rattle.message_model.specs.SpellingMessages.{SpellsOpening, SpellsAsked, a_release, a_call, SpellsRequest}
 use Rattle.message_model.proofs.OpeningReadingLaws.{spelled_opening, opening_agrees}
 use Rattle.message_model.proofs.TargetReadingLaws.{target_agrees}
@@ -133,14 +133,14 @@ module _ (reg : List Entity) (named : list_all is_named reg ≡ true) where
   -- ---- requests
 
   -- a type is an interface by the test
-  face_is : (k : Kind) (face : List ℕ) → face_of k ≡ Some face → k ≡ kd.interface face
+  face_is : (k : Kind) (face : List ℕ) → interface_of k ≡ Some face → k ≡ kd.interface face
   face_is (kd.interface other) face is = ap kd.interface (same_some is)
   face_is _ face is = absurd (none_some is)
 
   asked_face : (o : Opening) (target : Target) (heard : Heard) (m : Message) (b : List ℕ) (after : Heard) → SpellsAsked reg o target heard m b after
-      → (face : List ℕ) × (face_of target.kind ≡ Some face)
-  asked_face o target heard m b after (a_release face is _ _ _ _ _) = (face, ap face_of is)
-  asked_face o target heard m b after (a_call face f args s is _ _ _ _ _ _ _) = (face, ap face_of is)
+      → (face : List ℕ) × (interface_of target.kind ≡ Some face)
+  asked_face o target heard m b after (a_release face is _ _ _ _ _) = (face, ap interface_of is)
+  asked_face o target heard m b after (a_call face f args s is _ _ _ _ _ _ _) = (face, ap interface_of is)
 
   pub request_agrees : (heard : Heard) (first : ℕ) → opens_reply first ≡ false
       → Agrees triple (request_at reg heard first) (λ x used. SpellsRequest reg heard x.0 (first ∷ used) x.1)
@@ -148,7 +148,7 @@ module _ (reg : List Entity) (named : list_all is_named reg ≡ true) where
   request_agrees heard first is =
       weaken triple
       (bind_agrees pair triple _ (opening_agrees first is) (λ o. bind_agrees triple triple _ (target_agrees reg named o heard) (λ (target : Target × Heard).
-      judged_agrees triple NotInterface (face_of target.0.kind) _ (λ face found. asked_agrees o face target.0 target.1 (face_is target.0.kind face found)))))
+      judged_agrees triple NotInterface (interface_of target.0.kind) _ (λ face found. asked_agrees o face target.0 target.1 (face_is target.0.kind face found)))))
       (λ x used t.
       let behind = t.5 in
       let last = behind.5 in

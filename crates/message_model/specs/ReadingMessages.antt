@@ -3,7 +3,7 @@ use Rattle.std.specs.Prelude.{ℕ, ◌-◌, ◌==◌, ◌&&◌, nat_lt, not, Boo
 use Rattle.std.specs.Int.{w16, from_be_bytes}
 use Rattle.uno_model.specs.Entities.{Entity}
 use Rattle.uno_model.specs.Functions.{Function}
-use Rattle.uno_model.specs.Kinds.{Kind}
+use Rattle.uno_model.specs.Kinds.{Kind, interface_of}
 use Rattle.uno_model.specs.Kinds as kd
 use Rattle.urp_model.specs.NamedKinds.{is_any}
 use Rattle.urp_model.specs.Parts.{◌>>=◌, judged, byte_at, number_at}
@@ -97,11 +97,6 @@ target_at reg opening heard bytes = do
 
 -- ---- requests
 
--- the interface that a type is
-abbrev pub face_of : Kind → Option (List ℕ)
-face_of (kd.interface face) = Some face
-face_of _ = None
-
 -- a release, which has no answer and no arguments
 unfoldable pub release_at : Bool → List ℕ → Target → Heard → List ℕ → Result (Message × Heard × List ℕ) Fault
 release_at true face target heard bytes = Err (Bad OneWay)
@@ -130,7 +125,7 @@ unfoldable pub request_at : List Entity → Heard → ℕ → List ℕ → Resul
 request_at reg heard first bytes = do
   opening ← opening_at first bytes
   target ← target_at reg opening.0 heard opening.1
-  face ← judged NotInterface (face_of target.0.kind)
+  face ← judged NotInterface (interface_of target.0.kind)
   asked_at reg opening.0 face target.0 target.1 target.2
 
 -- ---- replies

@@ -3,10 +3,8 @@ use Rattle.std.proofs.Common.{◌≡◌, ℕ, ◌+◌, ◌≤◌, Bool, true, fa
 use Rattle.std.proofs.lemmas.Bool.{true≢false}
 use Rattle.std.specs.List.{list_any, IsDistinct, AllByRecursion}
 use Rattle.std.specs.Map.{keys_of}
-use Rattle.std.specs.String.{string_bytes, string_eq}
 use Rattle.std.specs.Str.{bytes_eq}
 use Rattle.std.specs.declared.cmp.Ordering.TheVariants.{Equal}
-use Rattle.std.specs.declared.string.String.{String}
 use Rattle.std.specs.Cmp.Lexicographic.{nat_list_eq_equiv}
 use Rattle.std.specs.FinMap.{find}
 use Rattle.std.specs.FinMap.Entries.{where_key, is_sorted-where_key, find-where_key, same_entries, length-put}
@@ -45,38 +43,37 @@ module _ (oid : List ℕ) {X : Type 0} where
         | false ↦ λ none. none_of_oid rows none
       ] none
 
-  module _ {Z : Type 0} where
-    -- all rows of one OID have it
-    pub all_of_oid : (faces : Rows X Z) → of_oid (face_rows oid faces) ≡ face_rows oid faces
-    all_of_oid [] = refl
-    all_of_oid (f ∷ faces) = λ i. cond (nat_list_eq_equiv.refl oid i) ((pair oid (string_bytes f.0), f.1) ∷ all_of_oid faces i) (all_of_oid faces i)
+  -- all rows of one OID have it
+  pub all_of_oid : (faces : Rows X) → of_oid (face_rows oid faces) ≡ face_rows oid faces
+  all_of_oid [] = refl
+  all_of_oid (f ∷ faces) = λ i. cond (nat_list_eq_equiv.refl oid i) ((pair oid f.0, f.1) ∷ all_of_oid faces i) (all_of_oid faces i)
 
-    -- a face that is none of some has no row among theirs
-    none_found : (face : String Z) (faces : Rows X Z) → AllByRecursion (λ y. string_eq face y ≡ false) (keys_of faces)
-        → find pair_cmp (pair oid (string_bytes face)) (face_rows oid faces) ≡ None
-    none_found face [] apart = refl
-    none_found face (f ∷ faces) apart =
-        ap (λ b. cond b (Some f.1) (find pair_cmp (pair oid (string_bytes face)) (face_rows oid faces)))
-        (is_pair_by_texts (pair oid (string_bytes face)) (pair oid (string_bytes f.0)) ∙ ap (λ b. bytes_eq oid oid && b) apart.0 ∙ and_false (bytes_eq oid oid))
-        ∙ none_found face faces apart.1
-      where
-        and_false : (a : Bool) → (a && false) ≡ false
-        and_false true = refl
-        and_false false = refl
+  -- a face that is none of some has no row among theirs
+  none_found : (face : List ℕ) (faces : Rows X) → AllByRecursion (λ y. bytes_eq face y ≡ false) (keys_of faces)
+      → find pair_cmp (pair oid face) (face_rows oid faces) ≡ None
+  none_found face [] apart = refl
+  none_found face (f ∷ faces) apart =
+      ap (λ b. cond b (Some f.1) (find pair_cmp (pair oid face) (face_rows oid faces)))
+      (is_pair_by_texts (pair oid face) (pair oid f.0) ∙ ap (λ b. bytes_eq oid oid && b) apart.0 ∙ and_false (bytes_eq oid oid))
+      ∙ none_found face faces apart.1
+    where
+      and_false : (a : Bool) → (a && false) ≡ false
+      and_false true = refl
+      and_false false = refl
 
-    -- rows of distinct faces are as many in order
-    pub as_many : (faces : Rows X Z) → IsDistinct string_eq (keys_of faces) → length (in_order pair_cmp (face_rows oid faces)) ≡ length faces
-    unfolding IsDistinct
-    as_many [] d = refl
-    as_many (f ∷ faces) d =
-        let rest = as_many faces d.1 in
-        let new = found_in_order pair_order (pair oid (string_bytes f.0)) (face_rows oid faces) ∙ none_found f.0 faces d.0 in
-        length-put pair_cmp pair_order (pair oid (string_bytes f.0)) f.1 _ (in_order_rises pair_order (face_rows oid faces))
-        ∙ ap (λ found. cond (is_some found) (length (in_order pair_cmp (face_rows oid faces))) (length (in_order pair_cmp (face_rows oid faces)) + 1)) new
-        ∙ omega (arith, rest)
+  -- rows of distinct faces are as many in order
+  pub as_many : (faces : Rows X) → IsDistinct bytes_eq (keys_of faces) → length (in_order pair_cmp (face_rows oid faces)) ≡ length faces
+  unfolding IsDistinct
+  as_many [] d = refl
+  as_many (f ∷ faces) d =
+      let rest = as_many faces d.1 in
+      let new = found_in_order pair_order (pair oid f.0) (face_rows oid faces) ∙ none_found f.0 faces d.0 in
+      length-put pair_cmp pair_order (pair oid f.0) f.1 _ (in_order_rises pair_order (face_rows oid faces))
+      ∙ ap (λ found. cond (is_some found) (length (in_order pair_cmp (face_rows oid faces))) (length (in_order pair_cmp (face_rows oid faces)) + 1)) new
+      ∙ omega (arith, rest)
 
 -- at most one face is distinct from all others
-pub few_distinct : {X Z : Type 0} (faces : Rows X Z) → length faces ≤ 1 → IsDistinct string_eq (keys_of faces)
+pub few_distinct : {X : Type 0} (faces : Rows X) → length faces ≤ 1 → IsDistinct bytes_eq (keys_of faces)
 unfolding IsDistinct
 few_distinct [] few = tt
 few_distinct (f ∷ []) few = (tt, tt)

@@ -4,8 +4,6 @@ use Rattle.std.proofs.lemmas.List.Filters.{length-filter_both}
 use Rattle.std.specs.HashMap.{HashMap, IsUnique}
 use Rattle.std.specs.List.{list_any}
 use Rattle.std.specs.Str.{bytes_eq}
-use Rattle.std.specs.String.{string_eq}
-use Rattle.std.specs.declared.string.String.{String}
 use Rattle.std.specs.FinMap.{find, put}
 use Rattle.std.specs.FinMap.Entries.{is_sorted-where_key, find-where_key, same_entries}
 use Rattle.table_model.specs.Pair.{Pair, pair, pair_cmp, is_pair, without_oid}
@@ -16,17 +14,13 @@ use Rattle.pair_map.specs.ByOid.{at_pair, pair_rows, how_many_of}
 use Rattle.pair_map.specs.Faces.{Rows}
 use Rattle.pair_map.proofs.Reading.{found_rows}
 
--- pairs of the same texts are the same
-pub same_texts : {a b x y : List ℕ} → a ≡ b → x ≡ y → pair a x ≡ pair b y
-same_texts e f = λ i. record { oid = e i; face = f i }
-
-module _ {X Y Z S : Type 0} (m : HashMap (String Y) (Rows X Z) S) (unique : IsUnique string_eq m) (rows : List (Pair × X))
+module _ {X S : Type 0} (m : HashMap (List ℕ) (Rows X) S) (unique : IsUnique bytes_eq m) (rows : List (Pair × X))
     (is : in_order pair_cmp (pair_rows m.entries) ≡ rows) (p q : Pair) (same : p ≡ q) where
   -- what the maps have at a pair is found in the rows
   pub found_at : at_pair m p ≡ find pair_cmp q rows
   found_at = sym (found_rows p m.entries unique) ∙ sym (found_in_order pair_order p (pair_rows m.entries)) ∙ (λ i. find pair_cmp (same i) (is i))
 
-  module _ (n : HashMap (String Y) (Rows X Z) S) (unique_after : IsUnique string_eq n) where
+  module _ (n : HashMap (List ℕ) (Rows X) S) (unique_after : IsUnique bytes_eq n) where
     found_after : (w : Option X) → ((r : Pair) → at_pair n r ≡ cond (is_pair r p) w (at_pair m r))
         → (r : Pair) → find pair_cmp r (pair_rows n.entries) ≡ cond (is_pair r p) w (find pair_cmp r (pair_rows m.entries))
     found_after w change r =
@@ -54,7 +48,7 @@ module _ {X Y Z S : Type 0} (m : HashMap (String Y) (Rows X Z) S) (unique : IsUn
         ∙ is
 
 -- whether a row passes a test of an OID
-pub any_at : (test : List ℕ → Pair → Bool) {X Y Z S : Type 0} (m : HashMap (String Y) (Rows X Z) S) (rows : List (Pair × X))
+pub any_at : (test : List ℕ → Pair → Bool) {X S : Type 0} (m : HashMap (List ℕ) (Rows X) S) (rows : List (Pair × X))
     → in_order pair_cmp (pair_rows m.entries) ≡ rows → (o oid : List ℕ) → o ≡ oid
     → list_any (λ row. test o row.0) (pair_rows m.entries) ≡ list_any (λ row. test oid row.0) rows
 any_at test m rows is o oid same =
@@ -66,8 +60,8 @@ turned true x y = refl
 turned false x y = refl
 
 -- maps of which the second lacks one OID have rows of which the second lacks it
-pub taken_at : {X Y Z S : Type 0} (m n : HashMap (String Y) (Rows X Z) S) (rows : List (Pair × X)) (o oid : List ℕ)
-    → IsUnique string_eq m → IsUnique string_eq n → in_order pair_cmp (pair_rows m.entries) ≡ rows → o ≡ oid
+pub taken_at : {X S : Type 0} (m n : HashMap (List ℕ) (Rows X) S) (rows : List (Pair × X)) (o oid : List ℕ)
+    → IsUnique bytes_eq m → IsUnique bytes_eq n → in_order pair_cmp (pair_rows m.entries) ≡ rows → o ≡ oid
     → ((r : Pair) → at_pair n r ≡ cond (bytes_eq o r.oid) None (at_pair m r))
     → in_order pair_cmp (pair_rows n.entries) ≡ without_oid oid rows
 taken_at m n rows o oid unique unique_after is same change =
@@ -80,8 +74,8 @@ taken_at m n rows o oid unique unique_after is same change =
     ∙ (λ i. without_oid (same i) (is i))
 
 -- and with as many as go those that stay are all
-pub number_taken : {X Y Z S : Type 0} (m n : HashMap (String Y) (Rows X Z) S) (rows : List (Pair × X)) (o : List ℕ)
-    → IsUnique string_eq m → IsUnique string_eq n → in_order pair_cmp (pair_rows m.entries) ≡ rows
+pub number_taken : {X S : Type 0} (m n : HashMap (List ℕ) (Rows X) S) (rows : List (Pair × X)) (o : List ℕ)
+    → IsUnique bytes_eq m → IsUnique bytes_eq n → in_order pair_cmp (pair_rows m.entries) ≡ rows
     → ((r : Pair) → at_pair n r ≡ cond (bytes_eq o r.oid) None (at_pair m r))
     → (number : ℕ) → how_many_of o (pair_rows m.entries) ≡ number
     → length (in_order pair_cmp (pair_rows n.entries)) + number ≡ length rows

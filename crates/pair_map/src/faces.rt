@@ -1,9 +1,9 @@
 //! The faces of one OID, each with its value: a lone one stands here itself, and several in a map.
-ghost use Rattle.std.specs.Prelude.{◌≡◌, ◌↔◌, ◌+◌, ◌≤◌, ◌<◌, [], ◌∷◌, None, Some, IsSome, IsTrue, IsOk, IfOk, OnOk, OnErr, length, option_copied, option_map, slice_get, string_bytes};
+ghost use Rattle.std.specs.Prelude.{◌≡◌, ◌↔◌, ◌+◌, ◌≤◌, ◌<◌, [], ◌∷◌, None, Some, IsSome, IsTrue, IsOk, IfOk, OnOk, OnErr, length, option_copied, option_map, slice_get};
 ghost use Rattle.indexmap.specs.IndexMap.{spare};
 ghost use Rattle.std.specs.List.{IsDistinct};
 ghost use Rattle.std.specs.Map.{keys_of};
-ghost use Rattle.std.specs.String.{string_eq};
+ghost use Rattle.std.specs.Str.{bytes_eq};
 ghost use Rattle.pair_map.specs.Faces.{value_of, ChangesFace};
 
 use indexmap::IndexMap;
@@ -11,6 +11,7 @@ use std::alloc::Global;
 use std::marker::Model;
 use std::mem;
 use uno_base::NoMemory;
+use uno_entities::Name;
 
 /// A value for each of some faces.
 #[derive(Drop)]
@@ -22,23 +23,22 @@ pub struct Faces<V> {
 #[derive(Drop)]
 enum Layout<V> {
     Empty,
-    Lone(String, V),
-    Several(Box<IndexMap<String, V>>),
+    Lone(Name, V),
+    Several(Box<IndexMap<Name, V>>),
 }
 
 impl<V> Model for Faces<V> {
-    ghost use Rattle.std.specs.declared.alloc.Global.{Global};
     ghost use Rattle.pair_map.specs.Faces.{Rows};
     ghost use Rattle.pair_map.specs.Layout.{rows_of};
 
-    ghost Value = { Rows V Global };
+    ghost Value = { Rows V };
 
     ghost view = { λ f. rows_of f.layout };
 }
 
 impl<V> Faces<V> {
     /// One face.
-    pub(crate) fn lone(face: String, value: V) -> Faces<V>
+    pub(crate) fn lone(face: Name, value: V) -> Faces<V>
         ensures { result ≡ (face, value) ∷ [] }
     {
         Faces {
@@ -47,18 +47,12 @@ impl<V> Faces<V> {
     }
 
     /// The value of a face.
-    pub fn get(&self, face: &str) -> Option<&V>
+    pub fn get(&self, face: &Name) -> Option<&V>
         ensures { option_copied result ≡ value_of face.now self.now }
     {
         match &self.layout {
             Layout::Empty => None,
-            Layout::Lone(only, value) => {
-                if face == only.as_str() {
-                    Some(value)
-                } else {
-                    None
-                }
-            }
+            Layout::Lone(only, value) => { if face == only { Some(value) } else { None } }
             Layout::Several(faces) => faces.get(face),
         }
     }
@@ -77,7 +71,7 @@ impl<V> Faces<V> {
     /// How many faces are there, no two of one name.
     pub fn len(&self) -> usize
         ensures number { result ≡ length self.now }
-        ensures distinct { IsDistinct string_eq (keys_of self.now) }
+        ensures distinct { IsDistinct bytes_eq (keys_of self.now) }
     {
         match &self.layout {
             Layout::Empty => 0,
@@ -88,7 +82,7 @@ impl<V> Faces<V> {
 
     /// The face at a place.
     pub fn face_at(&self, place: usize) -> Option<&str>
-        ensures { option_copied result ≡ option_map (λ row. string_bytes row.0) (slice_get self.now place) }
+        ensures { option_copied result ≡ option_map (λ row. row.0) (slice_get self.now place) }
     {
         match &self.layout {
             Layout::Empty => None,
@@ -107,7 +101,7 @@ impl<V> Faces<V> {
     }
 
     /// Puts a value in the place of that of a face, which is given back.
-    pub(crate) fn replace(&mut self, face: &str, value: V) -> V
+    pub(crate) fn replace(&mut self, face: &Name, value: V) -> V
         requires { IsSome (value_of face.now self.old) }
         ensures was { Some result ≡ value_of face.now self.old }
         ensures put { ChangesFace face.now (Some value) self.old self.new }
@@ -122,8 +116,8 @@ impl<V> Faces<V> {
 
 impl<V: Drop> Faces<V> {
     /// Puts a value at a face.
-    pub(crate) fn insert(&mut self, alloc: Global, face: String, value: V) -> Result<(), NoMemory>
-        ensures put { OnOk result (ChangesFace (string_bytes face) (Some value) self.old self.new) }
+    pub(crate) fn insert(&mut self, alloc: Global, face: Name, value: V) -> Result<(), NoMemory>
+        ensures put { OnOk result (ChangesFace face (Some value) self.old self.new) }
         ensures kept { OnErr result (self.new ≡ self.old) }
     {
         if let Layout::Several(faces) = &mut self.layout {
@@ -144,7 +138,7 @@ impl<V: Drop> Faces<V> {
     }
 
     /// Takes out the value of a face.
-    pub(crate) fn remove(&mut self, face: &str) -> V
+    pub(crate) fn remove(&mut self, face: &Name) -> V
         requires { IsSome (value_of face.now self.old) }
         ensures was { Some result ≡ value_of face.now self.old }
         ensures without { ChangesFace face.now None self.old self.new }
@@ -160,7 +154,7 @@ impl<V: Drop> Faces<V> {
 }
 
 /// A map that is empty and has room for two faces.
-fn room_for_two<V: Drop>(alloc: Global) -> Result<Box<IndexMap<String, V>>, NoMemory>
+fn room_for_two<V: Drop>(alloc: Global) -> Result<Box<IndexMap<Name, V>>, NoMemory>
     ensures empty { IfOk result (λ faces. faces.value.entries ≡ []) }
     ensures room { IfOk result (λ faces. 2 ≤ spare faces.value) }
 {
@@ -170,8 +164,8 @@ fn room_for_two<V: Drop>(alloc: Global) -> Result<Box<IndexMap<String, V>>, NoMe
 }
 
 /// Puts a value at a face, for which there may be room.
-fn insert<V: Drop>(faces: &mut IndexMap<String, V>, face: String, value: V) -> Result<(), NoMemory>
-    ensures put { OnOk result (ChangesFace (string_bytes face) (Some value) faces.old.entries faces.new.entries) }
+fn insert<V: Drop>(faces: &mut IndexMap<Name, V>, face: Name, value: V) -> Result<(), NoMemory>
+    ensures put { OnOk result (ChangesFace face (Some value) faces.old.entries faces.new.entries) }
     ensures kept { OnErr result (faces.new.entries ≡ faces.old.entries) }
     ensures fits { 0 < spare faces.old → IsOk result }
     ensures room { spare faces.old ≤ spare faces.new + 1 }
@@ -181,7 +175,7 @@ fn insert<V: Drop>(faces: &mut IndexMap<String, V>, face: String, value: V) -> R
 }
 
 /// Puts a value in the place of that of a face, which is given back.
-fn replace<V>(faces: &mut IndexMap<String, V>, face: &str, value: V) -> V
+fn replace<V>(faces: &mut IndexMap<Name, V>, face: &Name, value: V) -> V
     requires { IsSome (value_of face.now faces.old.entries) }
     ensures was { Some result ≡ value_of face.now faces.old.entries }
     ensures put { ChangesFace face.now (Some value) faces.old.entries faces.new.entries }
@@ -193,7 +187,7 @@ fn replace<V>(faces: &mut IndexMap<String, V>, face: &str, value: V) -> V
 }
 
 /// Takes out the value of a face.
-fn remove<V>(faces: &mut IndexMap<String, V>, face: &str) -> V
+fn remove<V>(faces: &mut IndexMap<Name, V>, face: &Name) -> V
     requires { IsSome (value_of face.now faces.old.entries) }
     ensures was { Some result ≡ value_of face.now faces.old.entries }
     ensures without { ChangesFace face.now None faces.old.entries faces.new.entries }

@@ -25,7 +25,7 @@ pub struct PairMap<V> {
 impl<V> Model for PairMap<V> {
     ghost use Rattle.std.specs.Prelude.{List};
     ghost use Rattle.indexmap.specs.IndexMap.{IsUnique};
-    ghost use Rattle.std.specs.String.{string_eq};
+    ghost use Rattle.std.specs.Str.{bytes_eq};
     ghost use Rattle.table_model.specs.Pair.{Pair, pair_cmp};
     ghost use Rattle.table_model.specs.Rows.{in_order};
     ghost use Rattle.pair_map.specs.ByOid.{pair_rows};
@@ -34,7 +34,7 @@ impl<V> Model for PairMap<V> {
 
     ghost view = { λ m. in_order pair_cmp (pair_rows m.by_oid.entries) };
 
-    ghost invariant = { λ m. IsUnique string_eq m.by_oid };
+    ghost invariant = { λ m. IsUnique bytes_eq m.by_oid };
 }
 
 impl<V> PairMap<V> {
@@ -53,7 +53,7 @@ impl<V> PairMap<V> {
         ensures found { option_copied result ≡ find pair_cmp (pair oid.now face.now) self.now }
         ensures rises { T (is_sorted pair_cmp self.now) }
     {
-        by_oid::at_pair(&self.by_oid, oid.as_str(), face.as_str())
+        by_oid::at_pair(&self.by_oid, oid, face)
     }
 
     /// Whether a pair with this OID is there.
@@ -61,14 +61,14 @@ impl<V> PairMap<V> {
         ensures any { result ≡ list_any (λ row. bytes_eq oid.now row.0.oid) self.now }
         ensures rises { T (is_sorted pair_cmp self.now) }
     {
-        by_oid::has_oid(&self.by_oid, oid.as_str())
+        by_oid::has_oid(&self.by_oid, oid)
     }
 
     /// The faces of the pairs with this OID.
     pub fn faces(&self, oid: &Text) -> Option<&Faces<V>>
         ensures { (test : List ℕ → Bool) → list_any (λ row. bytes_eq oid.now row.0.oid && test row.0.face) self.now ≡ any_face test (option_copied result) }
     {
-        self.by_oid.get(oid.as_str())
+        self.by_oid.get(oid)
     }
 
     /// Puts a value in the place of the one at a pair, which is given back.
@@ -77,7 +77,7 @@ impl<V> PairMap<V> {
         ensures was { Some result ≡ find pair_cmp (pair oid.now face.now) self.old }
         ensures put { self.new ≡ put pair_cmp (pair oid.now face.now) value self.old }
     {
-        by_oid::replace(&mut self.by_oid, oid.as_str(), face.as_str(), value)
+        by_oid::replace(&mut self.by_oid, oid, face, value)
     }
 }
 
@@ -87,13 +87,7 @@ impl<V: Drop> PairMap<V> {
         ensures put { OnOk result (self.new ≡ put pair_cmp (pair oid.now face.now) value self.old) }
         ensures kept { OnErr result (self.new ≡ self.old) }
     {
-        by_oid::insert(
-            self.alloc,
-            &mut self.by_oid,
-            oid.as_str(),
-            face.as_str(),
-            value,
-        )
+        by_oid::insert(self.alloc, &mut self.by_oid, oid, face, value)
     }
 
     /// Takes out the value at a pair.
@@ -102,7 +96,7 @@ impl<V: Drop> PairMap<V> {
         ensures was { Some result ≡ find pair_cmp (pair oid.now face.now) self.old }
         ensures without { self.new ≡ without pair_cmp (pair oid.now face.now) self.old }
     {
-        by_oid::remove(&mut self.by_oid, oid.as_str(), face.as_str())
+        by_oid::remove(&mut self.by_oid, oid, face)
     }
 
     /// Takes out some OID with all its faces, and gives it; nothing where no pair is there.
@@ -127,6 +121,6 @@ impl<V: Drop> PairMap<V> {
         ensures rises { T (is_sorted pair_cmp self.old) }
     {
         let (oid, number) = by_oid::take_oid(&mut self.by_oid)?;
-        Some((Text::from(oid), number))
+        Some((oid, number))
     }
 }

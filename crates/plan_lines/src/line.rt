@@ -12,7 +12,6 @@ pub struct Declared {
 }
 
 /// A line; names of types, interfaces and behaviours are still texts.
-#[derive(Drop)]
 pub enum Line {
     Behaviour {
         name: Name,
@@ -62,4 +61,89 @@ pub enum Line {
     Ask(Declared, Text),
     AskInstance(Declared),
     Same(Name, Name),
+}
+
+impl Drop for Line {
+    fn drop(self) {
+        match self {
+            Line::Behaviour { name, faces } => {
+                drop(name);
+                drop(faces);
+            }
+            Line::Field(declared) => drop(declared),
+            Line::Method { face, function } => {
+                drop(face);
+                drop(function);
+            }
+            Line::Service { name, behaviour } => {
+                drop(name);
+                drop(behaviour);
+            }
+            Line::Singleton { name, behaviour } => {
+                drop(name);
+                drop(behaviour);
+            }
+            Line::Export { name, behaviour } => {
+                drop(name);
+                drop(behaviour);
+            }
+            Line::Let(declared, term) => {
+                drop(declared);
+                drop(term);
+            }
+            Line::SetVariable(name, term) => {
+                drop(name);
+                drop(term);
+            }
+            Line::SetField(name, term) => {
+                drop(name);
+                drop(term);
+            }
+            Line::Call {
+                to,
+                target,
+                function,
+                arguments,
+            } => {
+                drop(to);
+                drop(target);
+                drop(function);
+                drop(arguments);
+            }
+            Line::Query(declared, word) => {
+                drop(declared);
+                drop(word);
+            }
+            Line::Make(declared, name) => {
+                drop(declared);
+                drop(name);
+            }
+            Line::Drop(name) => drop(name),
+            Line::When {
+                left,
+                comparison: _,
+                right,
+                back,
+            } => {
+                drop(left);
+                drop(right);
+                drop(back);
+            }
+            Line::Return(result) => drop(result),
+            Line::Raise(name, term) => {
+                drop(name);
+                drop(term);
+            }
+            Line::Ask(declared, text) => {
+                drop(declared);
+                drop(text);
+            }
+            Line::AskInstance(declared) => drop(declared),
+            Line::Same(one, other) => {
+                drop(one);
+                drop(other);
+            }
+            Line::Thread | Line::End | Line::Dispose => {}
+        }
+    }
 }

@@ -5,7 +5,6 @@ use plan_types::{Operation, Word};
 use uno_types::Name;
 
 /// What stands for a value.
-#[derive(Drop)]
 pub enum Term {
     /// A number, a word or a quoted text.
     Leaf(Token),
@@ -19,4 +18,26 @@ pub enum Term {
     Members(Vec<Term>),
     Word(Word),
     Operation(Operation, Box<Term>, Box<Term>),
+}
+
+impl Drop for Term {
+    #[cycle(let_go)]
+    fn drop(self) {
+        match self {
+            Term::Leaf(token) => drop(token),
+            Term::Type(name) => drop(name),
+            Term::Typed(kind, held) => {
+                drop(kind);
+                drop(held);
+            }
+            Term::Elements(elements) => drop(elements),
+            Term::Members(members) => drop(members),
+            Term::Word(word) => drop(word),
+            Term::Operation(_, left, right) => {
+                drop(left);
+                drop(right);
+            }
+            Term::VoidAny => {}
+        }
+    }
 }

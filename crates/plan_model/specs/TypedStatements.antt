@@ -4,7 +4,7 @@ use Rattle.std.specs.Option.{option_map}
 use Rattle.literal_model.specs.Readings.{and_then}
 use Rattle.uno_model.specs.Entities.{Entity, Field}
 use Rattle.uno_model.specs.Functions.{Function}
-use Rattle.uno_model.specs.Kinds.{Kind}
+use Rattle.uno_model.specs.Kinds.{Kind, interface_of, exception_of}
 use Rattle.uno_model.specs.Kinds as kd
 use Rattle.uno_model.specs.NamedTypes.{type_of_text}
 use Rattle.plan_model.specs.Contexts.{Scoped, Context, behaviour_number, behaviour_named, known_variable, kind_of_variable, kind_of_field}
@@ -22,17 +22,12 @@ use Rattle.plan_model.specs.declared.comparison.Comparison.TheVariants.{Equal, L
 
 -- ---- calls, queries and new objects
 
--- the name of the interface that a type is
-abbrev pub face_of : Kind → Option (List ℕ)
-face_of (kd.interface name) = Some name
-face_of k = None
-
 abbrev pub face_of_text : List Entity → List ℕ → Option (List ℕ)
-face_of_text reg text = and_then (type_of_text reg text) face_of
+face_of_text reg text = and_then (type_of_text reg text) interface_of
 
 -- the interface of a word
 abbrev pub face_of_word : Context → Word → Option (List ℕ)
-face_of_word c w = and_then (kind_of_word c w) face_of
+face_of_word c w = and_then (kind_of_word c w) interface_of
 
 -- a declared name with its type
 abbrev pub declared_field : List Entity → Declared → Option Field
@@ -101,13 +96,9 @@ test_of reg c left comparison right =
     and_then (kind_of_word c left)
     (λ k. only_if (is_compared comparison k) (option_map (λ a. record { left = left; comparison = comparison; right = a }) (expression_of reg c right k)))
 
-abbrev pub raised_name : Kind → Option (List ℕ)
-raised_name (kd.exception name) = Some name
-raised_name k = None
-
 abbrev pub raise_of : List Entity → Context → List ℕ → Term → Option Statement
 raise_of reg c k t =
-    and_then (and_then (type_of_text reg k) raised_name) (λ name. option_map (s.raise name) (expression_of reg c t (kd.exception name)))
+    and_then (and_then (type_of_text reg k) exception_of) (λ name. option_map (s.raise name) (expression_of reg c t (kd.exception name)))
 
 -- ---- statements
 

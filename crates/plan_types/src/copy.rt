@@ -14,7 +14,7 @@ impl Frame {
         match self {
             Frame::Base { root } => Ok(Frame::Base { root: *root }),
             Frame::Body(body) => Ok(Frame::Body(body.copy(alloc)?)),
-            Frame::Out(outgoing) => Ok(Frame::Out(copy_outgoing(alloc, outgoing)?)),
+            Frame::Out(outgoing) => Ok(Frame::Out(copy_outgoing(outgoing)?)),
         }
     }
 }
@@ -24,7 +24,7 @@ impl Body {
     pub fn copy(&self, alloc: Global) -> Result<Body, NoMemory>
         ensures { IfOk result (λ copy. body_of copy ≡ body_of self.now) }
     {
-        let face = self.face.copy(alloc)?;
+        let face = self.face.copy()?;
         let variables = copy_variables(alloc, &self.variables)?;
         Ok(Body {
             number: self.number,
@@ -39,11 +39,11 @@ impl Body {
 }
 
 /// An equal call that went out.
-fn copy_outgoing(alloc: Global, outgoing: &Outgoing) -> Result<Outgoing, NoMemory>
+fn copy_outgoing(outgoing: &Outgoing) -> Result<Outgoing, NoMemory>
     ensures { IfOk result (λ copy. outgoing_of copy ≡ outgoing_of outgoing.now) }
 {
-    let oid = outgoing.oid.copy(alloc)?;
-    let face = outgoing.face.copy(alloc)?;
+    let oid = outgoing.oid.copy()?;
+    let face = outgoing.face.copy()?;
     Ok(Outgoing {
         number: outgoing.number,
         oid,
@@ -67,7 +67,7 @@ fn copy_variables(alloc: Global, variables: &[Variable]) -> Result<Vec<Variable>
 fn copy_variable(alloc: Global, variable: &Variable) -> Result<Variable, NoMemory>
     ensures { IfOk result (λ copy. variable_of copy ≡ variable_of variable.now) }
 {
-    let name = variable.name.copy(alloc)?;
+    let name = variable.name.copy()?;
     let value = variable.value.copy(alloc)?;
     Ok(Variable { name, value })
 }

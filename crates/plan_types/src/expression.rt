@@ -6,7 +6,6 @@ use uno_types::{Name, TypeName};
 use uno_values::Value;
 
 /// A value in whose place, or in place of whose parts, words and operations may stand.
-#[derive(Drop)]
 pub enum Expression {
     Constant(Value),
     Word(Word),
@@ -20,6 +19,33 @@ pub enum Expression {
     List(TypeName, Vec<Expression>),
     /// The elements of a sequence of byte.
     Bytes(Vec<Expression>),
+}
+
+impl Drop for Expression {
+    #[cycle(let_go)]
+    fn drop(self) {
+        match self {
+            Expression::Constant(value) => drop(value),
+            Expression::Word(word) => drop(word),
+            Expression::Operation(_, left, right) => {
+                drop(left);
+                drop(right);
+            }
+            Expression::Any(kind, held) => {
+                drop(kind);
+                drop(held);
+            }
+            Expression::Tuple(name, members) => {
+                drop(name);
+                drop(members);
+            }
+            Expression::List(kind, elements) => {
+                drop(kind);
+                drop(elements);
+            }
+            Expression::Bytes(elements) => drop(elements),
+        }
+    }
 }
 
 /// What is given for a parameter: an expression for one that goes in, and the variable that gets the value of one that comes out or goes both ways.

@@ -45,7 +45,6 @@ pub struct Test {
 }
 
 /// A statement of a method; what is returned is left out where the result is void.
-#[derive(Drop)]
 pub enum Statement {
     Let(Field, Expression),
     SetVariable(Name, Expression),
@@ -61,8 +60,40 @@ pub enum Statement {
     Dispose,
 }
 
+impl Drop for Statement {
+    fn drop(self) {
+        match self {
+            Statement::Let(field, expression) => {
+                drop(field);
+                drop(expression);
+            }
+            Statement::SetVariable(name, expression) => {
+                drop(name);
+                drop(expression);
+            }
+            Statement::SetField(name, expression) => {
+                drop(name);
+                drop(expression);
+            }
+            Statement::Call(call) => drop(call),
+            Statement::Query(query) => drop(query),
+            Statement::Make(making) => drop(making),
+            Statement::Drop(name) => drop(name),
+            Statement::When(test, result) => {
+                drop(test);
+                drop(result);
+            }
+            Statement::Return(result) => drop(result),
+            Statement::Raise(name, expression) => {
+                drop(name);
+                drop(expression);
+            }
+            Statement::Dispose => {}
+        }
+    }
+}
+
 /// A statement of a root.
-#[derive(Drop)]
 pub enum RootStatement {
     /// Asks the peer for the object of an exported name, which becomes a variable of the wanted interface.
     Ask { to: Name, wanted: Name, name: Text },
@@ -74,4 +105,29 @@ pub enum RootStatement {
     Drop(Name),
     Same(Name, Name),
     Dispose,
+}
+
+impl Drop for RootStatement {
+    fn drop(self) {
+        match self {
+            RootStatement::Ask { to, wanted, name } => {
+                drop(to);
+                drop(wanted);
+                drop(name);
+            }
+            RootStatement::AskInstance { to, wanted } => {
+                drop(to);
+                drop(wanted);
+            }
+            RootStatement::Call(call) => drop(call),
+            RootStatement::Query(query) => drop(query),
+            RootStatement::Make(making) => drop(making),
+            RootStatement::Drop(name) => drop(name),
+            RootStatement::Same(one, other) => {
+                drop(one);
+                drop(other);
+            }
+            RootStatement::Dispose => {}
+        }
+    }
 }

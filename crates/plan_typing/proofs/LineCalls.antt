@@ -11,7 +11,7 @@ use Rattle.uno_model.specs.Codes.{same_kind}
 use Rattle.uno_model.specs.Entities.{Entity, Field, Param}
 use Rattle.uno_model.specs.Fits.{IsInterface}
 use Rattle.uno_model.specs.Functions.{Function}
-use Rattle.uno_model.specs.Kinds.{Kind}
+use Rattle.uno_model.specs.Kinds.{Kind, interface_of}
 use Rattle.uno_model.specs.Kinds as kd
 use Rattle.uno_model.specs.NamedTypes.{type_of_text}
 use Rattle.uno_model.specs.Sound.{IsSound}
@@ -29,7 +29,7 @@ use Rattle.plan_model.specs.Lines.{Term, Declared}
 use Rattle.plan_model.specs.Plans.{Plan, Behaviour, supports}
 use Rattle.plan_model.specs.Statements.{Call, Query, Making}
 use Rattle.plan_model.specs.Typing.{only_if, expression_of, gets, variable_in, out_argument, argument_of, arguments_of}
-use Rattle.plan_model.specs.TypedStatements.{face_of, face_of_text, face_of_word, declared_field, result_field, call_with, call_of, query_of, supports_named, making_of}
+use Rattle.plan_model.specs.TypedStatements.{face_of_text, face_of_word, declared_field, result_field, call_with, call_of, query_of, supports_named, making_of}
 use Rattle.plan_typing.specs.Statements.{Gets, ArgumentFits, ArgumentsFit, ResultFits, IsTypedCall, IsTypedQuery, IsTypedMaking}
 use Rattle.plan_typing.specs.Types.{Types, word_type, variable_type}
 use Rattle.plan_typing.proofs.TermFunctions.{HasTypes, called_typed, called_name}
@@ -48,12 +48,12 @@ pub then_there : {A B : Type 0} (o : Option A) (go : A → Option B) (z : B) →
 then_there None go z is = absurd (none_some is)
 then_there (Some x) go z is = record { first = x; first_is = refl; made = is }
 
-face_is : (k : Kind) (face : List ℕ) → face_of k ≡ Some face → k ≡ kd.interface face
+face_is : (k : Kind) (face : List ℕ) → interface_of k ≡ Some face → k ≡ kd.interface face
 face_is (kd.interface name) face is = ap kd.interface (same_some is)
 face_is _ face is = absurd (none_some is)
 
-face_known : (o : Option Kind) (face : List ℕ) → and_then o face_of ≡ Some face → o ≡ Some (kd.interface face)
-face_known o face is = let known = then_there o face_of face is in known.first_is ∙ ap Some (face_is known.first face known.made)
+face_known : (o : Option Kind) (face : List ℕ) → and_then o interface_of ≡ Some face → o ≡ Some (kd.interface face)
+face_known o face is = let known = then_there o interface_of face is in known.first_is ∙ ap Some (face_is known.first face known.made)
 
 -- ---- what stands before a line
 

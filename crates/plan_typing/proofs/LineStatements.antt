@@ -9,7 +9,7 @@ use Rattle.literal_model.specs.Readings.{and_then}
 use Rattle.uno_model.specs.Codes.{same_kind}
 use Rattle.uno_model.specs.Entities.{Entity, Field}
 use Rattle.uno_model.specs.Functions.{Function}
-use Rattle.uno_model.specs.Kinds.{Kind}
+use Rattle.uno_model.specs.Kinds.{Kind, exception_of}
 use Rattle.uno_model.specs.Kinds as kd
 use Rattle.uno_model.specs.NamedTypes.{type_of_text}
 use Rattle.uno_model.specs.Sound.{IsSound}
@@ -27,7 +27,7 @@ use Rattle.plan_model.specs.Plans.{Plan, Method}
 use Rattle.plan_model.specs.Statements.{Statement, Test}
 use Rattle.plan_model.specs.Statements as s
 use Rattle.plan_model.specs.Typing.{only_if, expression_of}
-use Rattle.plan_model.specs.TypedStatements.{declared_field, let_of, set_of, stays, drop_of, result_kind_of, back_of, is_compared, test_of, raised_name, raise_of}
+use Rattle.plan_model.specs.TypedStatements.{declared_field, let_of, set_of, stays, drop_of, result_kind_of, back_of, is_compared, test_of, raise_of}
 use Rattle.plan_model.specs.TypedStatements.{call_of, query_of, making_of, statement_of}
 use Rattle.plan_model.specs.declared.comparison.Comparison.{Comparison}
 use Rattle.plan_typing.specs.Statements.{BackFits, TestFits, IsSet, MayGo, IsTyped}
@@ -38,12 +38,12 @@ use Rattle.plan_typing.proofs.ValueLaws.{both_there, mapped}
 
 -- ---- names of exceptions
 
-raised_is : (k : Kind) (name : List ℕ) → raised_name k ≡ Some name → k ≡ kd.exception name
+raised_is : (k : Kind) (name : List ℕ) → exception_of k ≡ Some name → k ≡ kd.exception name
 raised_is (kd.exception other) name is = ap kd.exception (same_some is)
 raised_is _ name is = absurd (none_some is)
 
-raised_known : (o : Option Kind) (name : List ℕ) → and_then o raised_name ≡ Some name → o ≡ Some (kd.exception name)
-raised_known o name is = let known = then_there o raised_name name is in known.first_is ∙ ap Some (raised_is known.first name known.made)
+raised_known : (o : Option Kind) (name : List ℕ) → and_then o exception_of ≡ Some name → o ≡ Some (kd.exception name)
+raised_known o name is = let known = then_there o exception_of name is in known.first_is ∙ ap Some (raised_is known.first name known.made)
 
 not_both : (b : Bool) → not b ≡ true → b ≡ false
 not_both false is = refl
@@ -141,7 +141,7 @@ module _ (reg : List Entity) (sound : IsSound reg) (plan : Plan) (m : Method) (f
   raise_typed : (text : List ℕ) (t : Term) (x : Statement) → is_term reg t ≡ true → raise_of reg c text t ≡ Some x → IsTyped reg plan f ts x
   unfolding IsTyped
   raise_typed text t x formed is =
-      let known = then_there (and_then (type_of_text reg text) raised_name) (λ name. option_map (s.raise name) (expression_of reg c t (kd.exception name))) x is in
+      let known = then_there (and_then (type_of_text reg text) exception_of) (λ name. option_map (s.raise name) (expression_of reg c t (kd.exception name))) x is in
       let name = known.first in
       let from = mapped (s.raise name) (expression_of reg c t (kd.exception name)) x known.made in
       let there = text_type reg sound text (kd.exception name) (raised_known (type_of_text reg text) name known.first_is) in

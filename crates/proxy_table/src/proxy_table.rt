@@ -56,7 +56,7 @@ impl ProxyTable {
         if let Some(proxy) = self.find(oid, face) {
             return Ok((proxy, false));
         }
-        let release = ready(self.alloc, oid, face)?;
+        let release = ready(oid, face)?;
         self.releases.reserve(1)?;
         let number = self.made;
         self.numbers.insert(oid, face, number)?;
@@ -113,10 +113,10 @@ impl ProxyTable {
 }
 
 /// The release of a pair.
-fn ready(alloc: Global, oid: &Text, face: &Name) -> Result<Release, NoMemory>
+fn ready(oid: &Text, face: &Name) -> Result<Release, NoMemory>
     ensures { IfOk result (λ release. pair_of release ≡ pair oid.now face.now) }
 {
-    let oid = oid.copy(alloc)?;
-    let face = face.copy(alloc)?;
+    let oid = oid.copy()?;
+    let face = face.copy()?;
     Ok(Release { oid, face })
 }

@@ -5,7 +5,6 @@ ghost use Rattle.uno_entities.specs.Entities.{base_of, attribute_of, method_of, 
 ghost use Rattle.registry_text_model.specs.Lines.{spaced, text_of, base_word, base_line, access_word, attribute_line, way_word, param_line, method_line, member_lines};
 
 use crate::line::{push_last, push_named, push_names, push_type, push_word};
-use std::alloc::Global;
 use uno_base::NoMemory;
 use uno_types::{Attribute, Base, Member, Method, Param, Way};
 

@@ -157,7 +157,7 @@ fn gone_on(
 {
     if line == "end" {
         drop(last);
-        return ended(alloc, registry, entity);
+        return ended(registry, entity);
     }
     let mut entity = entity;
     let Ok(taken) = body_line(alloc, heads, &mut entity.body, line) else {
@@ -180,14 +180,14 @@ fn gone_on(
 }
 
 /// Behind the end of an entity.
-fn ended(alloc: Global, registry: Registry, entity: Entity) -> Result<Reader, Wrong>
+fn ended(registry: Registry, entity: Entity) -> Result<Reader, Wrong>
     requires above { model.is_above (written registry) entity.name ≡ true }
     requires free { is_free_name entity.name ≡ true }
     ensures next { IfOk result (λ next. state_of next ≡ model.between (written registry ++ entity_of entity ∷ [])) }
     ensures read { IfOk result IsRead }
     ensures error { IfErr result (λ e. e ≡ Wrong.NoMemory) }
 {
-    let Ok(name) = entity.name.copy(alloc) else {
+    let Ok(name) = entity.name.copy() else {
         drop(entity);
         drop(registry);
         return Err(Wrong::NoMemory);

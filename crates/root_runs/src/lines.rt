@@ -16,7 +16,7 @@ pub fn line_with(alloc: Global, run: &RootRun, text: &str) -> Result<Text, NoMem
 {
     let root = run.root;
     let statement = u64::from(run.place) + 1;
-    Ok(Text::from(format!(in alloc; "{root}.{statement} {text}")?))
+    Text::from_string(format!(in alloc; "{root}.{statement} {text}")?)
 }
 
 /// The statement is over, without a line.

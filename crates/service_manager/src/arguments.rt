@@ -114,7 +114,7 @@ pub fn given(
 fn taken(alloc: Global, param: &Field, arg: &Value) -> Result<Variable, NoMemory>
     ensures { IfOk result (λ x. variable_of x ≡ taken (field_of param.now) (plain_of arg.now)) }
 {
-    let name = param.name.copy(alloc)?;
+    let name = param.name.copy()?;
     let value = whole_or_content(&param.kind, arg).copy(alloc)?;
     Ok(Variable { name, value })
 }
@@ -140,7 +140,7 @@ fn push_rest(
     ensures { OnOk result (behind (variables_of variables.old.items) (rest_filled rest.now (map plain_of left.now)) ≡ Some (variables_of variables.new.items)) }
 {
     let Some(name) = rest else { return Ok(()) };
-    let name = name.copy(alloc)?;
+    let name = name.copy()?;
     let value = list_of_anys(alloc, left)?;
     variables.push(Variable { name, value })?;
     Ok(())

@@ -25,7 +25,7 @@ fn names_of(alloc: Global, services: &[Offer]) -> Result<BTreeSet<String>, NoMem
 {
     let mut names = BTreeSet::new(alloc);
     for service in services {
-        names.insert(service.name.copy(alloc)?.into_string())?;
+        names.insert(String::from_str(alloc, service.name.as_str())?)?;
     }
     Ok(names)
 }

@@ -137,7 +137,7 @@ impl<'a> FunctionRef<'a> {
     pub fn copy(&self, alloc: Global) -> Result<Function, NoMemory>
         ensures { IfOk result (λ f. function_of f ≡ lent_function self.now) }
     {
-        let owner = self.owner().copy(alloc)?;
+        let owner = self.owner().copy()?;
         let name = prefixed(alloc, self.prefix(), self.member_name())?;
         let raises = copy_names(alloc, self.raises())?;
         let params = parameters(alloc, self)?;
@@ -185,7 +185,7 @@ fn parameters(alloc: Global, function: &FunctionRef) -> Result<Vec<Param>, NoMem
 fn written_alone(alloc: Global, attribute: &Attribute) -> Result<Vec<Param>, NoMemory>
     ensures { IfOk result (λ params. map param_of params.items ≡ record { way = Way.Into; name = (attribute_of attribute.now).name; kind = (attribute_of attribute.now).kind } ∷ []) }
 {
-    let name = attribute.name.copy(alloc)?;
+    let name = attribute.name.copy()?;
     let kind = attribute.kind.copy(alloc)?;
     let mut params = Vec::new(alloc);
     params.push(Param {

@@ -3,6 +3,7 @@ pub mod Counts
 pub mod Entities
 pub mod ErrorTexts
 pub mod Finding
+pub mod Hashing
 pub mod Marks
 pub mod Reaching
 pub mod Spreading

@@ -12,7 +12,7 @@ pub fn copy_names(alloc: Global, names: &[Name]) -> Result<Vec<Name>, NoMemory>
 {
     let mut copies = Vec::new(alloc);
     for name in names {
-        copies.push(name.copy(alloc)?)?;
+        copies.push(name.copy()?)?;
     }
     Ok(copies)
 }
@@ -31,7 +31,7 @@ pub fn copy_params(alloc: Global, params: &[Param]) -> Result<Vec<Param>, NoMemo
 fn copy_param(alloc: Global, param: &Param) -> Result<Param, NoMemory>
     ensures { IfOk result (λ copy. param_of copy ≡ param_of param.now) }
 {
-    let name = param.name.copy(alloc)?;
+    let name = param.name.copy()?;
     let kind = param.kind.copy(alloc)?;
     Ok(Param {
         way: param.way,

@@ -113,7 +113,6 @@ pub enum Singleton {
 }
 
 /// What an entity is.
-#[derive(Drop)]
 pub enum Body {
     Interface {
         bases: Vec<Base>,
@@ -138,6 +137,30 @@ pub enum Body {
     },
     Service(Service),
     Singleton(Singleton),
+}
+
+impl Drop for Body {
+    fn drop(self) {
+        match self {
+            Body::Interface { bases, members } => {
+                drop(bases);
+                drop(members);
+            }
+            Body::Struct { base, members } => {
+                drop(base);
+                drop(members);
+            }
+            Body::Exception { base, members } => {
+                drop(base);
+                drop(members);
+            }
+            Body::Enum { items } => drop(items),
+            Body::Constants { constants } => drop(constants),
+            Body::Typedef { kind } => drop(kind),
+            Body::Service(service) => drop(service),
+            Body::Singleton(singleton) => drop(singleton),
+        }
+    }
 }
 
 /// A name with what it stands for.

@@ -24,7 +24,7 @@ pub fn copy_entities(alloc: Global, entities: &[Entity]) -> Result<Vec<Entity>, 
 fn copy_entity(alloc: Global, entity: &Entity) -> Result<Entity, NoMemory>
     ensures { IfOk result (λ copy. entity_of copy ≡ entity_of entity.now) }
 {
-    let name = entity.name.copy(alloc)?;
+    let name = entity.name.copy()?;
     let body = copy_body(alloc, &entity.body)?;
     Ok(Entity {
         name,
@@ -47,7 +47,7 @@ fn copy_body(alloc: Global, body: &Body) -> Result<Body, NoMemory>
             Ok(Body::Typedef { kind })
         }
         Body::Service(service) => copy_service(alloc, service),
-        Body::Singleton(singleton) => copy_singleton(alloc, singleton),
+        Body::Singleton(singleton) => copy_singleton(singleton),
     }
 }
 
@@ -62,7 +62,7 @@ fn copy_interface(alloc: Global, bases: &[Base], members: &[Member]) -> Result<B
 fn copy_struct(alloc: Global, base: &Option<Name>, members: &[Field]) -> Result<Body, NoMemory>
     ensures { IfOk result (λ copy. body_of copy ≡ plain.struct base.now (map field_of members.now)) }
 {
-    let base = copy_name_if_any(alloc, base)?;
+    let base = copy_name_if_any(base)?;
     let members = copy_fields(alloc, members)?;
     Ok(Body::Struct { base, members })
 }
@@ -70,16 +70,16 @@ fn copy_struct(alloc: Global, base: &Option<Name>, members: &[Field]) -> Result<
 fn copy_exception(alloc: Global, base: &Option<Name>, members: &[Field]) -> Result<Body, NoMemory>
     ensures { IfOk result (λ copy. body_of copy ≡ plain.exception base.now (map field_of members.now)) }
 {
-    let base = copy_name_if_any(alloc, base)?;
+    let base = copy_name_if_any(base)?;
     let members = copy_fields(alloc, members)?;
     Ok(Body::Exception { base, members })
 }
 
-fn copy_name_if_any(alloc: Global, name: &Option<Name>) -> Result<Option<Name>, NoMemory>
+fn copy_name_if_any(name: &Option<Name>) -> Result<Option<Name>, NoMemory>
     ensures { IfOk result (λ copy. copy ≡ name.now) }
 {
     match name {
-        Some(name) => Ok(Some(name.copy(alloc)?)),
+        Some(name) => Ok(Some(name.copy()?)),
         None => Ok(None),
     }
 }
@@ -97,7 +97,7 @@ fn copy_fields(alloc: Global, fields: &[Field]) -> Result<Vec<Field>, NoMemory>
 fn copy_field(alloc: Global, field: &Field) -> Result<Field, NoMemory>
     ensures { IfOk result (λ copy. field_of copy ≡ field_of field.now) }
 {
-    let name = field.name.copy(alloc)?;
+    let name = field.name.copy()?;
     let kind = field.kind.copy(alloc)?;
     Ok(Field { name, kind })
 }
@@ -107,15 +107,15 @@ fn copy_bases(alloc: Global, bases: &[Base]) -> Result<Vec<Base>, NoMemory>
 {
     let mut copies = Vec::new(alloc);
     for base in bases {
-        copies.push(copy_base(alloc, base)?)?;
+        copies.push(copy_base(base)?)?;
     }
     Ok(copies)
 }
 
-fn copy_base(alloc: Global, base: &Base) -> Result<Base, NoMemory>
+fn copy_base(base: &Base) -> Result<Base, NoMemory>
     ensures { IfOk result (λ copy. base_of copy ≡ base_of base.now) }
 {
-    let name = base.name.copy(alloc)?;
+    let name = base.name.copy()?;
     Ok(Base {
         optional: base.optional,
         name,
@@ -144,7 +144,7 @@ fn copy_member(alloc: Global, member: &Member) -> Result<Member, NoMemory>
 fn copy_attribute(alloc: Global, attribute: &Attribute) -> Result<Attribute, NoMemory>
     ensures { IfOk result (λ copy. attribute_of copy ≡ attribute_of attribute.now) }
 {
-    let name = attribute.name.copy(alloc)?;
+    let name = attribute.name.copy()?;
     let kind = attribute.kind.copy(alloc)?;
     let get_raises = copy_names(alloc, &attribute.get_raises)?;
     let set_raises = copy_names(alloc, &attribute.set_raises)?;
@@ -160,7 +160,7 @@ fn copy_attribute(alloc: Global, attribute: &Attribute) -> Result<Attribute, NoM
 fn copy_method(alloc: Global, method: &Method) -> Result<Method, NoMemory>
     ensures { IfOk result (λ copy. method_of copy ≡ method_of method.now) }
 {
-    let name = method.name.copy(alloc)?;
+    let name = method.name.copy()?;
     let result = method.result.copy(alloc)?;
     let params = copy_params(alloc, &method.params)?;
     let raises = copy_names(alloc, &method.raises)?;
@@ -178,15 +178,15 @@ fn copy_enum(alloc: Global, items: &[Item]) -> Result<Body, NoMemory>
 {
     let mut copies = Vec::new(alloc);
     for item in items {
-        copies.push(copy_item(alloc, item)?)?;
+        copies.push(copy_item(item)?)?;
     }
     Ok(Body::Enum { items: copies })
 }
 
-fn copy_item(alloc: Global, item: &Item) -> Result<Item, NoMemory>
+fn copy_item(item: &Item) -> Result<Item, NoMemory>
     ensures { IfOk result (λ copy. item_of copy ≡ item_of item.now) }
 {
-    let name = item.name.copy(alloc)?;
+    let name = item.name.copy()?;
     Ok(Item {
         name,
         number: item.number,
@@ -206,7 +206,7 @@ fn copy_constants(alloc: Global, constants: &[Constant]) -> Result<Body, NoMemor
 fn copy_constant(alloc: Global, constant: &Constant) -> Result<Constant, NoMemory>
     ensures { IfOk result (λ copy. constant_of copy ≡ constant_of constant.now) }
 {
-    let name = constant.name.copy(alloc)?;
+    let name = constant.name.copy()?;
     let kind = constant.kind.copy(alloc)?;
     Ok(Constant {
         name,
@@ -231,7 +231,7 @@ fn copy_new_service(
 ) -> Result<Body, NoMemory>
     ensures { IfOk result (λ copy. body_of copy ≡ plain.new_service base.now (map constructor_of constructors.now)) }
 {
-    let base = base.copy(alloc)?;
+    let base = base.copy()?;
     let constructors = copy_constructors(alloc, constructors)?;
     Ok(Body::Service(Service::New { base, constructors }))
 }
@@ -252,9 +252,9 @@ fn copy_constructors(
 fn copy_constructor(alloc: Global, constructor: &Constructor) -> Result<Constructor, NoMemory>
     ensures { IfOk result (λ copy. constructor_of copy ≡ constructor_of constructor.now) }
 {
-    let name = constructor.name.copy(alloc)?;
+    let name = constructor.name.copy()?;
     let params = copy_fields(alloc, &constructor.params)?;
-    let rest = copy_name_if_any(alloc, &constructor.rest)?;
+    let rest = copy_name_if_any(&constructor.rest)?;
     let raises = copy_names(alloc, &constructor.raises)?;
     Ok(Constructor {
         name,
@@ -280,30 +280,30 @@ fn copy_part(alloc: Global, part: &Part) -> Result<Part, NoMemory>
     match part {
         Part::Interface { optional, name } => Ok(Part::Interface {
             optional: *optional,
-            name: name.copy(alloc)?,
+            name: name.copy()?,
         }),
         Part::Service { optional, name } => Ok(Part::Service {
             optional: *optional,
-            name: name.copy(alloc)?,
+            name: name.copy()?,
         }),
         Part::Property { name, flags, kind } => Ok(Part::Property {
-            name: name.copy(alloc)?,
+            name: name.copy()?,
             flags: *flags,
             kind: kind.copy(alloc)?,
         }),
     }
 }
 
-fn copy_singleton(alloc: Global, singleton: &Singleton) -> Result<Body, NoMemory>
+fn copy_singleton(singleton: &Singleton) -> Result<Body, NoMemory>
     ensures { IfOk result (λ copy. body_of copy ≡ singleton_of singleton.now) }
 {
     match singleton {
         Singleton::New { base } => {
-            let base = base.copy(alloc)?;
+            let base = base.copy()?;
             Ok(Body::Singleton(Singleton::New { base }))
         }
         Singleton::Old { service } => {
-            let service = service.copy(alloc)?;
+            let service = service.copy()?;
             Ok(Body::Singleton(Singleton::Old { service }))
         }
     }

@@ -1,31 +1,57 @@
 //! The name of an entity, of a member, of a parameter.
-ghost use Rattle.std.specs.Prelude.{◌≡◌, ◌↔◌, IfOk, IsTrue, string_bytes};
+ghost use Rattle.std.specs.Prelude.{◌≡◌, ◌↔◌, IfOk, IsTrue};
 
 use std::alloc::Global;
+use std::hash::{Hash, Hasher};
 use std::marker::Model;
+use std::sync::ArcStr;
 use uno_base::NoMemory;
 
-/// A name: that its bytes are an identifier, or several joined by points, is for the registry to say.
+/// A name, whose text its copies share: that its bytes are an identifier, or several joined by points, is for the registry to say.
 #[derive(Drop)]
 pub struct Name {
-    text: String,
+    text: ArcStr<Global>,
 }
 
 impl Model for Name {
-    ghost use Rattle.std.specs.Prelude.{ℕ, List, string_bytes};
+    ghost use Rattle.std.specs.Prelude.{ℕ, List};
+    ghost use Rattle.std.specs.Arc.{arc_str_bytes};
 
     ghost Value = { List ℕ };
 
-    ghost view = { λ n. string_bytes n.text };
+    ghost view = { λ n. arc_str_bytes n.text };
 }
 
-impl From<String> for Name {
-    ghost use Rattle.std.specs.Prelude.{◌≡◌, string_bytes};
+impl PartialEq for Name {
+    ghost use Rattle.std.specs.Prelude.{nat_eq};
+    ghost use Rattle.std.specs.Cmp.{partial_equiv_from_equiv};
+    ghost use Rattle.std.specs.Cmp.Lexicographic.{pointwise, nat_list_eq_equiv};
 
-    ghost from_gives = { λ text n. n ≡ string_bytes text };
+    ghost eq = { pointwise nat_eq };
 
-    fn from(text: String) -> Name {
-        Name { text }
+    ghost laws = { partial_equiv_from_equiv nat_list_eq_equiv };
+
+    fn eq(&self, other: &Name) -> bool {
+        self.as_str() == other.as_str()
+    }
+}
+
+impl Eq for Name {
+    ghost use Rattle.std.specs.Cmp.Lexicographic.{nat_list_eq_equiv};
+
+    ghost laws = { nat_list_eq_equiv };
+}
+
+impl Hash for Name {
+    ghost use Rattle.std.specs.Hash as fed;
+    ghost use Rattle.uno_entities.specs.Hashing.{hashed_alike};
+
+    ghost hash_input = { fed.str };
+
+    ghost respects_eq = { hashed_alike };
+
+    fn hash<H: Hasher>(&self, state: &mut H) {
+        self.as_str().hash(state);
     }
 }
 
@@ -34,7 +60,7 @@ impl Name {
     pub fn of(alloc: Global, text: &str) -> Result<Name, NoMemory>
         ensures { IfOk result (λ name. name ≡ text.now) }
     {
-        let text = String::from_str(alloc, text)?;
+        let text = ArcStr::from_str(alloc, text)?;
         Ok(Name { text })
     }
 
@@ -45,19 +71,12 @@ impl Name {
         self.text.as_str()
     }
 
-    /// Its text, given back.
-    pub fn into_string(self) -> String
-        ensures { string_bytes result ≡ self }
-    {
-        let Name { text } = self;
-        text
-    }
-
-    /// An equal name.
-    pub fn copy(&self, alloc: Global) -> Result<Name, NoMemory>
+    /// An equal name, which takes no memory.
+    pub fn copy(&self) -> Result<Name, NoMemory>
         ensures { IfOk result (λ name. name ≡ self.now) }
     {
-        Name::of(alloc, self.as_str())
+        let text = self.text.clone()?;
+        Ok(Name { text })
     }
 
     /// Whether the other is the same name.

@@ -4,30 +4,56 @@ ghost use Rattle.uno_model.specs.Fits.{IsIdentity};
 
 use crate::MOST_BYTES;
 use std::alloc::Global;
+use std::hash::{Hash, Hasher};
 use std::marker::Model;
+use std::sync::ArcStr;
 use uno_base::NoMemory;
 
-/// A text, as the bytes of its UTF-8.
+/// A text, as the bytes of its UTF-8, which its copies share.
 #[derive(Drop)]
 pub struct Text {
-    text: String,
+    text: ArcStr<Global>,
 }
 
 impl Model for Text {
-    ghost use Rattle.std.specs.Prelude.{ℕ, List, string_bytes};
+    ghost use Rattle.std.specs.Prelude.{ℕ, List};
+    ghost use Rattle.std.specs.Arc.{arc_str_bytes};
 
     ghost Value = { List ℕ };
 
-    ghost view = { λ t. string_bytes t.text };
+    ghost view = { λ t. arc_str_bytes t.text };
 }
 
-impl From<String> for Text {
-    ghost use Rattle.std.specs.Prelude.{◌≡◌, string_bytes};
+impl PartialEq for Text {
+    ghost use Rattle.std.specs.Prelude.{nat_eq};
+    ghost use Rattle.std.specs.Cmp.{partial_equiv_from_equiv};
+    ghost use Rattle.std.specs.Cmp.Lexicographic.{pointwise, nat_list_eq_equiv};
 
-    ghost from_gives = { λ text t. t ≡ string_bytes text };
+    ghost eq = { pointwise nat_eq };
 
-    fn from(text: String) -> Text {
-        Text { text }
+    ghost laws = { partial_equiv_from_equiv nat_list_eq_equiv };
+
+    fn eq(&self, other: &Text) -> bool {
+        self.as_str() == other.as_str()
+    }
+}
+
+impl Eq for Text {
+    ghost use Rattle.std.specs.Cmp.Lexicographic.{nat_list_eq_equiv};
+
+    ghost laws = { nat_list_eq_equiv };
+}
+
+impl Hash for Text {
+    ghost use Rattle.std.specs.Hash as fed;
+    ghost use Rattle.uno_entities.specs.Hashing.{hashed_alike};
+
+    ghost hash_input = { fed.str };
+
+    ghost respects_eq = { hashed_alike };
+
+    fn hash<H: Hasher>(&self, state: &mut H) {
+        self.as_str().hash(state);
     }
 }
 
@@ -36,7 +62,15 @@ impl Text {
     pub fn of(alloc: Global, text: &str) -> Result<Text, NoMemory>
         ensures { IfOk result (λ copy. copy ≡ text.now) }
     {
-        let text = String::from_str(alloc, text)?;
+        let text = ArcStr::from_str(alloc, text)?;
+        Ok(Text { text })
+    }
+
+    /// The text that a string holds.
+    pub fn from_string(text: String) -> Result<Text, NoMemory>
+        ensures { IfOk result (λ it. it ≡ string_bytes text) }
+    {
+        let text = ArcStr::from_string(text)?;
         Ok(Text { text })
     }
 
@@ -47,19 +81,12 @@ impl Text {
         self.text.as_str()
     }
 
-    /// Its text, given back.
-    pub fn into_string(self) -> String
-        ensures { string_bytes result ≡ self }
-    {
-        let Text { text } = self;
-        text
-    }
-
-    /// An equal text.
-    pub fn copy(&self, alloc: Global) -> Result<Text, NoMemory>
+    /// An equal text, which takes no memory.
+    pub fn copy(&self) -> Result<Text, NoMemory>
         ensures { IfOk result (λ copy. copy ≡ self.now) }
     {
-        Text::of(alloc, self.as_str())
+        let text = self.text.clone()?;
+        Ok(Text { text })
     }
 
     /// Whether it may be the identity of an object: 1 to 4,096 bytes.

@@ -3,30 +3,22 @@ ghost use Rattle.std.specs.Prelude.{◌≡◌, IfOk};
 
 use std::alloc::Global;
 use std::marker::Model;
+use std::sync::ArcSlice;
 use uno_base::NoMemory;
 
-/// The bytes that name a chain of calls; each end takes them as they came.
+/// The bytes that name a chain of calls, which copies share; each end takes them as they came.
 #[derive(Drop)]
 pub struct Tid {
-    bytes: Vec<u8>,
+    bytes: ArcSlice<u8, Global>,
 }
 
 impl Model for Tid {
     ghost use Rattle.std.specs.Prelude.{ℕ, List};
+    ghost use Rattle.std.specs.Arc.{arc_slice_items};
 
     ghost Value = { List ℕ };
 
-    ghost view = { λ t. t.bytes.items };
-}
-
-impl From<Vec<u8>> for Tid {
-    ghost use Rattle.std.specs.Prelude.{◌≡◌};
-
-    ghost from_gives = { λ bytes t. t ≡ bytes.items };
-
-    fn from(bytes: Vec<u8>) -> Tid {
-        Tid { bytes }
-    }
+    ghost view = { λ t. arc_slice_items t.bytes };
 }
 
 impl Tid {
@@ -34,7 +26,7 @@ impl Tid {
     pub fn of(alloc: Global, bytes: &[u8]) -> Result<Tid, NoMemory>
         ensures { IfOk result (λ tid. tid ≡ bytes.now) }
     {
-        let bytes = Vec::from_slice(alloc, bytes)?;
+        let bytes = ArcSlice::from_slice(alloc, bytes)?;
         Ok(Tid { bytes })
     }
 
@@ -45,18 +37,11 @@ impl Tid {
         self.bytes.as_slice()
     }
 
-    /// Its bytes, given back.
-    pub fn into_bytes(self) -> Vec<u8>
-        ensures { result.items ≡ self }
-    {
-        let Tid { bytes } = self;
-        bytes
-    }
-
-    /// An equal identity.
-    pub fn copy(&self, alloc: Global) -> Result<Tid, NoMemory>
+    /// An equal identity, which takes no memory.
+    pub fn copy(&self) -> Result<Tid, NoMemory>
         ensures { IfOk result (λ tid. tid ≡ self.now) }
     {
-        Tid::of(alloc, self.as_bytes())
+        let bytes = self.bytes.clone()?;
+        Ok(Tid { bytes })
     }
 }

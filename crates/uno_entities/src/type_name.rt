@@ -1,6 +1,6 @@
 //! The types, as the entities of a registry and the values name them.
-ghost use Rattle.std.specs.Prelude.{◌≡◌, ◌↔◌, ◌++◌, IfOk, OnOk, IsTrue};
-ghost use Rattle.uno_model.specs.Kinds.{name_of};
+ghost use Rattle.std.specs.Prelude.{◌≡◌, ◌↔◌, ◌++◌, IfOk, OnOk, IsTrue, option_map};
+ghost use Rattle.uno_model.specs.Kinds.{name_of, interface_of, exception_of};
 ghost use Rattle.uno_model.specs.Kinds as kd;
 ghost use Rattle.uno_model.specs.TypeClasses.{class_of};
 ghost use Rattle.uno_entities.specs.TypeNames.{kind_of, front_of, innermost, IsNamed};
@@ -11,7 +11,6 @@ use uno_base::NoMemory;
 use uno_model::TypeClass;
 
 /// A type, by its own word or by the name of its entity.
-#[derive(Drop)]
 pub enum TypeName {
     Void,
     Char,
@@ -31,6 +30,37 @@ pub enum TypeName {
     Exception(Name),
     Interface(Name),
     Sequence(Box<TypeName>),
+}
+
+impl Drop for TypeName {
+    /// Goes over the sequences in a loop, so that deep ones take no stack.
+    fn drop(mut self) {
+        loop {
+            match self {
+                TypeName::Void
+                | TypeName::Char
+                | TypeName::Boolean
+                | TypeName::Byte
+                | TypeName::Short
+                | TypeName::UnsignedShort
+                | TypeName::Long
+                | TypeName::UnsignedLong
+                | TypeName::Hyper
+                | TypeName::UnsignedHyper
+                | TypeName::Str
+                | TypeName::Kind
+                | TypeName::Any => return,
+                TypeName::Enum(name)
+                | TypeName::Struct(name)
+                | TypeName::Exception(name)
+                | TypeName::Interface(name) => {
+                    drop(name);
+                    return;
+                }
+                TypeName::Sequence(inner) => self = Box::into_inner(inner),
+            }
+        }
+    }
 }
 
 impl TypeName {
@@ -111,10 +141,10 @@ impl TypeName {
             TypeName::Str => Ok(TypeName::Str),
             TypeName::Kind => Ok(TypeName::Kind),
             TypeName::Any => Ok(TypeName::Any),
-            TypeName::Enum(name) => Ok(TypeName::Enum(name.copy(alloc)?)),
-            TypeName::Struct(name) => Ok(TypeName::Struct(name.copy(alloc)?)),
-            TypeName::Exception(name) => Ok(TypeName::Exception(name.copy(alloc)?)),
-            TypeName::Interface(name) => Ok(TypeName::Interface(name.copy(alloc)?)),
+            TypeName::Enum(name) => Ok(TypeName::Enum(name.copy()?)),
+            TypeName::Struct(name) => Ok(TypeName::Struct(name.copy()?)),
+            TypeName::Exception(name) => Ok(TypeName::Exception(name.copy()?)),
+            TypeName::Interface(name) => Ok(TypeName::Interface(name.copy()?)),
             TypeName::Sequence(inner) => TypeName::sequence(alloc, inner.copy(alloc)?),
         }
     }
@@ -128,6 +158,84 @@ impl TypeName {
             kind = inner;
         }
         kind
+    }
+
+    /// The name of the interface that it is.
+    pub fn interface(&self) -> Option<&Name>
+        ensures { option_map (λ name. name.now) result ≡ interface_of (kind_of self.now) }
+    {
+        match self {
+            TypeName::Interface(name) => Some(name),
+            TypeName::Void
+            | TypeName::Char
+            | TypeName::Boolean
+            | TypeName::Byte
+            | TypeName::Short
+            | TypeName::UnsignedShort
+            | TypeName::Long
+            | TypeName::UnsignedLong
+            | TypeName::Hyper
+            | TypeName::UnsignedHyper
+            | TypeName::Str
+            | TypeName::Kind
+            | TypeName::Any
+            | TypeName::Enum(_)
+            | TypeName::Struct(_)
+            | TypeName::Exception(_)
+            | TypeName::Sequence(_) => None,
+        }
+    }
+
+    /// The name of the interface that it is, given away.
+    pub fn into_interface(self) -> Option<Name>
+        ensures { result ≡ interface_of (kind_of self) }
+    {
+        match self {
+            TypeName::Interface(name) => Some(name),
+            TypeName::Void
+            | TypeName::Char
+            | TypeName::Boolean
+            | TypeName::Byte
+            | TypeName::Short
+            | TypeName::UnsignedShort
+            | TypeName::Long
+            | TypeName::UnsignedLong
+            | TypeName::Hyper
+            | TypeName::UnsignedHyper
+            | TypeName::Str
+            | TypeName::Kind
+            | TypeName::Any
+            | TypeName::Enum(_)
+            | TypeName::Struct(_)
+            | TypeName::Exception(_)
+            | TypeName::Sequence(_) => None,
+        }
+    }
+
+    /// The name of the exception that it is, given away.
+    pub fn into_exception(self) -> Option<Name>
+        ensures { result ≡ exception_of (kind_of self) }
+    {
+        match self {
+            TypeName::Exception(name) => Some(name),
+            TypeName::Void
+            | TypeName::Char
+            | TypeName::Boolean
+            | TypeName::Byte
+            | TypeName::Short
+            | TypeName::UnsignedShort
+            | TypeName::Long
+            | TypeName::UnsignedLong
+            | TypeName::Hyper
+            | TypeName::UnsignedHyper
+            | TypeName::Str
+            | TypeName::Kind
+            | TypeName::Any
+            | TypeName::Enum(_)
+            | TypeName::Struct(_)
+            | TypeName::Interface(_)
+            | TypeName::Sequence(_) => None,
+        }
     }
 
     /// Adds its name to a text.

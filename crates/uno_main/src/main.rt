@@ -1,7 +1,6 @@
 //! The program `uno`: the process's words and streams, handed to the top call.
 #![tactic(auto)]
 
-use std::alloc::Global;
 use std::process::ExitCode;
 use std::{env, io};
 use uno_io::{StdFiles, StdSink, StdSource};

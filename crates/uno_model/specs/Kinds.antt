@@ -1,5 +1,5 @@
 -- Types as plain trees, and their names (Developer's Guide, Professional UNO, 'Using the types of UNOIDL').
-use Rattle.std.specs.Prelude.{ℕ, suc, ◌≤◌, List, ◌++◌, length, codes}
+use Rattle.std.specs.Prelude.{ℕ, suc, ◌≤◌, List, ◌++◌, length, codes, Option, None, Some}
 
 -- the simple types, the entities that are types, and sequences
 pub data Kind : Type 0 where
@@ -42,6 +42,16 @@ name_of (struct name) = name
 name_of (exception name) = name
 name_of (interface name) = name
 name_of (sequence k) = codes "[]" ++ name_of k
+
+-- the name of the interface that a type is
+abbrev pub interface_of : Kind → Option (List ℕ)
+interface_of (interface name) = Some name
+interface_of _ = None
+
+-- the name of the exception that a type is
+abbrev pub exception_of : Kind → Option (List ℕ)
+exception_of (exception name) = Some name
+exception_of _ = None
 
 -- how many sequences stand round the innermost type
 abbrev pub nesting : Kind → ℕ

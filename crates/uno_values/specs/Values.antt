@@ -1,7 +1,7 @@
 -- Values as plain trees.
-use Rattle.std.specs.Prelude.{List, map}
+use Rattle.std.specs.Prelude.{List, map, Option, None, Some}
 use Rattle.uno_model.specs.Kinds.{Kind}
-use Rattle.uno_model.specs.Values.{Plain, Plains, plains, void, char, boolean, byte, short, unsigned_short, long}
+use Rattle.uno_model.specs.Values.{Ref, null, Plain, Plains, plains, void, char, boolean, byte, short, unsigned_short, long}
 use Rattle.uno_model.specs.Values.{unsigned_long, hyper, unsigned_hyper, str, kind, any, enum, tuple, list, bytes, ref}
 use Rattle.uno_entities.specs.TypeNames.{kind_of}
 use Rattle.uno_values.specs.References.{ref_of}
@@ -43,3 +43,13 @@ any_of = fold-AnyValue Plain (Kind × Plain) plain_step any_step
 
 abbrev pub plains_of : List Value → Plains
 plains_of vs = plains (map plain_of vs)
+
+-- what an any holds, with its type
+abbrev pub any_in : Plain → Option (Kind × Plain)
+any_in (any k x) = Some (k, x)
+any_in x = None
+
+-- the reference that a value is, null where it is none
+abbrev pub reference_in : Plain → Ref
+reference_in (ref r) = r
+reference_in x = null

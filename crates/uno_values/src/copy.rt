@@ -24,14 +24,14 @@ impl Value {
             Value::UnsignedLong(number) => Ok(Value::UnsignedLong(*number)),
             Value::Hyper(number) => Ok(Value::Hyper(*number)),
             Value::UnsignedHyper(number) => Ok(Value::UnsignedHyper(*number)),
-            Value::Str(text) => Ok(Value::Str(text.copy(alloc)?)),
+            Value::Str(text) => Ok(Value::Str(text.copy()?)),
             Value::Kind(kind) => Ok(Value::Kind(kind.copy(alloc)?)),
             Value::Any(any) => any_holding(alloc, any.copy(alloc)?),
-            Value::Enum(name, number) => item_of(alloc, name, *number),
-            Value::Tuple(name, members) => tuple_of(alloc, name, copy_all(members, alloc)?),
+            Value::Enum(name, number) => item_of(name, *number),
+            Value::Tuple(name, members) => tuple_of(name, copy_all(members, alloc)?),
             Value::List(kind, elements) => list_of(alloc, kind, copy_all(elements, alloc)?),
             Value::Bytes(bytes) => Ok(Value::Bytes(Vec::from_slice(alloc, bytes)?)),
-            Value::Ref(reference) => Ok(Value::Ref(reference.copy(alloc)?)),
+            Value::Ref(reference) => Ok(Value::Ref(reference.copy()?)),
         }
     }
 }

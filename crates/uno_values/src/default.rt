@@ -54,7 +54,7 @@ fn default_within(
         TypeName::Str => Ok(Value::Str(Text::of(alloc, "")?)),
         TypeName::Kind => Ok(Value::Kind(TypeName::Void)),
         TypeName::Any => default_any(alloc),
-        TypeName::Enum(name) => item_of(alloc, name, first_number(registry, name.as_str())),
+        TypeName::Enum(name) => item_of(name, first_number(registry, name.as_str())),
         TypeName::Struct(name) => default_tuple(alloc, registry, name, depth),
         TypeName::Exception(name) => default_tuple(alloc, registry, name, depth),
         TypeName::Interface(_) => Ok(Value::Ref(Reference::Null)),
@@ -124,7 +124,7 @@ fn default_tuple(
     };
     let fields = registry.members(alloc, name.as_str())?;
     let members = defaults_of(alloc, registry, &fields, inner)?;
-    Ok(tuple_of(alloc, name, members)?)
+    Ok(tuple_of(name, members)?)
 }
 
 /// The default of each member.

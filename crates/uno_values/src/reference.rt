@@ -2,7 +2,6 @@
 ghost use Rattle.std.specs.Prelude.{◌≡◌, IfOk};
 ghost use Rattle.uno_values.specs.References.{ref_of};
 
-use std::alloc::Global;
 use uno_base::NoMemory;
 use uno_types::{Name, Text};
 
@@ -17,20 +16,20 @@ pub enum Reference {
 }
 
 impl Reference {
-    /// An equal reference.
-    pub fn copy(&self, alloc: Global) -> Result<Reference, NoMemory>
+    /// An equal reference, which takes no memory.
+    pub fn copy(&self) -> Result<Reference, NoMemory>
         ensures { IfOk result (λ copy. ref_of copy ≡ ref_of self.now) }
     {
         match self {
             Reference::Null => Ok(Reference::Null),
             Reference::Local { oid, face } => {
-                let oid = oid.copy(alloc)?;
-                let face = face.copy(alloc)?;
+                let oid = oid.copy()?;
+                let face = face.copy()?;
                 Ok(Reference::Local { oid, face })
             }
             Reference::Remote { oid, face } => {
-                let oid = oid.copy(alloc)?;
-                let face = face.copy(alloc)?;
+                let oid = oid.copy()?;
+                let face = face.copy()?;
                 Ok(Reference::Remote { oid, face })
             }
         }

@@ -13,20 +13,20 @@ pub fn refs_of(alloc: Global, value: &Value) -> Result<Vec<Reference>, NoMemory>
     ensures { IfOk result (λ found. map ref_of found.items ≡ refs (plain_of value.now)) }
 {
     let mut found = Vec::new(alloc);
-    push_refs(&mut found, alloc, value)?;
+    push_refs(&mut found, value)?;
     Ok(found)
 }
 
 #[cycle(refs)]
 #[tactic(auto, unfolding(uno_model::specs::Values::refs, uno_model::specs::Values::refs_in))]
-fn push_refs(found: &mut Vec<Reference>, alloc: Global, value: &Value) -> Result<(), NoMemory>
+fn push_refs(found: &mut Vec<Reference>, value: &Value) -> Result<(), NoMemory>
     ensures { OnOk result (map ref_of found.new.items ≡ map ref_of found.old.items ++ refs (plain_of value.now)) }
 {
     match value {
-        Value::Any(any) => push_any(found, alloc, any),
-        Value::Tuple(_, members) => push_all(found, alloc, members),
-        Value::List(_, elements) => push_all(found, alloc, elements),
-        Value::Ref(reference) => push_held(found, alloc, reference),
+        Value::Any(any) => push_any(found, any),
+        Value::Tuple(_, members) => push_all(found, members),
+        Value::List(_, elements) => push_all(found, elements),
+        Value::Ref(reference) => push_held(found, reference),
         Value::Void
         | Value::Char(_)
         | Value::Boolean(_)
@@ -46,35 +46,31 @@ fn push_refs(found: &mut Vec<Reference>, alloc: Global, value: &Value) -> Result
 
 #[cycle(refs)]
 #[tactic(auto, unfolding(uno_model::specs::Values::refs, uno_model::specs::Values::refs_in))]
-fn push_any(found: &mut Vec<Reference>, alloc: Global, any: &AnyValue) -> Result<(), NoMemory>
+fn push_any(found: &mut Vec<Reference>, any: &AnyValue) -> Result<(), NoMemory>
     ensures { OnOk result (map ref_of found.new.items ≡ map ref_of found.old.items ++ refs (plain_of any.now.value)) }
 {
-    push_refs(found, alloc, &any.value)
+    push_refs(found, &any.value)
 }
 
 #[cycle(refs)]
 #[tactic(auto, unfolding(uno_model::specs::Values::refs, uno_model::specs::Values::refs_in))]
-fn push_all(found: &mut Vec<Reference>, alloc: Global, values: &[Value]) -> Result<(), NoMemory>
+fn push_all(found: &mut Vec<Reference>, values: &[Value]) -> Result<(), NoMemory>
     ensures { OnOk result (map ref_of found.new.items ≡ map ref_of found.old.items ++ refs_in (plains_of values.now)) }
 {
     for value in values {
-        push_refs(found, alloc, value)?;
+        push_refs(found, value)?;
     }
     Ok(())
 }
 
 /// The reference itself, where it is not null.
-fn push_held(
-    found: &mut Vec<Reference>,
-    alloc: Global,
-    reference: &Reference,
-) -> Result<(), NoMemory>
+fn push_held(found: &mut Vec<Reference>, reference: &Reference) -> Result<(), NoMemory>
     ensures { OnOk result (map ref_of found.new.items ≡ map ref_of found.old.items ++ object_in (ref_of reference.now)) }
 {
     if matches!(reference, Reference::Null) {
         return Ok(());
     }
-    let copy = reference.copy(alloc)?;
+    let copy = reference.copy()?;
     found.push(copy)?;
     Ok(())
 }

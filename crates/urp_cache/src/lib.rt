@@ -5,10 +5,12 @@ mod read_cache;
 mod read_caches;
 mod send_cache;
 mod send_caches;
+mod slot_name;
 mod threads;
 
 pub use read_cache::ReadCache;
 pub use read_caches::ReadCaches;
 pub use send_cache::SendCache;
 pub use send_caches::SendCaches;
+pub use slot_name::SlotName;
 pub use urp_model::Known;

@@ -5,13 +5,14 @@ ghost use Rattle.urp_model.specs.Slots.{no_meanings};
 use crate::ReadCache;
 use std::alloc::Global;
 use uno_base::NoMemory;
+use uno_entities::{Text, Tid};
 
 /// What slots mean, for names of types, for OIDs and for TIDs.
 #[derive(Drop)]
 pub struct ReadCaches {
-    pub types: ReadCache,
-    pub oids: ReadCache,
-    pub tids: ReadCache,
+    pub types: ReadCache<Text>,
+    pub oids: ReadCache<Text>,
+    pub tids: ReadCache<Tid>,
 }
 
 impl ReadCaches {

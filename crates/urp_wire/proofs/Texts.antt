@@ -1,19 +1,17 @@
--- Bytes that are a text, and the names of types, which are.
-use Rattle.std.proofs.Common.{◌≡◌, ℕ, Bool, true, false, List, Option, None, Some, refl}
+-- Bytes that are a text, and the names of types.
+use Rattle.std.proofs.Common.{◌≡◌, ℕ, Bool, true, false, List, None, Some, refl}
 use Rattle.std.specs.Prelude.{◌==◌}
 use Rattle.std.specs.Str.{is_utf8, IsUtf8}
-use Rattle.std.proofs.lemmas.Bool.{and_parts, both_ways, ne_eqb, eq-eqb}
+use Rattle.std.proofs.lemmas.Bool.{ne_eqb, eq-eqb}
 use Rattle.std.proofs.lemmas.Str.{is_utf8-from_IsUtf8, IsUtf8-from_is_utf8}
 use Rattle.uno_model.specs.Entities.{Entity}
-use Rattle.uno_model.specs.Kinds.{Kind, name_of}
+use Rattle.uno_model.specs.Kinds.{Kind}
 use Rattle.uno_model.specs.NamedTypes.{IsNamed}
-use Rattle.uno_model.specs.Sound.{IsSound, kind_known, is_namable}
+use Rattle.uno_model.specs.Sound.{IsSound}
 use Rattle.uno_model.specs.TypeClasses.{class_code, class_of}
-use Rattle.uno_model.specs.Types.{is_formed}
 use Rattle.uno_model.specs.declared.type_class.TypeClass.{TypeClass}
 use Rattle.urp_model.specs.NamedKinds.{kind_named}
-use Rattle.urp_model.proofs.KindLaws.{IsOfClass, kind_named_gives, kind_told}
-use Rattle.urp_model.proofs.Utf8Laws.{name_ascii, is_utf8_ascii}
+use Rattle.urp_model.proofs.KindLaws.{kind_told}
 
 -- what is a text is tested so
 pub text_is : (bytes : List ℕ) → IsUtf8 bytes → is_utf8 bytes ≡ true
@@ -25,19 +23,6 @@ no_text_is bytes is = by_test (is_utf8 bytes) refl
     by_test : (t : Bool) → is_utf8 bytes ≡ t → is_utf8 bytes ≡ false
     by_test true text = absurd (is (IsUtf8-from_is_utf8 bytes text))
     by_test false other = other
-
--- bytes that are no text name no type
-pub no_text_named : (reg : List Entity) (c : TypeClass) (name : List ℕ) → IsSound reg → is_utf8 name ≡ false → kind_named reg c name ≡ None
-no_text_named reg c name sound other = by_found (kind_named reg c name) refl
-  where
-    clash : (k : Kind) → IsOfClass reg c name k → ⊥
-    clash k found =
-        let known = (and_parts (kind_known reg k) _ (and_parts (is_formed reg k) (is_namable k) found.is).0).0 in
-        both_ways (is_utf8 name) other (rw (← found.name_is) (is_utf8_ascii (name_of k) (name_ascii reg k sound.named known)))
-
-    by_found : (o : Option Kind) → kind_named reg c name ≡ o → kind_named reg c name ≡ None
-    by_found None found = found
-    by_found (Some k) found = absurd (clash k (kind_named_gives reg c name k sound.named found))
 
 -- a name that no type has, one of a type of another class, and one of a type of that class
 pub none_named : (reg : List Entity) (c : TypeClass) (name : List ℕ) → IsSound reg → ((k : Kind) → IsNamed reg name k → ⊥) → None ≡ kind_named reg c name

@@ -100,7 +100,7 @@ fn call_on(
     ensures { IfOk result (λ found. option_map call_of found ≡ and_then (typed.result_field registry.now (function_of called) (option_map declared_of to.now)) (typed.call_with (word_of target.now) (function_of called) (map argument_of arguments.items))) }
 {
     match result_field(alloc, registry, &called, to) {
-        Ok(Some(to)) => call_with(alloc, target, called, arguments, to),
+        Ok(Some(to)) => call_with(target, called, arguments, to),
         Ok(None) => {
             drop(called);
             drop(arguments);
@@ -115,7 +115,6 @@ fn call_on(
 }
 
 fn call_with(
-    alloc: Global,
     target: &Word,
     called: Function,
     arguments: Vec<Argument>,
@@ -123,7 +122,7 @@ fn call_with(
 ) -> Result<Option<Call>, NoMemory>
     ensures { IfOk result (λ found. option_map call_of found ≡ typed.call_with (word_of target.now) (function_of called) (map argument_of arguments.items) (option_map field_of to)) }
 {
-    match copy_word(alloc, target) {
+    match copy_word(target) {
         Ok(target) => Ok(Some(Call {
             target,
             callee: callee_of(called),
@@ -202,21 +201,16 @@ pub(crate) fn query_of(
         return Ok(None);
     };
     match face_named(alloc, registry, &declared.kind)? {
-        Some(wanted) => query_for(alloc, target, wanted, &declared.name),
+        Some(wanted) => query_for(target, wanted, &declared.name),
         None => Ok(None),
     }
 }
 
-fn query_for(
-    alloc: Global,
-    target: &Word,
-    wanted: Name,
-    to: &Name,
-) -> Result<Option<Query>, NoMemory>
+fn query_for(target: &Word, wanted: Name, to: &Name) -> Result<Option<Query>, NoMemory>
     ensures { IfOk result (λ found. option_map query_of found ≡ Some (record { target = word_of target.now; wanted = wanted; to = to.now })) }
 {
-    match to.copy(alloc) {
-        Ok(to) => query_to(alloc, target, wanted, to),
+    match to.copy() {
+        Ok(to) => query_to(target, wanted, to),
         Err(error) => {
             drop(wanted);
             Err(error)
@@ -224,10 +218,10 @@ fn query_for(
     }
 }
 
-fn query_to(alloc: Global, target: &Word, wanted: Name, to: Name) -> Result<Option<Query>, NoMemory>
+fn query_to(target: &Word, wanted: Name, to: Name) -> Result<Option<Query>, NoMemory>
     ensures { IfOk result (λ found. option_map query_of found ≡ Some (record { target = word_of target.now; wanted = wanted; to = to })) }
 {
-    match copy_word(alloc, target) {
+    match copy_word(target) {
         Ok(target) => Ok(Some(Query { target, wanted, to })),
         Err(error) => {
             drop(wanted);
@@ -254,7 +248,7 @@ pub(crate) fn making_of(
     };
     let number = number_of(place)?;
     match face_named(alloc, registry, &declared.kind)? {
-        Some(face) => making_for(alloc, registry, context, number, name, face, &declared.name),
+        Some(face) => making_for(registry, context, number, name, face, &declared.name),
         None => Ok(None),
     }
 }
@@ -270,7 +264,6 @@ pub(crate) fn number_of(place: usize) -> Result<u32, NoMemory>
 }
 
 fn making_for(
-    alloc: Global,
     registry: &Registry,
     context: &Context,
     number: u32,
@@ -289,7 +282,7 @@ fn making_for(
         drop(face);
         return Ok(None);
     }
-    match to.copy(alloc) {
+    match to.copy() {
         Ok(to) => Ok(Some(Making {
             behaviour: number,
             face,

@@ -50,8 +50,8 @@ pub(crate) fn root_statement_of(
             Some(making) => Ok(Some(RootStatement::Make(making))),
             None => Ok(None),
         },
-        Line::Drop(name) => Ok(Some(RootStatement::Drop(name.copy(alloc)?))),
-        Line::Same(one, other) => same_of(alloc, one, other),
+        Line::Drop(name) => Ok(Some(RootStatement::Drop(name.copy()?))),
+        Line::Same(one, other) => same_of(one, other),
         Line::Dispose => Ok(Some(RootStatement::Dispose)),
         Line::Behaviour { .. }
         | Line::Field(_)
@@ -70,11 +70,11 @@ pub(crate) fn root_statement_of(
     }
 }
 
-fn same_of(alloc: Global, one: &Name, other: &Name) -> Result<Option<RootStatement>, NoMemory>
+fn same_of(one: &Name, other: &Name) -> Result<Option<RootStatement>, NoMemory>
     ensures { IfOk result (λ found. option_map root_statement_of found ≡ Some (s.same one.now other.now)) }
 {
-    let one = one.copy(alloc)?;
-    match other.copy(alloc) {
+    let one = one.copy()?;
+    match other.copy() {
         Ok(other) => Ok(Some(RootStatement::Same(one, other))),
         Err(error) => {
             drop(one);
@@ -93,21 +93,16 @@ fn ask_of(
     ensures { IfOk result (λ found. option_map root_statement_of found ≡ option_map (λ wanted. s.ask declared.now.name wanted name.now) (face_of_text registry.now declared.now.kind)) }
 {
     match face_named(alloc, registry, &declared.kind)? {
-        Some(wanted) => ask_for(alloc, &declared.name, wanted, name),
+        Some(wanted) => ask_for(&declared.name, wanted, name),
         None => Ok(None),
     }
 }
 
-fn ask_for(
-    alloc: Global,
-    to: &Name,
-    wanted: Name,
-    name: &Text,
-) -> Result<Option<RootStatement>, NoMemory>
+fn ask_for(to: &Name, wanted: Name, name: &Text) -> Result<Option<RootStatement>, NoMemory>
     ensures { IfOk result (λ found. option_map root_statement_of found ≡ Some (s.ask to.now wanted name.now)) }
 {
-    match to.copy(alloc) {
-        Ok(to) => ask_to(alloc, to, wanted, name),
+    match to.copy() {
+        Ok(to) => ask_to(to, wanted, name),
         Err(error) => {
             drop(wanted);
             Err(error)
@@ -115,15 +110,10 @@ fn ask_for(
     }
 }
 
-fn ask_to(
-    alloc: Global,
-    to: Name,
-    wanted: Name,
-    name: &Text,
-) -> Result<Option<RootStatement>, NoMemory>
+fn ask_to(to: Name, wanted: Name, name: &Text) -> Result<Option<RootStatement>, NoMemory>
     ensures { IfOk result (λ found. option_map root_statement_of found ≡ Some (s.ask to wanted name.now)) }
 {
-    match name.copy(alloc) {
+    match name.copy() {
         Ok(name) => Ok(Some(RootStatement::Ask { to, wanted, name })),
         Err(error) => {
             drop(to);
@@ -142,19 +132,15 @@ fn ask_instance_of(
     ensures { IfOk result (λ found. option_map root_statement_of found ≡ option_map (s.ask_instance declared.now.name) (face_of_text registry.now declared.now.kind)) }
 {
     match face_named(alloc, registry, &declared.kind)? {
-        Some(wanted) => ask_instance_for(alloc, &declared.name, wanted),
+        Some(wanted) => ask_instance_for(&declared.name, wanted),
         None => Ok(None),
     }
 }
 
-fn ask_instance_for(
-    alloc: Global,
-    to: &Name,
-    wanted: Name,
-) -> Result<Option<RootStatement>, NoMemory>
+fn ask_instance_for(to: &Name, wanted: Name) -> Result<Option<RootStatement>, NoMemory>
     ensures { IfOk result (λ found. option_map root_statement_of found ≡ Some (s.ask_instance to.now wanted)) }
 {
-    match to.copy(alloc) {
+    match to.copy() {
         Ok(to) => Ok(Some(RootStatement::AskInstance { to, wanted })),
         Err(error) => {
             drop(wanted);

@@ -110,7 +110,7 @@ fn test_at(
     if !is_compared(comparison, kind) {
         return Ok(None);
     }
-    let left = copy_word(alloc, left)?;
+    let left = copy_word(left)?;
     match expression_of(alloc, registry, context, right, kind) {
         Ok(Some(right)) => Ok(Some(Test {
             left,

@@ -74,7 +74,6 @@ pub(crate) fn void_any_at(alloc: Global, kind: &TypeName) -> Result<Option<Expre
 
 /// A word whose type fits.
 pub(crate) fn word_at(
-    alloc: Global,
     registry: &Registry,
     context: &Context,
     kind: &TypeName,
@@ -89,7 +88,7 @@ pub(crate) fn word_at(
     if !kind_fits(registry, kind, from) {
         return Ok(None);
     }
-    Ok(Some(Expression::Word(copy_word(alloc, word)?)))
+    Ok(Some(Expression::Word(copy_word(word)?)))
 }
 
 pub(crate) fn any_of(
@@ -129,14 +128,10 @@ pub(crate) fn sequence_of(
     }
 }
 
-pub(crate) fn tuple_of(
-    alloc: Global,
-    name: &Name,
-    all: Vec<Expression>,
-) -> Result<Option<Expression>, NoMemory>
+pub(crate) fn tuple_of(name: &Name, all: Vec<Expression>) -> Result<Option<Expression>, NoMemory>
     ensures { IfOk result (λ found. option_map expression_of found ≡ Some (e.tuple name.now (expressions_of all.items))) }
 {
-    match name.copy(alloc) {
+    match name.copy() {
         Ok(name) => Ok(Some(Expression::Tuple(name, all))),
         Err(error) => {
             drop(all);

@@ -16,11 +16,14 @@ use crate::remembered::remember;
 use std::alloc::Global;
 use uno_base::NoMemory;
 use uno_types::{Registry, Text, Tid, TypeName};
-use urp_cache::ReadCache;
+use urp_cache::{ReadCache, SlotName};
 use urp_wire::{Reason, WireError, read_kind, read_oid, read_tid};
 
 /// A type, an object or a thread that a header names.
 pub(crate) trait Part: Drop {
+    /// What a slot means that names one.
+    type Name: SlotName;
+
     ghost Plain: { Type 0 };
 
     ghost plain: { Self → Plain };
@@ -31,7 +34,7 @@ pub(crate) trait Part: Drop {
     fn read<'a>(
         alloc: Global,
         registry: &Registry,
-        names: &mut ReadCache,
+        names: &mut ReadCache<Self::Name>,
         bytes: &'a [u8],
     ) -> Result<(Self, &'a [u8]), WireError>
         requires { IsSound registry.now }
@@ -43,6 +46,8 @@ pub(crate) trait Part: Drop {
 }
 
 impl Part for TypeName {
+    type Name = Text;
+
     ghost Plain = { Kind };
 
     ghost plain = { kind_of };
@@ -52,7 +57,7 @@ impl Part for TypeName {
     fn read<'a>(
         alloc: Global,
         registry: &Registry,
-        names: &mut ReadCache,
+        names: &mut ReadCache<Text>,
         bytes: &'a [u8],
     ) -> Result<(TypeName, &'a [u8]), WireError> {
         read_kind(alloc, registry, names, bytes)
@@ -65,6 +70,8 @@ impl Part for TypeName {
 
 /// The identity of an object, empty for null.
 impl Part for Text {
+    type Name = Text;
+
     ghost Plain = { List ℕ };
 
     ghost plain = { λ oid. oid };
@@ -75,7 +82,7 @@ impl Part for Text {
     fn read<'a>(
         alloc: Global,
         _registry: &Registry,
-        names: &mut ReadCache,
+        names: &mut ReadCache<Text>,
         bytes: &'a [u8],
     ) -> Result<(Text, &'a [u8]), WireError> {
         let (oid, rest) = read_oid(alloc, names, bytes)?;
@@ -86,12 +93,14 @@ impl Part for Text {
         Ok((oid, rest))
     }
 
-    fn copied(&self, alloc: Global) -> Result<Text, NoMemory> {
-        self.copy(alloc)
+    fn copied(&self, _alloc: Global) -> Result<Text, NoMemory> {
+        self.copy()
     }
 }
 
 impl Part for Tid {
+    type Name = Tid;
+
     ghost Plain = { List ℕ };
 
     ghost plain = { λ tid. tid };
@@ -101,14 +110,14 @@ impl Part for Tid {
     fn read<'a>(
         alloc: Global,
         _registry: &Registry,
-        names: &mut ReadCache,
+        names: &mut ReadCache<Tid>,
         bytes: &'a [u8],
     ) -> Result<(Tid, &'a [u8]), WireError> {
         read_tid(alloc, names, bytes)
     }
 
-    fn copied(&self, alloc: Global) -> Result<Tid, NoMemory> {
-        self.copy(alloc)
+    fn copied(&self, _alloc: Global) -> Result<Tid, NoMemory> {
+        self.copy()
     }
 }
 
@@ -119,7 +128,7 @@ pub(crate) fn new_or_last<'a, P: Part>(
     registry: &Registry,
     is_new: bool,
     last: &mut Option<P>,
-    names: &mut ReadCache,
+    names: &mut ReadCache<P::Name>,
     bytes: &'a [u8],
 ) -> Result<(P, &'a [u8]), WireError>
     requires { IsSound registry.now }

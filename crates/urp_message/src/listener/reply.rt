@@ -89,7 +89,7 @@ fn thread_of_reply<'a>(
     registry: &Registry,
     is_new: bool,
     last: &mut Last,
-    tids: &mut ReadCache,
+    tids: &mut ReadCache<Tid>,
     bytes: &'a [u8],
 ) -> Result<(Tid, &'a [u8]), WireError>
     requires { IsSound registry.now }
@@ -134,7 +134,7 @@ fn answer_awaited<'a, E: Expects>(
         (answered_at registry.now (E.calls expect.now) (heard_of heard.old) tid.now is_raised bytes.now) }
     ensures last { last_of heard.new.last ≡ last_of heard.old.last }
 {
-    let Some(call) = call_awaited(alloc, registry, expect, tid.as_bytes())? else {
+    let Some(call) = call_awaited(registry, expect, tid.as_bytes())? else {
         return Err(WireError::Bad(Reason::NobodyWaits));
     };
     let Awaited {
@@ -169,7 +169,6 @@ fn answer_awaited<'a, E: Expects>(
 /// The call for which a thread waits.
 #[tactic(auto, unfolding(message_model::specs::Calls::numbered))]
 fn call_awaited<'a, E: Expects>(
-    alloc: Global,
     registry: &'a Registry,
     expect: &E,
     tid: &[u8],
@@ -182,7 +181,7 @@ fn call_awaited<'a, E: Expects>(
     let Some(function) = function_numbered(registry, face.as_str(), number) else {
         return Ok(None);
     };
-    let face = face.copy(alloc)?;
+    let face = face.copy()?;
     Ok(Some(Awaited {
         face,
         number,

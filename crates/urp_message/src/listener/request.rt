@@ -2,8 +2,9 @@
 ghost use Rattle.std.specs.Prelude.{◌≡◌, ◌&&◌, not, map, IfOk};
 ghost use Rattle.message_model.specs.Headers as header;
 ghost use Rattle.message_model.specs.Messages.{request};
-ghost use Rattle.message_model.specs.ReadingMessages.{face_of, release_at, call_at, asked_at, request_at};
+ghost use Rattle.message_model.specs.ReadingMessages.{release_at, call_at, asked_at, request_at};
 ghost use Rattle.type_registry.specs.Functions.{lent_function};
+ghost use Rattle.uno_model.specs.Kinds.{interface_of};
 ghost use Rattle.uno_model.specs.Sound.{IsSound};
 ghost use Rattle.uno_entities.specs.TypeNames.{kind_of};
 ghost use Rattle.uno_values.specs.Values.{plain_of};
@@ -21,7 +22,7 @@ use crate::params::Phase;
 use crate::remembered::Heard;
 use std::alloc::Global;
 use type_registry::{FunctionRef, function_numbered};
-use uno_types::{Name, Registry, Text, Tid, TypeName};
+use uno_types::{Name, Registry, Text, Tid};
 use uno_values::Value;
 use urp_wire::{Reason, WireError};
 
@@ -58,11 +59,11 @@ pub(crate) fn request<'a>(
 
 /// What a header names, where its type is an interface.
 fn called_in(target: Target) -> Result<Called, WireError>
-    ensures face { Gives (λ called. called.face) result (judged NotInterface (face_of (kind_of target.kind))) }
+    ensures face { Gives (λ called. called.face) result (judged NotInterface (interface_of (kind_of target.kind))) }
     ensures same { IfOk result (λ called. called_of called ≡ target_of target) }
 {
     let Target { kind, oid, tid } = target;
-    let TypeName::Interface(face) = kind else {
+    let Some(face) = kind.into_interface() else {
         return Err(WireError::Bad(Reason::NotInterface));
     };
     Ok(Called { tid, oid, face })

@@ -36,13 +36,7 @@ pub(crate) fn put_reply(
     ensures ranges { OnOk result (AnswerSpellable (answer_of answer.now)) }
 {
     to.push(reply_flags(is_raised(answer), is_new_tid(tid, &spoken.last.tid)))?;
-    put_thread(
-        alloc,
-        tid,
-        &mut spoken.last.tid,
-        &mut spoken.caches.tids,
-        to,
-    )?;
+    put_thread(tid, &mut spoken.last.tid, &mut spoken.caches.tids, to)?;
     put_answer(alloc, answer, &mut spoken.caches, to)
 }
 

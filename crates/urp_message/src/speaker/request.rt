@@ -32,6 +32,6 @@ pub(crate) fn put_request(
     ensures ranges { OnOk result (AreSpellable (plains_of args.now)) }
 {
     put_opening(heading, &spoken.last, to)?;
-    put_target(alloc, heading, spoken, to)?;
+    put_target(heading, spoken, to)?;
     write_values(alloc, &mut spoken.caches, args, to)
 }

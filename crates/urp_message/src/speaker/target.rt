@@ -11,7 +11,6 @@ ghost use Rattle.urp_model.specs.Writing.{kind_spelling, kind_after, name_spelli
 
 use super::heading::{Heading, is_new_face, is_new_oid, is_new_tid};
 use crate::remembered::{Spoken, remember};
-use std::alloc::Global;
 use uno_base::NoMemory;
 use uno_types::{Name, Text, Tid, TypeName};
 use urp_cache::SendCache;
@@ -20,7 +19,6 @@ use urp_wire::{write_interface, write_oid, write_tid};
 /// The type, the object and the thread, where they are new; they are the last ones from now on.
 #[tactic(auto, unfolding(message_model::specs::WritingMessages::target_spelling, message_model::specs::WritingMessages::after_target))]
 pub(crate) fn put_target(
-    alloc: Global,
     heading: &Heading,
     spoken: &mut Spoken,
     to: &mut Vec<u8>,
@@ -31,21 +29,18 @@ pub(crate) fn put_target(
     ensures text { OnOk result (IsUtf8 heading.now.oid.now) }
 {
     put_face(
-        alloc,
         heading.face,
         &mut spoken.last.kind,
         &mut spoken.caches.types,
         to,
     )?;
     put_object(
-        alloc,
         heading.oid,
         &mut spoken.last.oid,
         &mut spoken.caches.oids,
         to,
     )?;
     put_thread(
-        alloc,
         heading.tid,
         &mut spoken.last.tid,
         &mut spoken.caches.tids,
@@ -55,7 +50,6 @@ pub(crate) fn put_target(
 
 /// The interface, which is copied only where it is new.
 fn put_face(
-    alloc: Global,
     face: &Name,
     last: &mut Option<TypeName>,
     types: &mut SendCache,
@@ -70,13 +64,12 @@ fn put_face(
         return Ok(());
     }
     write_interface(types, face, to)?;
-    remember(last, Some(TypeName::Interface(face.copy(alloc)?)));
+    remember(last, Some(TypeName::Interface(face.copy()?)));
     Ok(())
 }
 
 /// The object, which is copied only where it is new.
 fn put_object(
-    alloc: Global,
     oid: &Text,
     last: &mut Option<Text>,
     oids: &mut SendCache,
@@ -92,13 +85,12 @@ fn put_object(
         return Ok(());
     }
     write_oid(oids, oid, to)?;
-    remember(last, Some(oid.copy(alloc)?));
+    remember(last, Some(oid.copy()?));
     Ok(())
 }
 
 /// The thread, which is copied only where it is new.
 pub(crate) fn put_thread(
-    alloc: Global,
     tid: &Tid,
     last: &mut Option<Tid>,
     tids: &mut SendCache,
@@ -113,6 +105,6 @@ pub(crate) fn put_thread(
         return Ok(());
     }
     write_tid(tids, tid, to)?;
-    remember(last, Some(tid.copy(alloc)?));
+    remember(last, Some(tid.copy()?));
     Ok(())
 }

@@ -134,11 +134,11 @@ pub fn kind<'a>(
 
 /// An item of an enum: any number, whether one of its items has it or not.
 #[tactic(auto, unfolding(urp_model::specs::Reading::value_step))]
-pub fn item<'a>(alloc: Global, name: &Name, bytes: &'a [u8]) -> Result<(Value, &'a [u8]), WireError>
+pub fn item<'a>(name: &Name, bytes: &'a [u8]) -> Result<(Value, &'a [u8]), WireError>
     ensures { (reg : List Entity) (r : Kind → Reads) (s : Tables) → Gives (λ x. (plain_of x.0, s, x.1.now)) result (value_step reg r (kd.enum name.now) s bytes.now) }
 {
     let (number, rest) = four_bytes(bytes)?;
-    Ok((Value::Enum(name.copy(alloc)?, number.cast_signed()), rest))
+    Ok((Value::Enum(name.copy()?, number.cast_signed()), rest))
 }
 
 /// A reference.
@@ -152,16 +152,16 @@ pub fn reference<'a>(
     ensures { (reg : List Entity) (r : Kind → Reads) → Gives (λ x. (plain_of x.0, tables_of caches.new, x.1.now)) result (value_step reg r (kd.interface face.now) (tables_of caches.old) bytes.now) }
 {
     let (oid, rest) = read_oid(alloc, &mut caches.oids, bytes)?;
-    Ok((Value::Ref(reference_to(alloc, oid, face)?), rest))
+    Ok((Value::Ref(reference_to(oid, face)?), rest))
 }
 
 /// The reference to an object of the peer's, or null.
-fn reference_to(alloc: Global, oid: Option<Text>, face: &Name) -> Result<Reference, NoMemory>
+fn reference_to(oid: Option<Text>, face: &Name) -> Result<Reference, NoMemory>
     ensures { IfOk result (λ reference. ref_of reference ≡ peer_of oid face.now) }
 {
     let Some(oid) = oid else {
         return Ok(Reference::Null);
     };
-    let face = face.copy(alloc)?;
+    let face = face.copy()?;
     Ok(Reference::Remote { oid, face })
 }

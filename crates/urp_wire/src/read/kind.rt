@@ -6,12 +6,12 @@ ghost use Rattle.urp_model.specs.NamedKinds.{class_numbered, simple_kind, kind_n
 ghost use Rattle.urp_model.specs.ReadingNames.{held_kind_at, written_kind, written_kind_at, unmarked, kind_behind, kind_at};
 ghost use Rattle.urp_wire.specs.Gives.{Gives};
 
-use super::parts::{byte, is_slot, slot, text_name, text_of, two_bytes};
+use super::parts::{byte, is_slot, slot, text_name, two_bytes};
 use super::slots::{meaning, note};
 use crate::{Reason, WireError};
 use std::alloc::Global;
 use uno_base::NoMemory;
-use uno_types::{Registry, TypeClass, TypeName};
+use uno_types::{Registry, Text, TypeClass, TypeName};
 use urp_cache::ReadCache;
 
 /// What is added to a class where a name is written out behind it.
@@ -22,7 +22,7 @@ const MARK: u8 = 0x80;
 pub fn read_kind<'a>(
     alloc: Global,
     registry: &Registry,
-    types: &mut ReadCache,
+    types: &mut ReadCache<Text>,
     bytes: &'a [u8],
 ) -> Result<(TypeName, &'a [u8]), WireError>
     requires { IsSound registry.now }
@@ -83,7 +83,7 @@ fn behind_class<'a>(
     registry: &Registry,
     is_plain: bool,
     class: TypeClass,
-    types: &mut ReadCache,
+    types: &mut ReadCache<Text>,
     bytes: &'a [u8],
 ) -> Result<(TypeName, &'a [u8]), WireError>
     requires { IsSound registry.now }
@@ -108,7 +108,7 @@ fn held_kind<'a>(
     alloc: Global,
     registry: &Registry,
     class: TypeClass,
-    types: &ReadCache,
+    types: &ReadCache<Text>,
     bytes: &'a [u8],
 ) -> Result<(TypeName, &'a [u8]), WireError>
     requires { IsSound registry.now }
@@ -118,7 +118,7 @@ fn held_kind<'a>(
     let Some(name) = meaning(types, slot) else {
         return Err(WireError::Bad(Reason::UnknownSlot));
     };
-    let Some(kind) = kind_of_bytes(alloc, registry, class, name)? else {
+    let Some(kind) = kind_of_text(alloc, registry, class, name.as_str())? else {
         return Err(WireError::Bad(Reason::UnknownType));
     };
     Ok((kind, rest))
@@ -130,7 +130,7 @@ fn written_kind<'a>(
     alloc: Global,
     registry: &Registry,
     class: TypeClass,
-    types: &mut ReadCache,
+    types: &mut ReadCache<Text>,
     bytes: &'a [u8],
 ) -> Result<(TypeName, &'a [u8]), WireError>
     requires { IsSound registry.now }
@@ -144,28 +144,12 @@ fn written_kind<'a>(
     let Some(kind) = kind_of_text(alloc, registry, class, name)? else {
         return Err(WireError::Bad(Reason::UnknownType));
     };
-    note(types, slot, name.as_bytes())?;
+    let name = Text::of(alloc, name)?;
+    note(types, slot, name);
     Ok((kind, rest))
 }
 
-/// The type of the registry of this class and name; the names of types are texts.
-#[tactic(auto, using(crate::proofs::Texts::no_text_named))]
-fn kind_of_bytes(
-    alloc: Global,
-    registry: &Registry,
-    class: TypeClass,
-    name: &[u8],
-) -> Result<Option<TypeName>, NoMemory>
-    requires { IsSound registry.now }
-    ensures { IfOk result (λ found. option_map kind_of found ≡ kind_named registry.now class name.now) }
-{
-    let Some(text) = text_of(name) else {
-        return Ok(None);
-    };
-    kind_of_text(alloc, registry, class, text)
-}
-
-/// The same of a text.
+/// The type of the registry of this class and name.
 fn kind_of_text(
     alloc: Global,
     registry: &Registry,

@@ -14,7 +14,7 @@ use urp_cache::ReadCache;
 #[tactic(auto, using(crate::proofs::Texts::text_is), unfolding(urp_model::specs::ReadingNames::oid_at, urp_model::specs::ReadingNames::named))]
 pub fn read_oid<'a>(
     alloc: Global,
-    oids: &mut ReadCache,
+    oids: &mut ReadCache<Text>,
     bytes: &'a [u8],
 ) -> Result<(Option<Text>, &'a [u8]), WireError>
     ensures { Gives (λ x. (x.0, oids.new, x.1.now)) result (oid_at oids.old bytes.now) }
@@ -23,12 +23,13 @@ pub fn read_oid<'a>(
     let (slot, rest) = slot(rest)?;
     if !name.is_empty() {
         let oid = Text::of(alloc, name)?;
-        note(oids, slot, name.as_bytes())?;
+        let named = oid.copy()?;
+        note(oids, slot, named);
         return Ok((Some(oid), rest));
     }
     if slot == NO_SLOT {
         return Ok((None, rest));
     }
     let oid = meant_text(oids, slot)?;
-    Ok((Some(Text::of(alloc, oid)?), rest))
+    Ok((Some(oid), rest))
 }

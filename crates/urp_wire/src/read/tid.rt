@@ -17,7 +17,7 @@ const MOST_BYTES: u32 = 1024;
 #[tactic(auto, unfolding(urp_model::specs::ReadingNames::tid_at, urp_model::specs::ReadingNames::named))]
 pub fn read_tid<'a>(
     alloc: Global,
-    tids: &mut ReadCache,
+    tids: &mut ReadCache<Tid>,
     bytes: &'a [u8],
 ) -> Result<(Tid, &'a [u8]), WireError>
     ensures { Gives (λ x. (x.0, tids.new, x.1.now)) result (tid_at tids.old bytes.now) }
@@ -26,12 +26,13 @@ pub fn read_tid<'a>(
     let (slot, rest) = slot(rest)?;
     if !name.is_empty() {
         let tid = Tid::of(alloc, name)?;
-        note(tids, slot, name)?;
+        let named = tid.copy()?;
+        note(tids, slot, named);
         return Ok((tid, rest));
     }
-    let Some(name) = meaning(tids, slot) else {
+    let Some(tid) = meaning(tids, slot) else {
         return Err(WireError::Bad(Reason::UnknownSlot));
     };
-    let tid = Tid::of(alloc, name)?;
+    let tid = tid.copy()?;
     Ok((tid, rest))
 }

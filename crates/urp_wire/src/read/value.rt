@@ -67,7 +67,7 @@ fn level_of<'a>(
         TypeName::Str => flat::string(alloc, bytes),
         TypeName::Kind => flat::kind(alloc, registry, caches, bytes),
         TypeName::Any => any_value(alloc, registry, caches, levels, bytes),
-        TypeName::Enum(name) => flat::item(alloc, name, bytes),
+        TypeName::Enum(name) => flat::item(name, bytes),
         TypeName::Struct(name) | TypeName::Exception(name) => {
             tuple_value(alloc, registry, caches, name, levels, bytes)
         }
@@ -149,7 +149,7 @@ fn tuple_of<'a>(
     ensures { Gives (λ x. (plain_of x.0, tables_of caches.new, x.1.now)) result (tuple_at (value_at levels registry.now) (map (λ f. f.kind) (fields_at fields.now)) name.now (tables_of caches.old) bytes.now) }
 {
     let (members, rest) = members_of(alloc, registry, caches, fields, levels, bytes)?;
-    let name = name.copy(alloc)?;
+    let name = name.copy()?;
     Ok((Value::Tuple(name, members), rest))
 }
 

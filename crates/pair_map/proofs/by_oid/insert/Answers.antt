@@ -1,4 +1,4 @@
-use Rattle.std.proofs.Common.{rules, Some, string_bytes}
+use Rattle.std.proofs.Common.{rules, Some}
 use Rattle.pair_map.proofs.Changes.{changed, kept, begun, as_set, then_ok, then_err}
 use Rattle.pair_map.proofs.by_oid.insert.Goals as goal
 
@@ -9,7 +9,7 @@ returns-in-Some-clause-put g c =
     let set = (c.get_mut.follows.holds faces).3 (search rules) in
     then_ok c.insert.result
     (λ put. changed c.args.by_oid.now after c.args.oid.now c.in-Some.faces.now c.in-Some.ensures.value
-    c.args.face.now (string_bytes c.in_ok-face.face) (Some c.args.value) faces put (search rules) set)
+    c.args.face.now c.in_ok-face.face (Some c.args.value) faces put (search rules) set)
     c.insert.ensures.put
 
 pub returns-in-Some-clause-kept : goal.returns-in-Some-clause-kept

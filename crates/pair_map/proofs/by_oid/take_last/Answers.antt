@@ -1,10 +1,10 @@
-use Rattle.std.proofs.Common.{◌∙◌, ◌<◌, sym, subst, string_bytes}
+use Rattle.std.proofs.Common.{◌∙◌, ◌<◌, sym, subst}
 use Rattle.pair_map.proofs.Changes.{taken}
 use Rattle.pair_map.proofs.Taking.{some_rows, rows_go}
 use Rattle.pair_map.proofs.by_oid.take_last.Goals as goal
 
 pub returns-clause-gone : goal.returns-clause-gone
-returns-clause-gone g c = taken c.args.by_oid.now c.pop.new.self (string_bytes c.in_ok-oid.oid) c.in_ok-oid.ensures.updates
+returns-clause-gone g c = taken c.args.by_oid.now c.pop.new.self c.in_ok-oid.oid c.in_ok-oid.ensures.updates
 
 pub returns-clause-some : goal.returns-clause-some
 returns-clause-some g c some =

@@ -14,6 +14,6 @@ pub returns : goal.returns
 unfolding is_called_out
 returns c =
     c.is_reached.ensures
-    ∙ ap (λ wanted. list_any (λ row. is_base_of c.args.registry.now wanted (string_bytes row.0)) c.in-Some.faces.now) c.as_str.ensures
+    ∙ ap (λ wanted. list_any (λ row. is_base_of c.args.registry.now wanted row.0) c.in-Some.faces.now) c.as_str.ensures
     ∙ sym (c.in-Some.ensures (is_base_of c.args.registry.now c.args.face.now))
     ∙ ap (λ k. is_called_out c.args.registry.now c.args.oid.now c.args.face.now k.stubs) c.self.view_is

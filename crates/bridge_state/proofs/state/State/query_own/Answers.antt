@@ -7,6 +7,6 @@ use Rattle.bridge_state.proofs.state.State.query_own.Goals as goal
 
 pub returns-in-Ok-clause-answered : goal.returns-in-Ok-clause-answered
 returns-in-Ok-clause-answered c =
-    own_answered (setting_of c.args.setting.now) c.args.root c.args.oid.now c.args.wanted.now c.self-2.inside.tables c.set_root.new.self c.root_gets.new.tables c.self-2.inside.stacks c.self-2.inside.incoming
-    c.self-2.inside.outgoing c.self-2.inside.entries c.self-2.inside.cause c.args.self.now c.own_answer.new.self (waits_query c.in_ok-copy.field-0) (answer_of c.in-Ok.answer) c.requires.may.least c.requires.may.most
-    c.in-Ok.ensures.held c.self-2.view_is (ap waits_query c.in_ok-copy.ensures) c.set_root.ensures.set c.in-Ok.ensures.answer c.root_gets.ensures.gets
+    own_answered (setting_of c.args.setting.now) c.args.root c.args.oid.now c.args.wanted.now c.self.inside.tables c.set_root.new.self c.root_gets.new.tables c.self.inside.stacks c.self.inside.incoming
+    c.self.inside.outgoing c.self.inside.entries c.self.inside.cause c.args.self.now c.own_answer.new.self (waits_query c.in_ok-copy.field-0) (answer_of c.in-Ok.answer) c.requires.may.least c.requires.may.most
+    c.in-Ok.ensures.held c.self.view_is (ap waits_query c.in_ok-copy.ensures) c.set_root.ensures.set c.in-Ok.ensures.answer c.root_gets.ensures.gets

@@ -1,4 +1,4 @@
-use Rattle.std.proofs.Common.{◌∙◌, subst}
+use Rattle.std.proofs.Common.{refl, ◌∙◌, subst}
 use Rattle.std.specs.Prelude.{T}
 use Rattle.std.specs.FinMap.{is_sorted}
 use Rattle.std.specs.Str.{bytes_eq}
@@ -10,7 +10,7 @@ use Rattle.pair_map.proofs.Views.{any_at}
 use Rattle.pair_map.proofs.pair_map.PairMap.has_oid.Goals as goal
 
 pub returns-clause-any : goal.returns-clause-any
-returns-clause-any g c = c.has_oid.ensures ∙ any_at (λ oid p. bytes_eq oid p.oid) c.self.inside.by_oid c.args.self.now c.self.view_is _ _ c.as_str.ensures
+returns-clause-any g c = c.has_oid.ensures ∙ any_at (λ oid p. bytes_eq oid p.oid) c.self.inside.by_oid c.args.self.now c.self.view_is _ _ refl
 
 pub returns-clause-rises : goal.returns-clause-rises
 returns-clause-rises g c = subst (λ rows. T (is_sorted pair_cmp rows)) c.self.view_is (in_order_rises pair_order (pair_rows c.self.inside.by_oid.entries))

@@ -1,4 +1,4 @@
-use Rattle.std.proofs.Common.{◌∙◌, sym, subst}
+use Rattle.std.proofs.Common.{refl, ◌∙◌, sym, subst}
 use Rattle.std.specs.Prelude.{T}
 use Rattle.std.specs.FinMap.{is_sorted}
 use Rattle.std.specs.Str.{bytes_eq}
@@ -11,10 +11,10 @@ use Rattle.pair_map.proofs.pair_map.PairMap.take_counted.Goals as goal
 
 pub returns-clause-gone : goal.returns-clause-gone
 returns-clause-gone g c =
-    taken_at c.self.inside.by_oid c.take_oid.new.by_oid c.args.self.now _ c.from.result c.self.invariant c.take_oid.ensures.unique c.self.view_is (sym c.from.ensures) c.in_ok-oid.ensures.gone
+    taken_at c.self.inside.by_oid c.take_oid.new.by_oid c.args.self.now _ c.in_ok-oid.oid c.self.invariant c.take_oid.ensures.unique c.self.view_is refl c.in_ok-oid.ensures.gone
 
 pub returns-clause-some : goal.returns-clause-some
-returns-clause-some g c = sym (any_at (λ oid p. bytes_eq oid p.oid) c.self.inside.by_oid c.args.self.now c.self.view_is _ _ (sym c.from.ensures)) ∙ c.in_ok-oid.ensures.some
+returns-clause-some g c = sym (any_at (λ oid p. bytes_eq oid p.oid) c.self.inside.by_oid c.args.self.now c.self.view_is _ _ refl) ∙ c.in_ok-oid.ensures.some
 
 pub returns-clause-number : goal.returns-clause-number
 returns-clause-number g c =
