@@ -121,9 +121,7 @@ fn see(rt: &impl Abort, alloc: Global, calls: &str, wanted: &str) {
     for call in calls.split(',') {
         step(rt, alloc, &mut journal, call, &mut shown);
     }
-    drop(journal);
     shown.see(rt, calls, wanted);
-    drop(shown);
 }
 
 #[test]
@@ -160,5 +158,4 @@ fn many_entries_stand_in_their_order(rt: HostRuntime) {
         assert!(&rt; is_at_its_place(&journal, place));
     }
     assert!(&rt; journal.entries().len() == 3000);
-    drop(journal);
 }

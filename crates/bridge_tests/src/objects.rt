@@ -12,7 +12,7 @@ use bridge_objects::{Holder, Objects};
 use std::alloc::Global;
 use std::process::Abort;
 use uno_types::{Name, Registry, Tag, Text};
-use uno_values::{Reference, Value};
+use uno_values::Reference;
 
 const ROWS: &[(&str, &str)] = &[
     (
@@ -182,13 +182,6 @@ fn on_references(
         "gain_all" => shown.done(objects.gain_all(holder, &references)),
         _ => objects.lose_all(holder, &references),
     }
-    drop(references);
-}
-
-/// Shows values, and lets go of them.
-fn show_all(shown: &mut Shown, values: Vec<Value>) {
-    show_values(shown, &values);
-    drop(values);
 }
 
 fn show_object(objects: &Objects, number: u32, shown: &mut Shown) {
@@ -216,11 +209,11 @@ fn on_number(
             let made = objects.make(number, values_of(rt, alloc, words));
             shown.number(u64::from(made.expect(rt, "no memory")));
         }
-        "set" => show_all(
+        "set" => show_values(
             shown,
-            objects.set_fields(number, values_of(rt, alloc, words)),
+            &objects.set_fields(number, values_of(rt, alloc, words)),
         ),
-        "remove" => show_all(shown, objects.remove(number)),
+        "remove" => show_values(shown, &objects.remove(number)),
         _ => show_object(objects, number, shown),
     }
 }
@@ -234,7 +227,7 @@ fn on_all(objects: &mut Objects, what: &str, oid: &str, shown: &mut Shown) {
         "living" => shown.number(objects.living()),
         "stubs" => shown.number(objects.stubs()),
         "unmake" => match objects.unmake() {
-            Some(fields) => show_all(shown, fields),
+            Some(fields) => show_values(shown, &fields),
             None => shown.word("!"),
         },
         "end" => objects.end(),
@@ -260,21 +253,16 @@ fn step(
             let oid = text(rt, alloc, oid);
             let face = name(rt, alloc, face);
             on_holder(rt, objects, what, holder_of(first), (&oid, &face), shown);
-            drop(face);
-            drop(oid);
         }
         "holders" | "any_holds" | "sent" | "released" | "has_stub" | "any_stub" | "called" => {
             let (oid, face) = cut(words, '/');
             let oid = text(rt, alloc, oid);
             let face = name(rt, alloc, face);
             on_pair(registry, objects, what, (&oid, &face), shown);
-            drop(face);
-            drop(oid);
         }
         "gain" | "lose" => {
             let reference = reference_of(rt, alloc, rest);
             on_reference(objects, what, holder_of(first), &reference, shown);
-            drop(reference);
         }
         "gain_all" | "lose_all" => {
             on_references(rt, alloc, objects, what, holder_of(first), rest, shown);
@@ -289,9 +277,7 @@ fn step(
 /// No objects, of which the first that is made never goes.
 fn no_objects(rt: &impl Abort, alloc: Global) -> Objects {
     let tag = Tag::read(alloc, "S").expect(rt, "no tag");
-    let objects = Objects::new(alloc, &tag, 1);
-    drop(tag);
-    objects.expect(rt, "no memory")
+    Objects::new(alloc, &tag, 1).expect(rt, "no memory")
 }
 
 /// Sees what the calls of a row answer.
@@ -303,9 +289,7 @@ fn see(rt: &impl Abort, alloc: Global, registry: &Registry, calls: &str, wanted:
     for call in calls.split(',') {
         step(rt, alloc, registry, &mut objects, call, &mut shown);
     }
-    drop(objects);
     shown.see(rt, calls, wanted);
-    drop(shown);
 }
 
 #[test]
@@ -314,7 +298,6 @@ fn calls_answer_as_the_rows_say(rt: HostRuntime) {
     for (calls, wanted) in ROWS {
         see(&rt, rt.alloc(), &registry, calls, wanted);
     }
-    drop(registry);
 }
 
 /// So many objects go one after the other, the lowest first, until the first alone is left.
@@ -334,5 +317,4 @@ fn go_in_order(rt: &impl Abort, alloc: Global, objects: &mut Objects, count: u32
 fn many_objects_go_lowest_first(rt: HostRuntime) {
     let mut objects = no_objects(&rt, rt.alloc());
     go_in_order(&rt, rt.alloc(), &mut objects, 2000);
-    drop(objects);
 }

@@ -55,7 +55,5 @@ fn read(rt: &impl Abort, alloc: Global, registry: &Registry, offers: &str) -> Pl
     let mut lines = String::new(alloc);
     lines.push_str(PLAN).ok();
     lines.push_str(offers).ok();
-    let plan = read_plan(alloc, registry, lines.as_bytes());
-    drop(lines);
-    plan.expect(rt, "no plan")
+    read_plan(alloc, registry, lines.as_bytes()).expect(rt, "no plan")
 }

@@ -118,11 +118,8 @@ fn of_names(
         "release" => show_tid(shown, Some(setting.release_tid())),
         "root" => show_tid(shown, setting.root_tid(number_in(word))),
         "object" => {
-            let oid = setting
-                .own_oid(alloc, number_in(word))
-                .expect(rt, "no memory");
-            shown.word(oid.as_str());
-            drop(oid);
+            let oid = setting.own_oid(alloc, number_in(word));
+            shown.word(oid.expect(rt, "no memory").as_str());
         }
         "own" => shown.yes(setting.is_own(word.as_bytes())),
         "first" => shown.number(first_objects(&setting.plan)),
@@ -136,10 +133,8 @@ fn of_identity(rt: &impl Abort, alloc: Global, setting: &Setting, word: &str, sh
     let (oid, face) = cut(word, '/');
     let oid = text(rt, alloc, oid);
     let face = name(rt, alloc, face);
-    let reference = told(setting, oid, face);
     shown.put(" ");
-    put_reference(shown, &reference);
-    drop(reference);
+    put_reference(shown, &told(setting, oid, face));
 }
 
 /// The answer that came: the any that was raised, or a value and what came out with it.
@@ -169,15 +164,10 @@ fn step(rt: &impl Abort, alloc: Global, setting: &Setting, question: &str, shown
     let (what, words) = cut(question, ' ');
     match what {
         "told" => of_identity(rt, alloc, setting, words, shown),
-        "home" => {
-            let values = home_each(setting, values_of(rt, alloc, words));
-            show_values(shown, &values);
-            drop(values);
-        }
+        "home" => show_values(shown, &home_each(setting, values_of(rt, alloc, words))),
         "answer" | "raised" => {
-            let answer = home_answer(setting, answer_of(rt, alloc, what, words));
-            show_answer(shown, &answer);
-            drop(answer);
+            let answer = answer_of(rt, alloc, what, words);
+            show_answer(shown, &home_answer(setting, answer));
         }
         "supports" | "base" => match setting.registry.is_sound() {
             Ok(true) => of_interfaces(&setting.registry, setting, what, words, shown),
@@ -201,9 +191,7 @@ fn see(rt: &impl Abort, alloc: Global, offers: &str, questions: &str, wanted: &s
     for question in questions.split(',') {
         step(rt, alloc, &setting, question, &mut shown);
     }
-    drop(setting);
     shown.see(rt, questions, wanted);
-    drop(shown);
 }
 
 #[test]

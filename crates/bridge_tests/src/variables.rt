@@ -71,12 +71,9 @@ fn show(shown: &mut Shown, variables: &[Variable]) {
 }
 
 /// Shows what a query gave back.
-fn show_rest(shown: &mut Shown, rest: Option<Value>) {
+fn show_rest(shown: &mut Shown, rest: &Option<Value>) {
     match rest {
-        Some(value) => {
-            show_value(shown, &value);
-            drop(value);
-        }
+        Some(value) => show_value(shown, value),
         None => shown.word("-"),
     }
 }
@@ -96,20 +93,10 @@ fn on_variable(
         "add" => shown.done(add(variables, name, value_of(rt, alloc, word))),
         "put" => {
             let was = put(variables, &name, value_of(rt, alloc, word));
-            drop(name);
             show_value(shown, &was);
-            drop(was);
         }
-        "out" => {
-            let was = take_out(variables, &name);
-            drop(name);
-            show_value(shown, &was);
-            drop(was);
-        }
-        _ => {
-            drop(name);
-            shown.word("?");
-        }
+        "out" => show_value(shown, &take_out(variables, &name)),
+        _ => shown.word("?"),
     }
 }
 
@@ -121,9 +108,8 @@ fn show_first(rt: &impl Abort, alloc: Global, registry: &Registry, words: &str, 
     let number = number.parse::<u16>().unwrap_or(0);
     let function = function_numbered(registry, NODE, number).expect(rt, "no function");
     let args = values_of(rt, alloc, words);
-    let variables = first_variables(alloc, registry, &function, args).expect(rt, "no memory");
-    show(shown, &variables);
-    drop(variables);
+    let variables = first_variables(alloc, registry, &function, args);
+    show(shown, &variables.expect(rt, "no memory"));
 }
 
 /// The call at a place of the one method of the plan.
@@ -150,9 +136,8 @@ fn answered(
     let call = call_at(plan, if to == "-" { 1 } else { 0 }).expect(rt, "no call");
     let value = value_of(rt, alloc, value);
     let outs = values_of(rt, alloc, outs);
-    let gone = take_answer(alloc, call, value, outs, variables).expect(rt, "no memory");
-    show_values(shown, &gone);
-    drop(gone);
+    let gone = take_answer(alloc, call, value, outs, variables);
+    show_values(shown, &gone.expect(rt, "no memory"));
 }
 
 /// The answer to a query, which becomes a variable.
@@ -171,9 +156,8 @@ fn taken(
     let wanted = name(rt, alloc, wanted);
     let to = name(rt, alloc, to);
     let answer = value_of(rt, alloc, word);
-    let rest = take_reference(registry, &wanted, to, answer, variables).expect(rt, "no memory");
-    drop(wanted);
-    show_rest(shown, rest);
+    let rest = take_reference(registry, &wanted, to, answer, variables);
+    show_rest(shown, &rest.expect(rt, "no memory"));
 }
 
 /// The reference in the answer to a query.
@@ -183,11 +167,9 @@ fn sorted(rt: &impl Abort, alloc: Global, registry: &Registry, words: &str, show
     let (wanted, word) = cut(words, ' ');
     let wanted = name(rt, alloc, wanted);
     let Found { reference, rest } = sort_answer(registry, &wanted, value_of(rt, alloc, word));
-    drop(wanted);
     shown.put(" ");
     put_reference(shown, &reference);
-    drop(reference);
-    show_rest(shown, rest);
+    show_rest(shown, &rest);
 }
 
 fn step(
@@ -221,9 +203,7 @@ fn see(rt: &impl Abort, alloc: Global, registry: &Registry, plan: &Plan, calls: 
     for call in calls.split(',') {
         step(rt, alloc, registry, plan, &mut variables, call, &mut shown);
     }
-    drop(variables);
     shown.see(rt, calls, wanted);
-    drop(shown);
 }
 
 #[test]
@@ -233,6 +213,4 @@ fn calls_answer_as_the_rows_say(rt: HostRuntime) {
     for (calls, wanted) in ROWS {
         see(&rt, rt.alloc(), &registry, &plan, calls, wanted);
     }
-    drop(plan);
-    drop(registry);
 }

@@ -25,10 +25,7 @@ pub(crate) fn ask(rt: &impl Abort, alloc: Global, end: &mut Endpoint, words: &st
     let wanted = Name::of(alloc, wanted).expect(rt, "no memory");
     assert!(rt; is_idle(end, root));
     assert!(rt; may_ask_it(end, root, &name, &wanted));
-    let begun = end.ask(root, &name, &wanted);
-    drop(wanted);
-    drop(name);
-    begun
+    end.ask(root, &name, &wanted)
 }
 
 /// An identity, its interface, the function and the arguments.
@@ -44,10 +41,7 @@ pub(crate) fn call(rt: &impl Abort, alloc: Global, end: &mut Endpoint, words: &s
     let args = values_of(rt, alloc, words);
     assert!(rt; is_idle(end, root));
     assert!(rt; may_call_it(end, root, &oid, &face, function, &args));
-    let begun = end.call(root, &oid, &face, function, args);
-    drop(face);
-    drop(oid);
-    begun
+    end.call(root, &oid, &face, function, args)
 }
 
 /// An identity, its interface and the wanted one.
@@ -61,11 +55,7 @@ pub(crate) fn query(rt: &impl Abort, alloc: Global, end: &mut Endpoint, words: &
     let wanted = Name::of(alloc, wanted).expect(rt, "no memory");
     assert!(rt; is_idle(end, root));
     assert!(rt; may_query_it(end, root, &oid, &face, &wanted));
-    let begun = end.query(root, &oid, &face, &wanted);
-    drop(wanted);
-    drop(face);
-    drop(oid);
-    begun
+    end.query(root, &oid, &face, &wanted)
 }
 
 /// A behaviour and the wanted interface. It shows what the object is called.
@@ -82,13 +72,8 @@ pub(crate) fn make(
     let wanted = Name::of(alloc, wanted).expect(rt, "no memory");
     assert!(rt; is_root_of(end, root));
     assert!(rt; makes(end, behaviour, &wanted));
-    let made = end.make(root, behaviour, &wanted);
-    drop(wanted);
-    match made {
-        Made::Made(oid) => {
-            shown.put(oid.as_str());
-            drop(oid);
-        }
+    match end.make(root, behaviour, &wanted) {
+        Made::Made(oid) => shown.put(oid.as_str()),
         Made::Full => shown.put("Full"),
         Made::Gone => shown.put("Gone"),
         Made::NoMemory => shown.put("NoMemory"),

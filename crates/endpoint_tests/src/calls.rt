@@ -51,16 +51,12 @@ pub(crate) fn show(
 fn feed(alloc: Global, end: &mut Endpoint, words: &str, shown: &mut Shown) {
     let piece = bytes_of(alloc, words);
     shown.tell(&end.feed(&piece));
-    drop(piece);
 }
 
 /// Drains so many bytes, or all.
 fn drain(end: &mut Endpoint, most: &str, shown: &mut Shown) {
     match end.drain(most.parse::<u32>().unwrap_or(u32::MAX)) {
-        Ok(bytes) => {
-            shown.bytes(&bytes);
-            drop(bytes);
-        }
+        Ok(bytes) => shown.bytes(&bytes),
         Err(NoMemory) => shown.put("NoMemory"),
     }
 }
@@ -78,18 +74,8 @@ pub(crate) fn run(rt: &impl Abort, alloc: Global, end: &mut Endpoint) -> u32 {
 /// Carries out the next statement of the oldest thread that is ready, where one is.
 fn apply_first(rt: &impl Abort, alloc: Global, end: &mut Endpoint) -> bool {
     match first(rt, end) {
-        Some(job) => is_done(apply(rt, alloc, end, job)),
+        Some(job) => apply(rt, alloc, end, job).is_ok(),
         None => false,
-    }
-}
-
-fn is_done(applied: Result<(), ApplyError>) -> bool {
-    match applied {
-        Ok(()) => true,
-        Err(error) => {
-            drop(error);
-            false
-        }
     }
 }
 
@@ -117,12 +103,12 @@ fn late(rt: &impl Abort, alloc: Global, end: &mut Endpoint, words: &str, shown: 
         "apply" => apply_picked(rt, alloc, end, tid, shown),
         _ => enter(end, between, ""),
     }
-    show_applied(apply(rt, alloc, end, job), shown);
+    show_applied(&apply(rt, alloc, end, job), shown);
 }
 
 fn apply_picked(rt: &impl Abort, alloc: Global, end: &mut Endpoint, tid: &str, shown: &mut Shown) {
     let job = picked(rt, alloc, end, tid);
-    show_applied(apply(rt, alloc, end, job), shown);
+    show_applied(&apply(rt, alloc, end, job), shown);
     shown.put(", ");
 }
 
@@ -130,16 +116,12 @@ fn apply_picked(rt: &impl Abort, alloc: Global, end: &mut Endpoint, tid: &str, s
 fn picked(rt: &impl Abort, alloc: Global, end: &Endpoint, tid: &str) -> Job {
     let tid = Tid::of(alloc, tid.as_bytes()).expect(rt, "no memory");
     let job = end.pick(&tid).expect(rt, "no memory");
-    drop(tid);
     job.expect(rt, "no job")
 }
 
 fn take(end: &mut Endpoint, root: u32, shown: &mut Shown) {
     match end.take(root) {
-        Some(outcome) => {
-            show_outcome(end.registry(), &outcome, shown);
-            drop(outcome);
-        }
+        Some(outcome) => show_outcome(end.registry(), &outcome, shown),
         None => shown.put("-"),
     }
 }

@@ -28,11 +28,9 @@ fn served(rt: &impl Abort, alloc: Global, size: usize) -> Shown
 {
     let mut shown = Shown::new(alloc);
     let mut end = end_of(rt, alloc, ECHO);
-    let input = bytes_of(alloc, INPUT);
-    for piece in input.chunks(size) {
+    for piece in bytes_of(alloc, INPUT).chunks(size) {
         serve(rt, alloc, &mut end, piece, &mut shown);
     }
-    drop(input);
     show_journal(end.journal(), &mut shown);
     end.close();
     shown
@@ -62,18 +60,14 @@ fn feed<'a>(rt: &impl Abort, end: &mut Endpoint, piece: &'a [u8]) -> &'a [u8] {
 fn drain(rt: &impl Abort, end: &mut Endpoint, output: &mut Shown) {
     let bytes = end.drain(u32::MAX).expect(rt, "no memory");
     output.bytes(&bytes);
-    drop(bytes);
 }
 
 /// The journal begins with what came in.
 fn see_output(rt: &impl Abort, alloc: Global, whole: &Shown) {
     let mut wanted = Shown::new(alloc);
-    let bytes = bytes_of(alloc, OUTPUT);
-    wanted.bytes(&bytes);
-    drop(bytes);
+    wanted.bytes(&bytes_of(alloc, OUTPUT));
     wanted.put(" Fed:");
     assert!(rt; whole.as_str().starts_with(wanted.as_str()));
-    drop(wanted);
 }
 
 /// Sees that in pieces of so many bytes the same is served.
@@ -84,8 +78,6 @@ fn see_cut(rt: &impl Abort, alloc: Global, size: usize, whole: &Shown)
     let mut row = Shown::new(alloc);
     row.tell(&size);
     see(rt, &cut, whole, row.as_str(), "the sizes of pieces");
-    drop(row);
-    drop(cut);
 }
 
 #[test]
@@ -95,5 +87,4 @@ fn input_that_is_cut_gives_the_same_output_and_journal(rt: HostRuntime) {
     for size in 1..130 {
         see_cut(&rt, rt.alloc(), size, &whole);
     }
-    drop(whole);
 }

@@ -25,13 +25,10 @@ pub(crate) fn show_outcome(registry: &Registry, outcome: &Outcome, shown: &mut S
 }
 
 /// A statement is `done` or `stale`, which is told with the place of the statement that is the next one, where one is.
-pub(crate) fn show_applied(answer: Result<(), ApplyError>, shown: &mut Shown) {
+pub(crate) fn show_applied(answer: &Result<(), ApplyError>, shown: &mut Shown) {
     match answer {
         Ok(()) => shown.put("done"),
-        Err(ApplyError::Stale(Some(job))) => {
-            show_stale(&job, shown);
-            drop(job);
-        }
+        Err(ApplyError::Stale(Some(job))) => show_stale(job, shown),
         Err(ApplyError::Stale(None)) => shown.put("stale"),
         Err(ApplyError::Full) => shown.put("Full"),
         Err(ApplyError::NoMemory) => shown.put("NoMemory"),

@@ -139,7 +139,6 @@ fn put_found(rt: &impl Abort, alloc: Global, shown: &mut Shown, pieces: &[&str])
         shown.put(line.as_str());
         shown.put("\n");
     }
-    drop(root);
     shown.tell(&over);
 }
 
@@ -149,8 +148,6 @@ fn see_lines(rt: &impl Abort, alloc: Global, pieces: &[&str], lines: &[&str], ov
     let mut wanted = Shown::new(alloc);
     put_lines(&mut wanted, lines, over);
     see(rt, &shown, &wanted, "the lines", "a root");
-    drop(wanted);
-    drop(shown);
 }
 
 #[test]

@@ -37,16 +37,12 @@ fn see_row(rt: &impl Abort, alloc: Global, end: &mut Endpoint, row: &Row, talk: 
     let mut wanted = Shown::new(alloc);
     show_wanted(alloc, call, answer, &mut wanted);
     see(rt, &shown, &wanted, call, talk);
-    drop(wanted);
-    drop(shown);
 }
 
 /// Bytes that go out are told by their digits.
 fn show_wanted(alloc: Global, call: &str, answer: &str, wanted: &mut Shown) {
     if call.starts_with("drain") && answer != "NoMemory" {
-        let bytes = bytes_of(alloc, answer);
-        wanted.bytes(&bytes);
-        drop(bytes);
+        wanted.bytes(&bytes_of(alloc, answer));
     } else {
         wanted.put(answer);
     }

@@ -39,14 +39,11 @@ fn ready(end: &Endpoint, nth: u32) -> &str {
 /// The object and the depth of a job.
 fn pick(rt: &impl Abort, alloc: Global, end: &Endpoint, tid: &str, shown: &mut Shown) {
     let tid = Tid::of(alloc, tid.as_bytes()).expect(rt, "no memory");
-    let job = end.pick(&tid).expect(rt, "no memory");
-    drop(tid);
-    match job {
+    match end.pick(&tid).expect(rt, "no memory") {
         Some(job) => {
             shown.put(job.own.as_str());
             shown.put(" at ");
             shown.tell(&job.depth);
-            drop(job);
         }
         None => shown.put("-"),
     }
@@ -56,7 +53,6 @@ fn pick(rt: &impl Abort, alloc: Global, end: &Endpoint, tid: &str, shown: &mut S
 fn next_oid(rt: &impl Abort, end: &Endpoint, shown: &mut Shown) {
     let oid = end.next_oid().expect(rt, "no memory");
     shown.put(oid.as_str());
-    drop(oid);
 }
 
 /// How many stubs, proxies and objects there are.

@@ -32,5 +32,4 @@ fn births_are_found_in_order_and_not_once_they_are_gone(rt: HostRuntime) {
         }
     }
     see(&rt, &index, STAY);
-    drop(index);
 }

@@ -318,10 +318,7 @@ const LARGE_ROWS: &[Row] = &[
 fn nested(rt: &impl Abort, alloc: Global, anys: usize, last: &str) -> String {
     let front = "([]any)[".repeat(alloc, anys).expect(rt, "no memory");
     let back = "]".repeat(alloc, anys).expect(rt, "no memory");
-    let whole = format!(in alloc; "{front}{last}{back}");
-    drop(back);
-    drop(front);
-    whole.expect(rt, "no memory")
+    format!(in alloc; "{front}{last}{back}").expect(rt, "no memory")
 }
 
 /// The literal of `$what`. A value is nested 64 deep at most.
@@ -345,10 +342,7 @@ fn plan(rt: &impl Abort, alloc: Global, registry: &Registry, case: &Case, statem
         let most long = 2147483647\nlet none t.XNode = null\nlet peer t.XNode = null\nlet what any = (void)\n\
         {statement}\nraise t.Refused {{\"end\",null,(void)}}\nend\nend\n"
     );
-    let text = text.expect(rt, "no memory");
-    let plan = plan_of(rt, alloc, registry, &text);
-    drop(text);
-    plan
+    plan_of(rt, alloc, registry, &text.expect(rt, "no memory"))
 }
 
 /// What a case asks where the literal of `$what` is this.
@@ -379,9 +373,7 @@ fn asked_by(
         ("peer", "t.XNode", "@C;2"),
         ("what", "any", what),
     ];
-    let said = asked(rt, alloc, registry, &plan, &called, &words);
-    drop(plan);
-    said
+    asked(rt, alloc, registry, &plan, &called, &words)
 }
 
 fn see(rt: &impl Abort, alloc: Global, registry: &Registry, row: &Row)
@@ -390,13 +382,8 @@ fn see(rt: &impl Abort, alloc: Global, registry: &Registry, row: &Row)
     let (case, statement, wanted) = row;
     let what = literal(rt, alloc, case.what);
     let said = asked_by(rt, alloc, registry, case, statement, &what);
-    let wanted = wanted
-        .replace(alloc, "$what", &what)
-        .expect(rt, "no memory");
-    drop(what);
-    assert_eq!(rt; said, wanted, "at {statement}");
-    drop(wanted);
-    drop(said);
+    let wanted = wanted.replace(alloc, "$what", &what);
+    assert_eq!(rt; said, wanted.expect(rt, "no memory"), "at {statement}");
 }
 
 fn see_rows(rt: &impl Abort, alloc: Global, rows: &[Row]) {
@@ -404,7 +391,6 @@ fn see_rows(rt: &impl Abort, alloc: Global, rows: &[Row]) {
     for row in rows {
         see(rt, alloc, &registry, row);
     }
-    drop(registry);
 }
 
 #[test]

@@ -13,5 +13,4 @@ fn a_root_begins_with_its_name_and_nothing_else(rt: HostRuntime) {
     assert!(rt; root.lines.is_empty());
     assert!(rt; root.loose.is_empty());
     assert!(rt; root.letting.is_empty());
-    drop(root);
 }

@@ -101,10 +101,7 @@ pub(crate) fn registry_with(rt: &impl Abort, alloc: Global, constructors: &str) 
     let text = format!(in alloc;
         "unoreg 1\nservice t.Nodes new t.XNode\n{constructors}end\ninterface t.XNode\nbase com.sun.star.uno.XInterface\nend\nsingleton t.one new t.XNode\nend\n"
     );
-    let text = text.expect(rt, "no memory");
-    let registry = registry_of(rt, alloc, &text);
-    drop(text);
-    registry
+    registry_of(rt, alloc, &text.expect(rt, "no memory"))
 }
 
 /// A plan whose one behaviour has these fields, with a service and a singleton of it.
@@ -114,10 +111,7 @@ pub(crate) fn plan_with(rt: &impl Abort, alloc: Global, registry: &Registry, fie
     let text = format!(in alloc;
         "unoplan 1\nbehaviour Node t.XNode\n{fields}end\nservice t.Nodes Node\nsingleton t.one Node\n"
     );
-    let text = text.expect(rt, "no memory");
-    let plan = plan_of(rt, alloc, registry, &text);
-    drop(text);
-    plan
+    plan_of(rt, alloc, registry, &text.expect(rt, "no memory"))
 }
 
 fn elements(value: &Value) -> &[Value] {
@@ -127,16 +121,15 @@ fn elements(value: &Value) -> &[Value] {
     }
 }
 
-fn put_created(said: &mut Shown, registry: &Registry, created: Result<Created, CreateError>) {
+fn put_created(said: &mut Shown, registry: &Registry, created: &Result<Created, CreateError>) {
     match created {
         Ok(Created::Fresh { fields, .. }) => {
             said.put("made");
-            said.put_values(registry, &fields);
-            drop(fields);
+            said.put_values(registry, fields);
         }
         Ok(Created::Singleton(place)) => {
             said.put("singleton ");
-            said.put_number(u64::from(place));
+            said.put_number(u64::from(*place));
         }
         Err(CreateError::NoMemory) => said.put("no memory"),
         Err(CreateError::UnknownService) => said.put("unknown"),
@@ -144,34 +137,15 @@ fn put_created(said: &mut Shown, registry: &Registry, created: Result<Created, C
     }
 }
 
-/// Puts what is created by a name and the literal of its arguments.
-fn put_new(
-    rt: &impl Abort,
-    alloc: Global,
-    registry: &Registry,
-    plan: &Plan,
-    name: &str,
-    args: &str,
-    said: &mut Shown,
-)
-    requires { IsSound registry.now }
-{
-    let args = value_of(rt, alloc, registry, "[]any", args);
-    let created = create(alloc, plan, registry, name, elements(&args));
-    drop(args);
-    put_created(said, registry, created);
-}
-
 fn see(rt: &impl Abort, alloc: Global, row: &Row) {
     let (name, constructors, fields, args, wanted) = *row;
     let registry = registry_with(rt, alloc, constructors);
     let plan = plan_with(rt, alloc, &registry, fields);
+    let args = value_of(rt, alloc, &registry, "[]any", args);
+    let created = create(alloc, &plan, &registry, name, elements(&args));
     let mut said = Shown::new(alloc);
-    put_new(rt, alloc, &registry, &plan, name, args, &mut said);
-    drop(plan);
-    drop(registry);
+    put_created(&mut said, &registry, &created);
     assert_eq!(rt; said.text.as_str(), wanted, "at {name} of {constructors}");
-    drop(said);
 }
 
 #[test]
@@ -188,7 +162,4 @@ fn service_names_are_those_of_services(rt: HostRuntime) {
     let names = service_names(rt.alloc(), &plan, &registry).expect(&rt, "no memory");
     assert_eq!(rt; names.len(), 1);
     assert_eq!(rt; names[0].as_str(), SERVICE);
-    drop(names);
-    drop(plan);
-    drop(registry);
 }

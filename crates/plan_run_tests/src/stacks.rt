@@ -107,12 +107,6 @@ fn put_frame(said: &mut Shown, frame: Option<&Frame>) {
     }
 }
 
-/// Puts a frame that was taken from its stack.
-fn put_taken(said: &mut Shown, frame: Option<Frame>) {
-    put_frame(said, frame.as_ref());
-    drop(frame);
-}
-
 fn put_call(said: &mut Shown, call: Option<(&Name, u16)>) {
     match call {
         Some((_, function)) => put(said, " ", u64::from(function)),
@@ -149,17 +143,16 @@ fn step_of(
             .push(&tid, frame_of(rt, alloc, frame))
             .expect(rt, "no memory"),
         "set" => set(rt, stacks, &tid, frame_of(rt, alloc, frame)),
-        "pop" => put_taken(said, stacks.pop(&tid)),
+        "pop" => put_frame(said, stacks.pop(&tid).as_ref()),
         "top" => put_frame(said, stacks.top(&tid)),
         "waits" => put_call(said, stacks.waiting_call(tid.as_bytes())),
         "depth" => put(said, " ", stacks.depth(&tid)),
         "answer" => match stacks.answer(&tid) {
-            Ok(frame) => put_taken(said, Some(frame)),
+            Ok(frame) => put_frame(said, Some(&frame)),
             Err(NobodyWaits) => said.put(" !"),
         },
         _ => said.put(" ?"),
     }
-    drop(tid);
 }
 
 fn step(rt: &impl Abort, alloc: Global, stacks: &mut Stacks, call: &str, said: &mut Shown) {
@@ -181,9 +174,7 @@ fn see(rt: &impl Abort, alloc: Global, calls: &str, wanted: &str) {
     for call in calls.split(',') {
         step(rt, alloc, &mut stacks, call, &mut said);
     }
-    drop(stacks);
     assert_eq!(rt; said.text.as_str(), wanted, "at {calls}");
-    drop(said);
 }
 
 #[test]
@@ -202,7 +193,6 @@ fn begin(rt: &impl Abort, alloc: Global, stacks: &mut Stacks, count: u32, calls:
                 .push(&tid, outgoing(rt, alloc, u64::from(call)))
                 .expect(rt, "no memory");
         }
-        drop(tid);
     }
 }
 
@@ -211,11 +201,9 @@ fn end_oldest(rt: &impl Abort, alloc: Global, stacks: &mut Stacks, number: u32, 
     let tid = tid_of(rt, alloc, &number.to_be_bytes());
     assert!(rt; is_tid(stacks.nth(0), &tid), "the oldest is not {number}");
     for _ in 0..calls {
-        let answered = stacks.answer(&tid).expect(rt, "nobody waits");
-        drop(answered);
+        assert!(rt; stacks.answer(&tid).is_ok(), "nobody waits at {number}");
     }
     assert!(rt; stacks.top(&tid).is_none(), "{number} is left");
-    drop(tid);
 }
 
 fn is_tid(found: Option<&Tid>, tid: &Tid) -> bool {
@@ -233,7 +221,6 @@ fn see_end(rt: &impl Abort, alloc: Global, count: u32, calls: u32) {
         end_oldest(rt, alloc, &mut stacks, number, calls);
     }
     assert!(rt; stacks.nth(0).is_none(), "a stack is left");
-    drop(stacks);
 }
 
 #[test]
@@ -255,7 +242,5 @@ fn a_stack_that_can_go_on_is_found_behind_many_that_wait(rt: HostRuntime) {
         assert!(rt; is_tid(stacks.ready(0), &tid), "the last is not found");
     }
     drop(stacks.pop(&tid));
-    drop(tid);
     assert!(rt; stacks.ready(0).is_none() && stacks.any_waits());
-    drop(stacks);
 }

@@ -48,7 +48,5 @@ pub(crate) fn value_of(
 {
     let kind = registry.type_named(alloc, kind).expect(rt, "no memory");
     let kind = kind.expect(rt, literal);
-    let value = read_value(alloc, registry, literal, &kind);
-    drop(kind);
-    value.expect(rt, literal)
+    read_value(alloc, registry, literal, &kind).expect(rt, literal)
 }

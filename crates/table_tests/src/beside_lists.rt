@@ -129,32 +129,17 @@ fn hold_or_let_go(
     }
 }
 
-/// Draws an operation.
-fn change_environment(
-    rt: &impl Abort,
-    alloc: Global,
-    rng: &mut Lcg64Xsh32,
-    environment: &mut Environment,
-    list: &mut Vec<Item>,
-) {
-    let item = Item::drawn(rng);
-    let holds = rng.next_word() % 2 == 0;
-    let oid = Text::of(alloc, oid_of(item)).expect(rt, "no memory");
-    let face = Name::of(alloc, face_of(item)).expect(rt, "no memory");
-    hold_or_let_go(rt, environment, list, item, (&oid, &face), holds);
-    drop(face);
-    drop(oid);
-}
-
 fn environment_follows(rt: &impl Abort, alloc: Global) {
     let mut rng = Lcg64Xsh32::seed_from_u64(18);
     let mut environment = Environment::new(alloc);
     let mut list = Vec::new(alloc);
     for _ in 0..OPERATIONS {
-        change_environment(rt, alloc, &mut rng, &mut environment, &mut list);
+        let item = Item::drawn(&mut rng);
+        let holds = rng.next_word() % 2 == 0;
+        let oid = Text::of(alloc, oid_of(item)).expect(rt, "no memory");
+        let face = Name::of(alloc, face_of(item)).expect(rt, "no memory");
+        hold_or_let_go(rt, &mut environment, &mut list, item, (&oid, &face), holds);
     }
-    drop(list);
-    drop(environment);
 }
 
 fn debt_of(table: &StubTable, oid: &Text, face: &Name) -> u64 {
@@ -186,32 +171,19 @@ fn send_or_release(
     }
 }
 
-/// Draws an operation; the holder of an item is left out.
-fn change_stubs(
-    rt: &impl Abort,
-    alloc: Global,
-    rng: &mut Lcg64Xsh32,
-    table: &mut StubTable,
-    list: &mut Vec<Item>,
-) {
-    let drawn = Item::drawn(rng);
-    let item = Item { holder: 0, ..drawn };
-    let oid = Text::of(alloc, oid_of(item)).expect(rt, "no memory");
-    let face = Name::of(alloc, face_of(item)).expect(rt, "no memory");
-    send_or_release(rt, table, list, item, (&oid, &face), drawn.holder == 0);
-    drop(face);
-    drop(oid);
-}
-
+/// The holder of an item is left out.
 fn stubs_follow(rt: &impl Abort, alloc: Global) {
     let mut rng = Lcg64Xsh32::seed_from_u64(19);
     let mut table = StubTable::new(alloc);
     let mut list = Vec::new(alloc);
     for _ in 0..OPERATIONS {
-        change_stubs(rt, alloc, &mut rng, &mut table, &mut list);
+        let drawn = Item::drawn(&mut rng);
+        let sends = drawn.holder == 0;
+        let item = Item { holder: 0, ..drawn };
+        let oid = Text::of(alloc, oid_of(item)).expect(rt, "no memory");
+        let face = Name::of(alloc, face_of(item)).expect(rt, "no memory");
+        send_or_release(rt, &mut table, &mut list, item, (&oid, &face), sends);
     }
-    drop(list);
-    drop(table);
 }
 
 /// An operation, and the same on the list of pairs that have a proxy; gives whether a number was made.
@@ -239,24 +211,6 @@ fn arrive_or_free(
     false
 }
 
-/// Draws an operation; the holder of an item is left out.
-fn change_proxies(
-    rt: &impl Abort,
-    alloc: Global,
-    rng: &mut Lcg64Xsh32,
-    table: &mut ProxyTable,
-    list: &mut Vec<Item>,
-) -> bool {
-    let drawn = Item::drawn(rng);
-    let item = Item { holder: 0, ..drawn };
-    let oid = Text::of(alloc, oid_of(item)).expect(rt, "no memory");
-    let face = Name::of(alloc, face_of(item)).expect(rt, "no memory");
-    let new = arrive_or_free(rt, table, list, item, (&oid, &face), drawn.holder != 0);
-    drop(face);
-    drop(oid);
-    new
-}
-
 /// How many numbers were made is compared with how many pairs arrived anew.
 fn proxies_follow(rt: &impl Abort, alloc: Global) {
     let mut rng = Lcg64Xsh32::seed_from_u64(20);
@@ -264,12 +218,15 @@ fn proxies_follow(rt: &impl Abort, alloc: Global) {
     let mut list = Vec::new(alloc);
     let mut made: u64 = 0;
     for _ in 0..OPERATIONS {
+        let drawn = Item::drawn(&mut rng);
+        let arrives = drawn.holder != 0;
+        let item = Item { holder: 0, ..drawn };
+        let oid = Text::of(alloc, oid_of(item)).expect(rt, "no memory");
+        let face = Name::of(alloc, face_of(item)).expect(rt, "no memory");
         assert!(rt; table.made() == made);
-        let new = change_proxies(rt, alloc, &mut rng, &mut table, &mut list);
+        let new = arrive_or_free(rt, &mut table, &mut list, item, (&oid, &face), arrives);
         made = made.saturating_add(u64::from(new));
     }
-    drop(list);
-    drop(table);
 }
 
 /// An object with one field: its number, the field, and its mark.
@@ -375,37 +332,25 @@ fn see_rows(rt: &impl Abort, store: &Store<u32>, list: &[Row], number: u32) {
     assert!(rt; field_of(store, number) == field);
 }
 
-/// Draws an operation.
-fn change_objects(
-    rt: &impl Abort,
-    alloc: Global,
-    rng: &mut Lcg64Xsh32,
-    store: &mut Store<u32>,
-    list: &mut Vec<Row>,
-) {
-    let drawn = rng.next_word() % 8;
-    let field = rng.next_word();
-    let what = rng.next_word() % 4;
-    let number = store.made().saturating_sub(drawn);
-    see_rows(rt, store, list, number);
-    let place = place_numbered(list, number);
-    if place < list.len() && what < 3 {
-        return change(rt, store, list, place, what, field);
-    }
-    let row = make(rt, alloc, store, field);
-    assert!(rt; list.push(row).is_ok());
-}
-
 /// What is listed are living objects in the order in which they were made.
 fn objects_follow(rt: &impl Abort, alloc: Global) {
     let mut rng = Lcg64Xsh32::seed_from_u64(21);
     let mut store = Store::new(alloc);
     let mut list = Vec::new(alloc);
     for _ in 0..OPERATIONS {
-        change_objects(rt, alloc, &mut rng, &mut store, &mut list);
+        let drawn = rng.next_word() % 8;
+        let field = rng.next_word();
+        let what = rng.next_word() % 4;
+        let number = store.made().saturating_sub(drawn);
+        see_rows(rt, &store, &list, number);
+        let place = place_numbered(&list, number);
+        if place < list.len() && what < 3 {
+            change(rt, &mut store, &mut list, place, what, field);
+        } else {
+            let row = make(rt, alloc, &mut store, field);
+            assert!(rt; list.push(row).is_ok());
+        }
     }
-    drop(list);
-    drop(store);
 }
 
 #[test]

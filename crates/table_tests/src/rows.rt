@@ -1,7 +1,7 @@
 //! The worked rows of the tables.
 use crate::calls::{arrive, free, send};
 use env_table::{Environment, Holder, NotHeld};
-use object_store::Store;
+use object_store::ObjectStore;
 use proxy_table::ProxyTable;
 use std::alloc::Global;
 use std::process::Abort;
@@ -44,7 +44,7 @@ fn one_number_a_pair(rt: &impl Abort, table: &mut ProxyTable, oid: &Text, face: 
 }
 
 /// Two objects, of which the first is marked.
-fn objects_1_and_2(rt: &impl Abort, alloc: Global, store: &mut Store<u32>) {
+fn objects_1_and_2(rt: &impl Abort, alloc: Global, store: &mut ObjectStore) {
     assert!(rt; store.made() == 0);
     assert!(rt; store.make(0, Vec::new(alloc)) == Ok(1));
     assert!(rt; store.made() == 1);
@@ -58,28 +58,17 @@ fn objects_1_and_2(rt: &impl Abort, alloc: Global, store: &mut Store<u32>) {
 
 /// Sees the rows of the three tables of pairs.
 fn see_pairs(rt: &impl Abort, alloc: Global, own: &Text, foreign: &Text, face: &Name) {
-    let mut stubs = StubTable::new(alloc);
-    three_are_owed(rt, &mut stubs, own, face);
-    drop(stubs);
-    let mut environment = Environment::new(alloc);
-    two_are_held(rt, &mut environment, own, face);
-    drop(environment);
-    let mut proxies = ProxyTable::new(alloc);
-    one_number_a_pair(rt, &mut proxies, foreign, face);
-    drop(proxies);
+    three_are_owed(rt, &mut StubTable::new(alloc), own, face);
+    two_are_held(rt, &mut Environment::new(alloc), own, face);
+    one_number_a_pair(rt, &mut ProxyTable::new(alloc), foreign, face);
 }
 
 #[test]
 fn worked_rows(rt: HostRuntime) {
     let alloc = rt.alloc();
-    let mut store = Store::new(alloc);
-    objects_1_and_2(&rt, alloc, &mut store);
-    drop(store);
+    objects_1_and_2(&rt, alloc, &mut ObjectStore::new(alloc));
     let own = Text::of(alloc, "S;1").expect(&rt, "no memory");
     let foreign = Text::of(alloc, "C;1").expect(&rt, "no memory");
     let face = Name::of(alloc, "demo.XEcho").expect(&rt, "no memory");
     see_pairs(&rt, alloc, &own, &foreign, &face);
-    drop(face);
-    drop(foreign);
-    drop(own);
 }

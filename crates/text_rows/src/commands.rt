@@ -7,13 +7,8 @@ use std::alloc::Global;
 /// `words LINE`, with a blank before each word: the command with its words, and its options by name; or `refused`.
 pub(crate) fn words(alloc: Global, line: &str, answer: &mut Answer) {
     let words = words_of(alloc, line);
-    let read = read_words(alloc, words.as_slice());
-    drop(words);
-    match read {
-        Ok(command) => {
-            put_command(&command, answer);
-            drop(command);
-        }
+    match &read_words(alloc, words.as_slice()) {
+        Ok(command) => put_command(command, answer),
         Err(WordsError::Words) => answer.word("refused"),
         Err(WordsError::NoMemory) => answer.word("no memory"),
     }

@@ -19,15 +19,11 @@ pub(crate) fn read(alloc: Global, text: &str, answer: &mut Answer) {
         }
         Err(error) => answer.show(&error),
     }
-    drop(bytes);
 }
 
 fn judge_text(registry: &Registry, bytes: &[u8], answer: &mut Answer) {
     match write_registry(registry.allocator(), registry) {
-        Ok(text) => {
-            answer.yes_or_no(text.as_slice() == bytes);
-            drop(text);
-        }
+        Ok(text) => answer.yes_or_no(text.as_slice() == bytes),
         Err(error) => answer.show(&error),
     }
 }
@@ -35,10 +31,7 @@ fn judge_text(registry: &Registry, bytes: &[u8], answer: &mut Answer) {
 /// `idl NUMBER`: the line of that number, from 1 on, of the UNOIDL of the file's registry.
 pub(crate) fn idl(registry: &Registry, number: &str, answer: &mut Answer) {
     match print(registry.allocator(), registry) {
-        Ok(text) => {
-            put_line(&text, number.parse::<u32>().unwrap_or(0), answer);
-            drop(text);
-        }
+        Ok(text) => put_line(&text, number.parse::<u32>().unwrap_or(0), answer),
         Err(error) => answer.show(&error),
     }
 }

@@ -45,23 +45,13 @@ fn registry_in(rt: &HostRuntime, name: &str) -> Result<Registry, RegError>
     ensures { IfOk result IsSound }
 {
     let bytes = bytes_in(rt, name);
-    let text = meant(
-        rt.alloc(),
-        ("", ""),
-        std::str::from_utf8(&bytes).unwrap_or(""),
-    );
-    drop(bytes);
-    let registry = read_registry(rt.alloc(), &text);
-    drop(text);
-    registry
+    let text = std::str::from_utf8(&bytes).unwrap_or("");
+    read_registry(rt.alloc(), &meant(rt.alloc(), ("", ""), text))
 }
 
 /// The bytes that a text in its frame stands for.
 fn meant(alloc: Global, frame: Frame<'_>, text: &str) -> Vec<u8> {
-    let row = row_of(alloc, frame, text);
-    let bytes = bytes_of(alloc, &row);
-    drop(row);
-    bytes
+    bytes_of(alloc, &row_of(alloc, frame, text))
 }
 
 fn judge_rows(rt: &HostRuntime, name: &str, registry: &Registry, lines: &str) -> io::Result<()>
@@ -101,19 +91,9 @@ fn judge_row(
     requires { IsSound registry.now }
 {
     let mut answer = Answer::new(rt.alloc());
-    let whole = row_of(rt.alloc(), frame, row);
-    answer_row(registry, &whole, &mut answer);
-    drop(whole);
-    let wanted = meant(rt.alloc(), ("", ""), wanted);
-    let judged = judge(rt, name, row, answer.bytes(), &wanted);
-    drop(wanted);
-    drop(answer);
-    judged
-}
-
-fn judge(rt: &HostRuntime, name: &str, row: &str, answer: &[u8], wanted: &[u8]) -> io::Result<()> {
-    if answer == wanted {
-        return Ok(());
+    answer_row(registry, &row_of(rt.alloc(), frame, row), &mut answer);
+    match answer.bytes() == meant(rt.alloc(), ("", ""), wanted).as_slice() {
+        true => Ok(()),
+        false => println!(rt; "{name}: {row} => {}", answer.bytes().escape_ascii()),
     }
-    println!(rt; "{name}: {row} => {}", answer.escape_ascii())
 }

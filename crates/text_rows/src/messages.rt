@@ -115,7 +115,6 @@ fn hear_bodies(registry: &Registry, echo: &mut Echo, bodies: &str, answer: &mut 
     for body in bodies.split(" | ") {
         let bytes = bytes_of(registry.allocator(), body);
         hear_all(registry, echo, &bytes, answer);
-        drop(bytes);
     }
 }
 
@@ -163,7 +162,6 @@ fn say(registry: &Registry, speaker: &mut Speaker, message: &Message, answer: &m
             Ok(block) => {
                 answer.word("said ");
                 answer.put(&block);
-                drop(block);
             }
             Err(error) => answer.show(&error),
         }

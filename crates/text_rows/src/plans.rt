@@ -15,9 +15,7 @@ pub(crate) fn plan(registry: &Registry, text: &str, answer: &mut Answer)
     requires { IsSound registry.now }
 {
     let bytes = bytes_of(registry.allocator(), text);
-    let read = read_plan(registry.allocator(), registry, &bytes);
-    drop(bytes);
-    match read {
+    match read_plan(registry.allocator(), registry, &bytes) {
         Ok(plan) => {
             put_counts(&plan, answer);
             drop(plan);
@@ -51,9 +49,7 @@ pub(crate) fn line(registry: &Registry, text: &str, answer: &mut Answer) {
 
 fn read_in(alloc: Global, words: &Words<'_>, text: &str, answer: &mut Answer) {
     let bytes = bytes_of(alloc, text);
-    let read = read_line(alloc, words, &bytes);
-    drop(bytes);
-    match read {
+    match read_line(alloc, words, &bytes) {
         Ok(Some(line)) => {
             drop(line);
             answer.word("yes");

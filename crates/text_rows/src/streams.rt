@@ -10,12 +10,9 @@ use urp_stream::{Block, Blocks};
 pub(crate) fn stream(alloc: Global, row: &str, answer: &mut Answer) {
     let mut blocks = Blocks::new(alloc);
     for piece in row.split(' ') {
-        let bytes = bytes_of(alloc, piece);
-        feed(&mut blocks, &bytes, answer);
-        drop(bytes);
+        feed(&mut blocks, &bytes_of(alloc, piece), answer);
         put_block(blocks.next_block(), answer);
     }
-    drop(blocks);
 }
 
 /// A stream that holds a block or has come to place 100 takes no more, and no piece of 100 bytes.
@@ -38,6 +35,5 @@ fn put_block(given: Option<Block>, answer: &mut Answer) {
         answer.show(&block.count);
         answer.word("");
         answer.put(&block.body);
-        drop(block);
     }
 }

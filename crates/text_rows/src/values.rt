@@ -54,14 +54,12 @@ pub(crate) fn value_of(registry: &Registry, kind: &TypeName, text: &str) -> Resu
     requires { IsSound registry.now }
 {
     let bytes = bytes_of(registry.allocator(), text);
-    let value = read_value(
+    read_value(
         registry.allocator(),
         registry,
         std::str::from_utf8(&bytes).unwrap_or(""),
         kind,
-    );
-    drop(bytes);
-    value
+    )
 }
 
 /// `literal TYPE | TEXT`: the literal of its value, or why and where it has none.
@@ -140,7 +138,6 @@ fn put_bytes(
         }
         Err(error) => answer.show(&error),
     }
-    drop(bytes);
 }
 
 /// `read TYPE | BYTES`: the literal of the value that a new end reads, and how many bytes spell it, or why it is refused.
@@ -166,9 +163,7 @@ fn read_with(
     requires { IsSound registry.now }
 {
     let bytes = bytes_of(registry.allocator(), text);
-    let read = read_bytes(registry.allocator(), registry, caches, kind, &bytes);
-    drop(bytes);
-    match read {
+    match read_bytes(registry.allocator(), registry, caches, kind, &bytes) {
         Ok((value, used)) => {
             answer.value(registry, &value);
             drop(value);

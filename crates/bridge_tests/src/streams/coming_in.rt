@@ -107,7 +107,6 @@ fn read(
     match incoming.read(registry, stacks, body) {
         Ok((message, size)) => {
             show_message(shown, &message);
-            drop(message);
             Some(size)
         }
         Err(ReadError::Broken(reason)) => {
@@ -168,7 +167,6 @@ fn take(
             shown.number(block.place);
             shown.number(u64::from(block.count));
             read_all(registry, stacks, incoming, &block, shown);
-            drop(block);
             count
         }
         Taken::Refused(count, reason) => {
@@ -212,9 +210,7 @@ fn waiting(rt: &impl Abort, alloc: Global) -> Stacks {
         function: 3,
     });
     let tid = tid(rt, alloc, b"T");
-    let pushed = stacks.push(&tid, frame);
-    drop(tid);
-    pushed.expect(rt, "no memory");
+    stacks.push(&tid, frame).expect(rt, "no memory");
     stacks
 }
 
@@ -245,9 +241,7 @@ fn see(
     if end {
         show_end(&incoming, &mut shown);
     }
-    drop(incoming);
     shown.see(rt, wanted, wanted);
-    drop(shown);
 }
 
 /// Sees that a row shows what it should at each cut.
@@ -277,8 +271,6 @@ fn bytes_show_what_the_rows_say_at_each_cut(rt: HostRuntime) {
     for row in REFUSED {
         see_cuts(&rt, rt.alloc(), &registry, &stacks, *row, false);
     }
-    drop(stacks);
-    drop(registry);
 }
 
 /// A call with a short header, and the front of a block.
@@ -327,9 +319,7 @@ fn see_forgotten(
     let mut incoming = Incoming::new(alloc).expect(rt, "no memory");
     let mut shown = Shown::new(alloc);
     forget_between(rt, registry, stacks, &mut incoming, bytes, &mut shown);
-    drop(incoming);
     shown.see(rt, wanted, wanted);
-    drop(shown);
 }
 
 #[test]
@@ -339,8 +329,6 @@ fn what_is_forgotten_is_as_if_it_never_came(rt: HostRuntime) {
     for row in FORGOTTEN {
         see_forgotten(&rt, rt.alloc(), &registry, &stacks, *row);
     }
-    drop(stacks);
-    drop(registry);
 }
 
 /// Whether a call of `twice` waits on a thread.
@@ -357,8 +345,5 @@ fn the_call_at_the_top_of_a_stack_waits(rt: HostRuntime) {
     assert!(&rt; Waiting { stacks: &stacks }.waits(b"V").is_none());
     assert!(&rt; waits(&stacks, b"T"));
     assert!(&rt; stacks.any_waits());
-    drop(stacks);
-    let none = Stacks::new(rt.alloc());
-    assert!(&rt; !none.any_waits());
-    drop(none);
+    assert!(&rt; !Stacks::new(rt.alloc()).any_waits());
 }

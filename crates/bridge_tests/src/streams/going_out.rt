@@ -92,11 +92,8 @@ fn drain(
     if !outgoing.waits(unsaid) {
         return;
     }
-    let bytes = outgoing
-        .drain(registry, unsaid, most)
-        .expect(rt, "no memory");
-    all.extend_from_slice(&bytes).ok();
-    drop(bytes);
+    let bytes = outgoing.drain(registry, unsaid, most);
+    all.extend_from_slice(&bytes.expect(rt, "no memory")).ok();
 }
 
 /// Sees which bytes wait, so many at a time.
@@ -117,7 +114,6 @@ fn see_drained(
         drain(rt, registry, outgoing, unsaid, most, &mut all);
     }
     assert!(rt; all.as_slice() == wanted);
-    drop(all);
 }
 
 /// Sees that the talk goes out as its bytes, so many at a time.
@@ -128,8 +124,6 @@ fn see_talk(rt: &impl Abort, alloc: Global, registry: &Registry, most: u32)
     let mut unsaid = Unsaid::new(alloc, tid(rt, alloc, b"U"));
     says_all(rt, alloc, registry, &mut unsaid, TALK);
     see_drained(rt, alloc, registry, &mut outgoing, &mut unsaid, most, BYTES);
-    drop(unsaid);
-    drop(outgoing);
 }
 
 #[test]
@@ -138,7 +132,6 @@ fn a_talk_goes_out_in_its_order_at_each_cut(rt: HostRuntime) {
     for most in 1..CUTS {
         see_talk(&rt, rt.alloc(), &registry, most);
     }
-    drop(registry);
 }
 
 /// Whether a release may be said.
@@ -154,9 +147,7 @@ fn may_release(
     ensures { IsTrue result → IsSayable registry.now (release thread.now oid.now face.now) }
 {
     let message = release(rt, alloc, thread, oid, face);
-    let may = is_sayable(registry, &message);
-    drop(message);
-    may
+    is_sayable(registry, &message)
 }
 
 /// Sees the bytes of a release in the room that was kept for it.
@@ -187,8 +178,6 @@ fn see_release(
         MANY,
         RELEASE,
     );
-    drop(unsaid);
-    drop(outgoing);
 }
 
 /// More bytes than the talk has.
@@ -201,7 +190,6 @@ const RELEASE: &[u8] = b"\0\0\0\x1A\0\0\0\x01\xF8\x02\x96\0\0\x0Ademo.XNode\x03S
 fn a_release_goes_out_on_the_thread_of_releases(rt: HostRuntime) {
     let registry = registry(&rt, rt.alloc());
     see_release(&rt, rt.alloc(), &registry, b"U", "S;1", NODE);
-    drop(registry);
 }
 
 /// Says the call, lets three of its bytes go out, and forgets the others.
@@ -234,13 +222,10 @@ fn see_told_again(rt: &impl Abort, alloc: Global, registry: &Registry)
     see_forgotten(rt, alloc, registry, &mut outgoing, &mut unsaid);
     says(rt, alloc, registry, &mut unsaid, "call");
     see_drained(rt, alloc, registry, &mut outgoing, &mut unsaid, MANY, CALL);
-    drop(unsaid);
-    drop(outgoing);
 }
 
 #[test]
 fn what_is_forgotten_is_told_in_full_again(rt: HostRuntime) {
     let registry = registry(&rt, rt.alloc());
     see_told_again(&rt, rt.alloc(), &registry);
-    drop(registry);
 }

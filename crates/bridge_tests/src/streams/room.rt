@@ -62,9 +62,7 @@ fn see(rt: &impl Abort, alloc: Global, calls: &str, wanted: &str) {
     for call in calls.split(',') {
         step(rt, alloc, &mut unsaid, call, &mut shown);
     }
-    drop(unsaid);
     shown.see(rt, calls, wanted);
-    drop(shown);
 }
 
 #[test]

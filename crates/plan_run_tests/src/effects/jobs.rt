@@ -41,11 +41,9 @@ fn heavy(rt: &impl Abort, alloc: Global, weight: usize) -> Value {
     let front = "sixteen of those".repeat(alloc, bytes / 16);
     let back = "x".repeat(alloc, bytes % 16);
     let mut text = front.expect(rt, "no memory");
-    let back = back.expect(rt, "no memory");
-    text.push_str(&back).expect(rt, "no memory");
-    drop(back);
+    text.push_str(&back.expect(rt, "no memory"))
+        .expect(rt, "no memory");
     let value = Value::Str(text_of(rt, alloc, &text));
-    drop(text);
     let kind = TypeName::Str;
     match Box::new(alloc, AnyValue { kind, value }) {
         Ok(any) => Value::Any(any),
@@ -117,12 +115,9 @@ fn job(
     }
 }
 
-fn put_done(said: &mut Shown, registry: &Registry, done: Result<Done, NoMemory>) {
+fn put_done(said: &mut Shown, registry: &Registry, done: &Result<Done, NoMemory>) {
     match done {
-        Ok(done) => {
-            put_effect(said, registry, &done.effect);
-            drop(done);
-        }
+        Ok(done) => put_effect(said, registry, &done.effect),
         Err(NoMemory) => said.put("no memory"),
     }
 }
@@ -141,6 +136,7 @@ pub(crate) fn asked(
     let mut said = Shown::new(alloc);
     let job = job(rt, alloc, registry, called, words);
     let done = next(alloc, plan, registry, job);
-    put_done(&mut said, registry, done);
+    put_done(&mut said, registry, &done);
+    drop(done);
     said.text
 }

@@ -46,18 +46,13 @@ fn left(rt: &impl Abort, alloc: Global, registry: &Registry, raised: &str) -> An
     drop(value);
     let tid = tid_of(rt, alloc, b"T");
     let face = name_of(rt, alloc, FACE);
-    let left = leaving_exception(alloc, registry, &tid, &face, 3, raised);
-    drop(face);
-    drop(tid);
-    left.expect(rt, "no memory")
+    leaving_exception(alloc, registry, &tid, &face, 3, raised).expect(rt, "no memory")
 }
 
-fn see(rt: &impl Abort, alloc: Global, registry: &Registry, exception: AnyValue, wanted: &str) {
+fn see(rt: &impl Abort, alloc: Global, registry: &Registry, exception: &AnyValue, wanted: &str) {
     let mut said = Shown::new(alloc);
-    said.put_any(registry, &exception);
-    drop(exception);
+    said.put_any(registry, exception);
     assert_eq!(rt; said.text.as_str(), wanted);
-    drop(said);
 }
 
 #[test]
@@ -65,9 +60,8 @@ fn an_exception_leaves_that_its_function_may_raise(rt: HostRuntime) {
     let registry = registry_of(&rt, rt.alloc(), ENTITIES);
     for (raised, wanted) in ROWS {
         let left = left(&rt, rt.alloc(), &registry, raised);
-        see(&rt, rt.alloc(), &registry, left, wanted);
+        see(&rt, rt.alloc(), &registry, &left, wanted);
     }
-    drop(registry);
 }
 
 #[test]
@@ -78,8 +72,7 @@ fn a_cause_is_a_runtime_exception(rt: HostRuntime) {
         &rt,
         rt.alloc(),
         &registry,
-        exception,
+        &exception,
         "(com.sun.star.uno.RuntimeException){\"depth\",null}",
     );
-    drop(registry);
 }

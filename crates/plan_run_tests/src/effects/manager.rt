@@ -51,8 +51,5 @@ fn the_service_manager_asks_what_the_rows_say(rt: HostRuntime) {
             &words,
         );
         assert_eq!(rt; said.as_str(), *wanted, "at {function} of {name}");
-        drop(said);
     }
-    drop(plan);
-    drop(registry);
 }
