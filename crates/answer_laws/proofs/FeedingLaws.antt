@@ -152,24 +152,23 @@ feeding_keeps g bytes t u runs b piece more is =
 -- ---- the end of the input
 
 -- behind a part that is fed the order feeds it first
-end_behind : (g : Setting) (bytes : List ℕ) (x u : Told) (runs : List Run) (d : ℕ) (part : List ℕ) → Reaches g bytes (here x runs (d ∷ (part ++ [])))
-    → InPart g runs [] x d part → AllIsDone g (behind x (d ∷ part)).side runs → stands (behind x (d ∷ part)).side ≡ true
-    → tells g (behind x (d ∷ part)) ended ≡ Some u → IsInOrder g bytes u runs []
-end_behind g bytes x u runs d part there part_fed done standing told =
+reaches_behind : (g : Setting) (bytes : List ℕ) (x : Told) (runs : List Run) (d : ℕ) (part : List ℕ) → Reaches g bytes (here x runs (d ∷ (part ++ [])))
+    → InPart g runs [] x d part → Reaches g bytes (here (behind x (d ∷ part)) runs [])
+reaches_behind g bytes x runs d part there part_fed =
     let had = had_room g runs [] x d part part_fed in
     let room_was = had.room in
     let fits : length (d ∷ part) ≤ room x = omega (arith, room_was) in
     let cuts = ap (next_cut x.side) (append-nil (d ∷ part)) ∙ cut_none x.side.incoming.held (d ∷ part) (room x) part_fed.ends_nothing fits in
     let next =
     piece_on g bytes x (behind x (d ∷ part)) runs d (part ++ []) (d ∷ part) there part_fed.done had.standing had.few had.less cuts part_fed.told in
-    let left = subst (λ z. Reaches g bytes (here (behind x (d ∷ part)) runs z)) (drop_at (d ∷ part) [] (length (d ∷ part)) refl) next in
-    stands_on g bytes (here (behind x (d ∷ part)) runs []) u runs [] left (once_ended g (behind x (d ∷ part)) u runs done standing told)
+    subst (λ z. Reaches g bytes (here (behind x (d ∷ part)) runs z)) (drop_at (d ∷ part) [] (length (d ∷ part)) refl) next
+
+-- so the order reaches each place in order at which no byte is to come
+pub reaches_end : (g : Setting) (bytes : List ℕ) (t : Told) (runs : List Run) → IsInOrder g bytes t runs [] → Reaches g bytes (here t runs [])
+reaches_end g bytes t runs is =
+    by_place (λ z. Reaches g bytes (here z runs [])) is (λ there. there) (λ x d part there part_fed. reaches_behind g bytes x runs d part there part_fed)
 
 pub end_keeps : (g : Setting) (bytes : List ℕ) (t u : Told) (runs : List Run) → IsInOrder g bytes t runs [] → AllIsDone g t.side runs → stands t.side ≡ true
     → tells g t ended ≡ Some u → IsInOrder g bytes u runs []
-end_keeps g bytes t u runs is =
-    by_place
-    (λ z. AllIsDone g z.side runs → stands z.side ≡ true → tells g z ended ≡ Some u → IsInOrder g bytes u runs [])
-    is
-    (λ there done standing told. stands_on g bytes (here t runs []) u runs [] there (once_ended g t u runs done standing told))
-    (λ x d part there part_fed done standing told. end_behind g bytes x u runs d part there part_fed done standing told)
+end_keeps g bytes t u runs is done standing told =
+    stands_on g bytes (here t runs []) u runs [] (reaches_end g bytes t runs is) (once_ended g t u runs done standing told)

@@ -8,7 +8,7 @@ use Rattle.bridge_model.specs.Orders.{Working, begins_work, root_move, enters, o
 use Rattle.bridge_model.specs.Settings.{Setting}
 use Rattle.bridge_model.specs.Sides.{stands}
 use Rattle.bridge_model.specs.Steps.{has_entries, has_fed}
-use Rattle.answer_laws.specs.Working.{Reaches, AllIsDone, PartIsFed, StandsAt, IsInOrder, IsDone}
+use Rattle.answer_laws.specs.Working.{Reaches, at_first, at_next, AllIsDone, PartIsFed, StandsAt, IsInOrder, IsDone}
 use Rattle.answer_laws.proofs.PartLaws.{behind, part_is_told}
 
 abbrev pub here : Told → List Run → List ℕ → Working
@@ -17,20 +17,32 @@ here t runs rest = record { told = t; runs = runs; rest = rest }
 -- ---- steps
 
 pub reaches_first : (g : Setting) (bytes : List ℕ) → Reaches g bytes (begins_work g bytes)
-reaches_first g bytes = record { steps = zero; leads = λ more. let same : zero + more ≡ more = omega arith in ap (λ k. works k g (begins_work g bytes)) same }
+reaches_first g bytes = at_first
+
+-- a step more leads on
+pub reaches_on : (g : Setting) (bytes : List ℕ) (w v : Working) → Reaches g bytes w → works_once g w ≡ Some v → Reaches g bytes v
+reaches_on g bytes w v there is = at_next there is
 
 works_on : (more : ℕ) (g : Setting) (w v : Working) → works_once g w ≡ Some v → works (suc more) g w ≡ works more g v
 unfolding works
 works_on more g w v is = ap (goes_on_working (works more g) w) is
 
--- a step more leads on
-pub reaches_on : (g : Setting) (bytes : List ℕ) (w v : Working) → Reaches g bytes w → works_once g w ≡ Some v → Reaches g bytes v
-reaches_on g bytes w v there is = record { steps = suc there.steps; leads = λ more. leads_on more }
+-- so many steps lead from the beginning to here
+record InSteps (g : Setting) (bytes : List ℕ) (w : Working) : Type 0 where
+  pub steps : ℕ
+  pub leads : (more : ℕ) → works (steps + more) g (begins_work g bytes) ≡ works more g w
+
+one_more : (g : Setting) (bytes : List ℕ) (w v : Working) → InSteps g bytes w → works_once g w ≡ Some v → InSteps g bytes v
+one_more g bytes w v there is = record { steps = suc there.steps; leads = λ more. leads_on more }
   where
     leads_on : (more : ℕ) → works (suc there.steps + more) g (begins_work g bytes) ≡ works more g v
     leads_on more =
         let turned : suc there.steps + more ≡ there.steps + suc more = omega arith in
         ap (λ k. works k g (begins_work g bytes)) turned ∙ (there.leads (suc more) ∙ works_on more g w v is)
+
+in_steps : (g : Setting) (bytes : List ℕ) (w : Working) → Reaches g bytes w → InSteps g bytes w
+in_steps g bytes w' at_first = record { steps = zero; leads = λ more. let same : zero + more ≡ more = omega arith in ap (λ k. works k g (begins_work g bytes)) same }
+in_steps g bytes w' (at_next {w} {next} before is) = one_more g bytes w next (in_steps g bytes w before) is
 
 works_not : (g : Setting) (w : Working) → works_once g w ≡ None → works (suc zero) g w ≡ Some w
 unfolding works
@@ -38,7 +50,9 @@ works_not g w is = ap (goes_on_working (works zero g) w) is
 
 -- where no step is left, the order is done
 pub done_at : (g : Setting) (bytes : List ℕ) (w : Working) → Reaches g bytes w → works_once g w ≡ None → IsDone g bytes w.told
-done_at g bytes w there is = record { steps = there.steps + suc zero; last = w; works = there.leads (suc zero) ∙ works_not g w is; told = refl }
+done_at g bytes w there is =
+    let counted = in_steps g bytes w there in
+    record { steps = counted.steps + suc zero; last = w; works = counted.leads (suc zero) ∙ works_not g w is; told = refl }
 
 -- ---- one thing that is done
 

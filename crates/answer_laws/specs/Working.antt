@@ -1,19 +1,19 @@
 -- Where an end stands that works in the order of `answer`, though it reads its bytes in pieces of its own.
-use Rattle.std.specs.Prelude.{◌≡◌, ℕ, ◌+◌, true, false, List, [], ◌∷◌, ◌++◌, None, Some}
+use Rattle.std.specs.Prelude.{◌≡◌, ℕ, true, false, List, [], ◌∷◌, ◌++◌, None, Some}
 use Rattle.plan_model.specs.Roots.{Run}
 use Rattle.bridge_model.specs.Answers.{ready_at, may_reap, drained_next}
 use Rattle.bridge_model.specs.Entries as entry
 use Rattle.bridge_model.specs.Feeding.{ends_part}
 use Rattle.bridge_model.specs.Histories.{Told, tells}
-use Rattle.bridge_model.specs.Orders.{Working, begins_work, works, root_move, most_drained}
+use Rattle.bridge_model.specs.Orders.{Working, begins_work, works_once, works, root_move, most_drained}
 use Rattle.bridge_model.specs.Settings.{Setting}
 use Rattle.bridge_model.specs.Sides.{Side}
 use Rattle.bridge_model.specs.Steps.{may, has_fed}
 
--- some steps of the order lead from the beginning to here
-pub record Reaches (g : Setting) (bytes : List ℕ) (w : Working) : Type 0 where
-  pub steps : ℕ
-  pub leads : (more : ℕ) → works (steps + more) g (begins_work g bytes) ≡ works more g w
+-- the places that the order reaches: the beginning, and what is behind one thing more that is done
+pub data Reaches (g : Setting) (bytes : List ℕ) : Working → Type 0 where
+  at_first : Reaches g bytes (begins_work g bytes)
+  at_next : {w next : Working} → Reaches g bytes w → works_once g w ≡ Some next → Reaches g bytes next
 
 -- nothing stands before feeding: no method is ready, no root moves, no object may go, and no byte waits
 pub record AllIsDone (g : Setting) (s : Side) (runs : List Run) : Type 0 where

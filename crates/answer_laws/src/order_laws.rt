@@ -49,3 +49,9 @@ pub fn what_is_written_in_order_is_the_answer()
         → stands t.side ≡ false → IsDone g bytes t }
     ensures answered { (g : Setting) (bytes : List ℕ) (t : Told) → IsDone g bytes t → IsAnswered g bytes t.bytes_out }
 {}
+
+/// Behind all bytes the order comes to rest once: where all is done and the bridge stands.
+pub fn the_order_rests_once_behind_all_bytes()
+    ensures { (g : Setting) (bytes : List ℕ) (t u : Told) (runs next : List Run) → IsInOrder g bytes t runs [] → AllIsDone g t.side runs → stands t.side ≡ true
+        → IsInOrder g bytes u next [] → AllIsDone g u.side next → stands u.side ≡ true → t ≡ u }
+{}

@@ -5,7 +5,7 @@ use Rattle.uno_base.specs.Causes.{Rose}
 use Rattle.bridge_model.specs.Settings.{Setting}
 use Rattle.bridge_model.specs.declared.cause.Cause.{Cause}
 use Rattle.bridge_model.specs.declared.cause.Cause.TheVariants as reason
-use Rattle.answering.specs.Answering.{WasRead, AnsweredWhole, InputEnded, AnsweredPart}
+use Rattle.answering.specs.Answering.{WasRead, AnsweredWhole, GoesOnTelling, InputEnded, AnsweredPart}
 use Rattle.answering.specs.Serving.{HoldsFront, Serves, Reads}
 use Rattle.answering.specs.declared.stopped.Halted.{Halted}
 use Rattle.answering.specs.declared.stopped.Stopped.{Stopped}
@@ -24,6 +24,10 @@ module _ (g : Setting) (i j o p : Option (List ℕ)) where
 
   pub part_at : (r : Result Stopped Halted) → Serves g i j o p r → (s : List ℕ) → WasRead i j s → AnsweredPart g s o p
   part_at r is s was = answered_part (front_at r is) s was
+
+  -- and the input goes on telling what it has left, if it told
+  pub goes_on_at : (r : Result Stopped Halted) → Serves g i j o p r → GoesOnTelling i j
+  goes_on_at r is = let front = front_at r is in record { front = front.read; consumed = front.consumed }
 
   module _ (x : Stopped) (is : Serves g i j o p (Ok x)) where
     pub bridge_at : (why : Cause) → x ≡ stopped.Bridge why → (s : List ℕ) → WasRead i j s → AnsweredWhole g s false o p why

@@ -1,6 +1,6 @@
 -- What `answer` wrote, and why it stopped.
 use Rattle.std.specs.Prelude.{◌≡◌, ℕ, Bool, true, false, List, [], ◌++◌, Option, None, Some}
-use Rattle.std.specs.Io.KnownBytes.{Appends}
+use Rattle.std.specs.Io.KnownBytes.{Appends, Consumes}
 use Rattle.uno_io.specs.Fronts.{AppendsFront}
 use Rattle.plan_model.specs.Roots.{Run}
 use Rattle.bridge_model.specs.Answers.{awaits_input}
@@ -15,6 +15,11 @@ abbrev pub WasRead : Option (List ℕ) → Option (List ℕ) → List ℕ → Ty
 WasRead (Some old) (Some new) bytes = old ≡ bytes ++ new
 WasRead (Some old) None bytes = ⊥
 WasRead None new bytes = ⊥
+
+-- a source that tells what it has left goes on telling it: it has lost a front
+pub record GoesOnTelling (old new : Option (List ℕ)) : Type 0 where
+  pub front : List ℕ
+  pub consumed : Consumes old new front
 
 -- whether these bytes, which were read, are all; the bridge may have ended before, whatever was to come behind them
 pub data Had (read : List ℕ) : Bool → List ℕ → Type 0 where

@@ -8,7 +8,7 @@ ghost use Rattle.bridge_model.specs.Orders.{first_runs};
 ghost use Rattle.bridge_model.specs.Sides.{stands};
 ghost use Rattle.bridge_model.specs.declared.cause.Cause.{Cause as Why};
 ghost use Rattle.bridge_model.specs.declared.cause.Cause.TheVariants as cause;
-ghost use Rattle.answering.specs.Answering.{AnsweredPart, AnsweredWhole, InputEnded, WasRead};
+ghost use Rattle.answering.specs.Answering.{AnsweredPart, AnsweredWhole, GoesOnTelling, InputEnded, WasRead};
 ghost use Rattle.answering.specs.Ends.{ClosesSo, IsSettled};
 ghost use Rattle.answering.specs.Serving.{Reads, Serves, Writes};
 ghost use Rattle.answering.specs.Turning.{AreRoots};
@@ -49,6 +49,7 @@ pub fn answer<I: Source, O: Sink>(
     ensures write_fault { result ≡ Stopped.WriteFault → Rose (O.faults output.old) (O.faults output.new) }
     ensures no_write_fault { result ≢ Stopped.WriteFault → O.faults output.new ≡ O.faults output.old }
     ensures part { (s : List ℕ) → WasRead (I.left input.old) (I.left input.new) s → AnsweredPart (setting_at end.old) s (O.taken output.old) (O.taken output.new) }
+    ensures goes_on { GoesOnTelling (I.left input.old) (I.left input.new) }
     ensures stays { O.closed output.new ≡ O.closed output.old }
 {
     match serve(end, runs, input, output) {

@@ -3,9 +3,9 @@ use Rattle.std.proofs.Common.{◌≡◌, ◌≢◌, ◌⊎◌, ℕ, true, List, 
 use Rattle.uno_io.specs.Files.{Stored}
 use Rattle.bridge_model.specs.Settings.{Setting}
 use Rattle.command_words.specs.Names.{Text}
-use Rattle.uno_run.specs.Answer.{AnswerRun, FilesServed, HasServed, IsOf, OwnRun, Served}
+use Rattle.uno_run.specs.Answer.{AnswerRun, EndsServing, FilesServed, HasServed, IsOf, OwnRun, Served}
 use Rattle.uno_run.specs.Lines.{has_own_line}
-use Rattle.uno_run.specs.Serving.{Ends, ServedOrNot}
+use Rattle.uno_run.specs.Serving.{ServedOrNot}
 use Rattle.uno_run.specs.SettingUp.{IsOfFiles, NotSetUp}
 use Rattle.uno_run.specs.declared.status.Status.{Status}
 use Rattle.uno_run.specs.declared.status.Status.TheVariants.{Done, Words, BadRegistry, BadPlan, ReadFault, WriteFault, Broken, Cut, Full, NoFile, NoMemory}
@@ -40,13 +40,13 @@ same_readings store types plan before now (NoFile file) none no_fault = none.1
 same_readings store types plan before now NoMemory none no_fault = none
 
 -- no other status is that of words or of files
-pub no_words : (status : Status) → Ends status → status ≡ Words → ⊥
-no_words status ends e = subst Ends e ends
+pub no_words : (status : Status) → EndsServing status → status ≡ Words → ⊥
+no_words status ends e = subst EndsServing e ends
 
 pub none_no_words : (store : Option Stored) (types plan : Text) (before now : ℕ) (status : Status) → NotSetUp store types plan before now status → status ≡ Words → ⊥
 none_no_words store types plan before now status none e = subst (NotSetUp store types plan before now) e none
 
-ended_so : {A : Type 0} (status : Status) → Ends status → HasServed status ⊎ ((status ≡ ReadFault) ⊎ (status ≡ NoMemory)) ⊎ A
+ended_so : {A : Type 0} (status : Status) → EndsServing status → HasServed status ⊎ ((status ≡ ReadFault) ⊎ (status ≡ NoMemory)) ⊎ A
 ended_so Done ends = inl tt
 ended_so Words ends = absurd ends
 ended_so (BadRegistry file line reason) ends = absurd ends
@@ -83,6 +83,7 @@ module _ {F I O : Type 0} (stored : F → Option Stored) (readings : F → ℕ) 
   run_none status none =
       let as_is = λ (s : Status) (e : status ≡ s). subst (NotSetUp (stored files_old) types plan (readings files_old) (readings files_new)) e none in
       record {
+        no_words = none_no_words (stored files_old) types plan (readings files_old) (readings files_new) status none;
         served = λ h. absurd (not_served (stored files_old) types plan (readings files_old) (readings files_new) status none h);
         read_fault = λ e. inl (as_is ReadFault e, refl, refl);
         no_memory = λ e. inl (refl, refl);
@@ -110,29 +111,31 @@ module _ {F I O : Type 0} (stored : F → Option Stored) (readings : F → ℕ) 
           was = record { setting = g; is_of = is.is_of; served = served };
         }
 
-    pub run_served : (g : Setting) (status : Status) → IsOfFiles (stored files_old) types plan tag g → readings files_new ≡ readings files_old → Ends status
+    pub run_served : (g : Setting) (status : Status) → IsOfFiles (stored files_old) types plan tag g → readings files_new ≡ readings files_old → EndsServing status
         → ServedOrNot left reads taken writes g input_old input_new output_old output_new status
         → AnswerRun stored readings left reads taken writes types plan tag files_old files_new input_old input_new output_old output_new status
     run_served g status is same ends (inl served) =
         let was = files_served g status is served in
         record {
+          no_words = no_words status ends;
           served = λ h. was;
-          read_fault = λ e. inr was;
+          read_fault = λ e. inr (same, was);
           no_memory = λ e. inr was;
-          bad_registry = λ file line reason e. absurd (subst Ends e ends);
-          bad_plan = λ file line why e. absurd (subst Ends e ends);
-          no_file = λ file e. absurd (subst Ends e ends);
+          bad_registry = λ file line reason e. absurd (subst EndsServing e ends);
+          bad_plan = λ file line why e. absurd (subst EndsServing e ends);
+          no_file = λ file e. absurd (subst EndsServing e ends);
           idle = ended_so status ends;
           no_file_fault = λ no_fault. same;
         }
     run_served g status is same ends (inr none) =
         record {
+          no_words = no_words status ends;
           served = λ h. let bad : ⊥ = subst HasServed none.0 h in absurd bad;
           read_fault = λ e. let lost = none.0 in let bad : ⊥ = cc in absurd bad;
           no_memory = λ e. inl (none.1, none.2);
-          bad_registry = λ file line reason e. absurd (subst Ends e ends);
-          bad_plan = λ file line why e. absurd (subst Ends e ends);
-          no_file = λ file e. absurd (subst Ends e ends);
+          bad_registry = λ file line reason e. absurd (subst EndsServing e ends);
+          bad_plan = λ file line why e. absurd (subst EndsServing e ends);
+          no_file = λ file e. absurd (subst EndsServing e ends);
           idle = ended_so status ends;
           no_file_fault = λ no_fault. same;
         }
@@ -156,6 +159,7 @@ module _ {F I O : Type 0} (stored : F → Option Stored) (readings : F → ℕ) 
     lost_run : (status : Status) → has_own_line status ≡ true → AnswerRun stored readings left reads taken writes types plan tag files_old files_new input_old input_new output_old output_new status
         → AnswerRun stored readings left reads taken writes types plan tag files_old files_new input_old input_new output_old output_new NoMemory
     lost_run status own run = record {
+      no_words = λ e. let bad : ⊥ = cc in absurd bad;
       served = λ h. absurd h;
       read_fault = λ e. let bad : ⊥ = cc in absurd bad;
       no_memory = λ e. lost_memory status own run.served run.idle;

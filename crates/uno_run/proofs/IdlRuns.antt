@@ -4,9 +4,8 @@ use Rattle.uno_base.specs.Causes.{Rose}
 use Rattle.uno_io.specs.Files.{Stored, read_at}
 use Rattle.command_words.specs.Names.{Text}
 use Rattle.uno_model.specs.Entities.{Entity}
-use Rattle.registry_reading.specs.Verdicts.{IsAccepted}
 use Rattle.registry_reading_model.proofs.NoneOfRegistry.{no_bad_line, not_out_of_order, breaks_none}
-use Rattle.uno_run.specs.Idl.{IdlRun, IsRefused, Tells}
+use Rattle.uno_run.specs.Idl.{EndsPrinting, IdlRun, IsRefused, IsRegistryText, Tells}
 use Rattle.uno_run.specs.Printing.{TextPrinted}
 use Rattle.uno_run.specs.Reading.{Unread}
 use Rattle.uno_run.specs.Lines.{has_own_line}
@@ -30,12 +29,29 @@ quiet text old new before now Full p no_fault = absurd p
 quiet text old new before now (NoFile file) p no_fault = absurd p
 quiet text old new before now NoMemory p no_fault = p.1
 
--- the text of a registry that keeps the rules is not refused
-not_refused : (text : List ℕ) (registry : List Entity) → IsAccepted text registry → length text ≤ 4194304 → (line : ℕ) (reason : RegistryReason) → IsRefused text line reason → ⊥
-not_refused text registry is short line reason.TooLong refused = omega (arith, short, refused.1)
-not_refused text registry is short line reason.BadLine refused = no_bad_line text registry is.keeps is.rising is.text line refused.0
-not_refused text registry is short line reason.Order refused = not_out_of_order text registry is.keeps is.rising is.text line refused.0
-not_refused text registry is short line (reason.Rule number) refused = breaks_none text registry is.keeps is.rising is.text is.built_in refused.0.rule line refused.0.breaks
+-- the text of a registry is not refused
+pub not_refused : (text : List ℕ) (registry : List Entity) → IsRegistryText text registry → (line : ℕ) (reason : RegistryReason) → IsRefused text line reason → ⊥
+not_refused text registry is line reason.TooLong refused = omega (arith, is.short, refused.1)
+not_refused text registry is line reason.BadLine refused = let it = is.accepted in no_bad_line text registry it.keeps it.rising it.text line refused.0
+not_refused text registry is line reason.Order refused = let it = is.accepted in not_out_of_order text registry it.keeps it.rising it.text line refused.0
+not_refused text registry is line (reason.Rule number) refused =
+    let it = is.accepted in
+    let broken = refused.0 in
+    breaks_none text registry it.keeps it.rising it.text it.built_in broken.rule line broken.breaks
+
+-- a text ends printing as its status says
+text_only : (text : List ℕ) (old new : Option (List ℕ)) (before now : ℕ) (status : Status) → TextPrinted text old new before now status → EndsPrinting status
+text_only text old new before now Done p = tt
+text_only text old new before now Words p = p
+text_only text old new before now (BadRegistry file line reason) p = tt
+text_only text old new before now (BadPlan file line reason) p = p
+text_only text old new before now ReadFault p = tt
+text_only text old new before now WriteFault p = tt
+text_only text old new before now (Broken reason place) p = p
+text_only text old new before now Cut p = p
+text_only text old new before now Full p = p
+text_only text old new before now (NoFile file) p = tt
+text_only text old new before now NoMemory p = tt
 
 -- a text that is not refused is printed, where the output does not fail and memory is enough
 well_printed : (text : List ℕ) (old new : Option (List ℕ)) (before now : ℕ) (status : Status) → TextPrinted text old new before now status
@@ -66,6 +82,19 @@ unread_same store name place before now Full u no_fault = absurd u
 unread_same store name place before now (NoFile file) u no_fault = u.2
 unread_same store name place before now NoMemory u no_fault = u
 
+unread_only : (store : Option Stored) (name : Text) (place before now : ℕ) (status : Status) → Unread store name place before now status → EndsPrinting status
+unread_only store name place before now Done u = tt
+unread_only store name place before now Words u = u
+unread_only store name place before now (BadRegistry file line reason) u = tt
+unread_only store name place before now (BadPlan file line reason) u = u
+unread_only store name place before now ReadFault u = tt
+unread_only store name place before now WriteFault u = tt
+unread_only store name place before now (Broken reason at) u = u
+unread_only store name place before now Cut u = u
+unread_only store name place before now Full u = u
+unread_only store name place before now (NoFile file) u = tt
+unread_only store name place before now NoMemory u = tt
+
 -- memory was wanted, where it is there and the store does not fail
 unread_well : (store : Option Stored) (name : Text) (place before now : ℕ) (status : Status) → Unread store name place before now status → (files : Stored) (text : List ℕ) → store ≡ Some files
     → read_at name files ≡ Some text → (Rose before now → ⊥) → status ≡ NoMemory
@@ -90,6 +119,7 @@ module _ {F O : Type 0} (stored : F → Option Stored) (reads : F → ℕ) (take
   unread_ran status unread =
       let as_is = λ (s : Status) (e : status ≡ s). subst (Unread (stored files_old) name 0 (reads files_old) (reads files_new)) e unread in
       record {
+        only = unread_only (stored files_old) name 0 (reads files_old) (reads files_new) status unread;
         done = λ e. absurd (as_is Done e);
         refused = λ file line reason e. absurd (as_is (BadRegistry file line reason) e);
         read_fault = λ e. as_is ReadFault e;
@@ -98,7 +128,7 @@ module _ {F O : Type 0} (stored : F → Option Stored) (reads : F → ℕ) (take
         no_read_fault = λ no_fault. unread_same (stored files_old) name 0 (reads files_old) (reads files_new) status unread no_fault;
         no_write_fault = λ no_fault. refl;
         silent = λ not_done no_fault. refl;
-        well = λ files text registry stores reads_so accepted short no_read no_write. inr (unread_well (stored files_old) name 0 (reads files_old) (reads files_new) status unread files text stores reads_so no_read);
+        well = λ files text registry stores reads_so is_text no_read no_write. inr (unread_well (stored files_old) name 0 (reads files_old) (reads files_new) status unread files text stores reads_so no_read);
       }
 
 module _ {F O : Type 0} (stored : F → Option Stored) (reads : F → ℕ) (taken : O → Option (List ℕ)) (writes : O → ℕ) (name : Text) (files_old files_new : F) (output_old output_new : O) where
@@ -108,19 +138,20 @@ module _ {F O : Type 0} (stored : F → Option Stored) (reads : F → ℕ) (take
   text_ran status text told same printed silent =
       let as_is = λ (s : Status) (e : status ≡ s). subst (TextPrinted text (taken output_old) (taken output_new) (writes output_old) (writes output_new)) e printed in
       record {
-        done = λ e. let p = as_is Done e in record { text = text; registry = p.registry; told = told; is_text = p.is_text; written = p.printed.0 };
+        only = text_only text _ _ _ _ status printed;
+        done = λ e. let p = as_is Done e in record { registry = p.registry; is_of = record { text = text; told = told; is_text = p.is_text }; written = p.printed.0 };
         refused = λ file line reason e. let p = as_is (BadRegistry file line reason) e in (p.0, record { text = text; told = told; refused = p.1 });
         read_fault = λ e. absurd (as_is ReadFault e);
-        write_fault = λ e. let p = as_is WriteFault e in (p.printed.1, record { text = text; registry = p.registry; told = told; is_text = p.is_text; written = p.printed.0 });
+        write_fault = λ e. let p = as_is WriteFault e in (p.printed.1, record { registry = p.registry; is_of = record { text = text; told = told; is_text = p.is_text }; written = p.printed.0 });
         no_file = λ file e. absurd (as_is (NoFile file) e);
         no_read_fault = λ no_fault. same;
         no_write_fault = quiet text _ _ _ _ status printed;
         silent = silent;
-        well = λ files other registry stores reads_so accepted short no_read no_write.
+        well = λ files other registry stores reads_so is_text no_read no_write.
             let both : Some text ≡ Some other = sym (told files stores) ∙ reads_so in
             let is : text ≡ other = cc in
             well_printed text _ _ _ _ status printed
-            (λ line reason refused. not_refused other registry accepted short line reason (subst (λ t. IsRefused t line reason) is refused)) no_write;
+            (λ line reason refused. not_refused other registry is_text line reason (subst (λ t. IsRefused t line reason) is refused)) no_write;
       }
 
   -- where memory is wanted for the line, that is the status
@@ -129,6 +160,7 @@ module _ {F O : Type 0} (stored : F → Option Stored) (reads : F → ℕ) (take
   lost status own run =
       let plain = λ (s : Status) (none : has_own_line s ≡ false) (e : status ≡ s). own_differs status s own none e in
       record {
+        only = tt;
         done = λ e. let bad : ⊥ = cc in absurd bad;
         refused = λ file line reason e. let bad : ⊥ = cc in absurd bad;
         read_fault = λ e. let bad : ⊥ = cc in absurd bad;
@@ -137,7 +169,7 @@ module _ {F O : Type 0} (stored : F → Option Stored) (reads : F → ℕ) (take
         no_read_fault = λ no_fault. run.no_read_fault (plain ReadFault refl);
         no_write_fault = λ no_fault. run.no_write_fault (plain WriteFault refl);
         silent = λ not_done no_fault. run.silent (plain Done refl) (plain WriteFault refl);
-        well = λ files text registry stores reads_so accepted short no_read no_write. inr refl;
+        well = λ files text registry stores reads_so is_text no_read no_write. inr refl;
       }
 
   pub kept_run : (result status : Status) → Kept result status → IdlRun stored reads taken writes name files_old files_new output_old output_new status

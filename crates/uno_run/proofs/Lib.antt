@@ -1,4 +1,5 @@
 pub mod AnswerRuns
+pub mod EndingLaws
 pub mod IdlRuns
 pub mod Keeping
 pub mod Results

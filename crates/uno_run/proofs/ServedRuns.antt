@@ -6,12 +6,11 @@ use Rattle.bridge_model.specs.Settings.{Setting}
 use Rattle.bridge_model.specs.declared.cause.Cause.{Cause}
 use Rattle.bridge_model.specs.declared.cause.Cause.TheVariants as cause
 use Rattle.urp_model.specs.declared.reason.Reason.{Reason}
-use Rattle.answering.specs.Answering.{AnsweredPart, AnsweredWhole, InputEnded, WasRead}
+use Rattle.answering.specs.Answering.{AnsweredPart, AnsweredWhole, GoesOnTelling, InputEnded, WasRead}
 use Rattle.answering.specs.declared.stopped.Stopped.{Stopped}
 use Rattle.answering.specs.declared.stopped.Stopped.TheVariants as stopped
-use Rattle.uno_run.specs.Answer.{Served}
+use Rattle.uno_run.specs.Answer.{EndsServing, Served}
 use Rattle.uno_run.specs.Lines.{has_own_line}
-use Rattle.uno_run.specs.Serving.{Ends}
 use Rattle.uno_run.specs.declared.status.Status.{Status}
 use Rattle.uno_run.specs.declared.status.Status.TheVariants.{Done, Words, BadRegistry, BadPlan, ReadFault, WriteFault, Broken, Cut, Full, NoFile, NoMemory}
 use Rattle.uno_run.proofs.Keeping.{own_differs}
@@ -30,6 +29,7 @@ pub record Answered {I O : Type 0} (left : I → Option (List ℕ)) (reads : I �
   pub write_fault : why ≡ stopped.WriteFault → Rose (writes output_old) (writes output_new)
   pub no_write_fault : why ≢ stopped.WriteFault → writes output_new ≡ writes output_old
   pub part : (s : List ℕ) → WasRead (left input_old) (left input_new) s → AnsweredPart g s (taken output_old) (taken output_new)
+  pub goes_on : GoesOnTelling (left input_old) (left input_new)
 
 -- what its status says of that
 pub record Says (why : Stopped) (status : Status) : Type 0 where
@@ -39,7 +39,7 @@ pub record Says (why : Stopped) (status : Status) : Type 0 where
   pub full : status ≡ Full → why ≡ stopped.Bridge cause.Full
   pub read_fault : status ≡ ReadFault → why ≡ stopped.ReadFault
   pub write_fault : (status ≡ WriteFault) ↔ (why ≡ stopped.WriteFault)
-  pub ends : Ends status
+  pub ends : EndsServing status
 
 module _ {I O : Type 0} (left : I → Option (List ℕ)) (reads : I → ℕ) (taken : O → Option (List ℕ)) (writes : O → ℕ) (g : Setting) (input_old input_new : I) (output_old output_new : O) where
   by_end : (why : Stopped) → Answered left reads taken writes g input_old input_new output_old output_new why → (why ≡ stopped.Bridge cause.Disposed) ⊎ (why ≡ stopped.Input false)
@@ -70,6 +70,8 @@ module _ {I O : Type 0} (left : I → Option (List ℕ)) (reads : I → ℕ) (ta
   pub served_so : (why : Stopped) (status : Status) → Answered left reads taken writes g input_old input_new output_old output_new why → Says why status
       → Served left reads taken writes g input_old input_new output_old output_new status
   served_so why status a n = record {
+    only = n.ends;
+    goes_on = a.goes_on;
     done = λ e s read. by_end why a (n.done e) s read;
     cut = λ e s read. (a.input true (n.cut e) s read, a.cut true (n.cut e) s read, a.at_end true (n.cut e));
     broken = λ reason place e s read. a.bridge (cause.Broken reason place) (n.broken reason place e) s read;
@@ -86,6 +88,8 @@ module _ {I O : Type 0} (left : I → Option (List ℕ)) (reads : I → ℕ) (ta
   pub lost_served : (status : Status) → has_own_line status ≡ true → Served left reads taken writes g input_old input_new output_old output_new status
       → Served left reads taken writes g input_old input_new output_old output_new NoMemory
   lost_served status own served = record {
+    only = tt;
+    goes_on = served.goes_on;
     done = λ e. let bad : ⊥ = cc in absurd bad;
     cut = λ e. let bad : ⊥ = cc in absurd bad;
     broken = λ reason place e. let bad : ⊥ = cc in absurd bad;

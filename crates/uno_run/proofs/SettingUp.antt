@@ -1,21 +1,28 @@
 -- The setting of two texts, and what follows of a run that has it or has none.
-use Rattle.std.proofs.Common.{◌≡◌, ℕ, List, Option, Some, Ok, sym, ap, subst, ◌∙◌, inl, inr}
+use Rattle.std.proofs.Common.{◌≡◌, ◌↔◌, ℕ, ◌<◌, ◌≤◌, List, length, Option, Some, Ok, Err, sym, ap, subst, ◌∙◌, inl, inr, arith}
 use Rattle.uno_io.specs.Files.{Stored}
 use Rattle.uno_model.specs.Entities.{Entity}
 use Rattle.bridge_model.specs.Settings.{Setting}
 use Rattle.command_words.specs.Names.{Text}
 use Rattle.plan_reading_model.specs.TextReading.{verdict}
-use Rattle.registry_reading.specs.Verdicts.{IsAccepted}
 use Rattle.uno_run.specs.Answer.{IsOf}
-use Rattle.uno_run.specs.Idl.{Tells}
+use Rattle.uno_run.specs.Idl.{IsOfFile, IsRegistryText, Tells}
 use Rattle.uno_run.specs.Reading.{Unread}
-use Rattle.uno_run.specs.SettingUp.{IsOfFile, IsOfFiles, NotSetUp, RefusedRegistry, RefusedText}
+use Rattle.uno_run.specs.SettingUp.{IsOfFiles, NotSetUp, RefusedRegistry, RefusedText}
 use Rattle.uno_run.specs.declared.status.Status.{Status}
 use Rattle.uno_run.specs.declared.status.Status.TheVariants.{Done, Words, BadRegistry, BadPlan, ReadFault, WriteFault, Broken, Cut, Full, NoFile, NoMemory}
 
-pub is_of : (types plan tag : List ℕ) (registry : List Entity) (g : Setting) → IsAccepted types registry → g.tag ≡ tag → g.registry ≡ registry → verdict registry plan ≡ Ok g.plan
-    → IsOf types plan tag g
-is_of types plan tag registry g accepted tagged same read = record { accepted = subst (IsAccepted types) (sym same) accepted; read = ap (λ r. verdict r plan) same ∙ read; tagged = tagged }
+pub is_of : (types plan tag : List ℕ) (registry : List Entity) (g : Setting) → IsRegistryText types registry → g.tag ≡ tag → g.registry ≡ registry
+    → verdict registry plan ≡ Ok g.plan → IsOf types plan tag g
+is_of types plan tag registry g is_text tagged same read =
+    record { is_text = subst (IsRegistryText types) (sym same) is_text; read = ap (λ r. verdict r plan) same ∙ read; tagged = tagged }
+
+-- a text that was read is not too long
+pub short_text : {T E : Type 0} (x : T) (e : E) (text : List ℕ) → (Ok x ≡ Err e) ↔ (4194304 < length text) → length text ≤ 4194304
+short_text x e text long = let within : 4194304 < length text → ⊥ = λ above. no_error (long.1 above) in omega (arith, within)
+  where
+    no_error : Ok x ≡ Err e → ⊥
+    no_error is = cc
 
 -- ---- the first file
 
@@ -50,18 +57,19 @@ refused_types store types plan before now text NoMemory told same r = same
 
 -- ---- the second
 
-pub unread_plan : (store : Option Stored) (types plan : Text) (before now : ℕ) (status : Status) → Unread store plan 1 before now status → NotSetUp store types plan before now status
-unread_plan store types plan before now Done u = absurd u
-unread_plan store types plan before now Words u = absurd u
-unread_plan store types plan before now (BadRegistry file line reason) u = absurd u
-unread_plan store types plan before now (BadPlan file line reason) u = absurd u
-unread_plan store types plan before now ReadFault u = u
-unread_plan store types plan before now WriteFault u = absurd u
-unread_plan store types plan before now (Broken reason place) u = absurd u
-unread_plan store types plan before now Cut u = absurd u
-unread_plan store types plan before now Full u = absurd u
-unread_plan store types plan before now (NoFile file) u = (inr (u.0, u.1), u.2)
-unread_plan store types plan before now NoMemory u = u
+pub unread_plan : (store : Option Stored) (types plan : Text) (before now : ℕ) (registry : List Entity) (status : Status) → IsOfFile store types registry
+    → Unread store plan 1 before now status → NotSetUp store types plan before now status
+unread_plan store types plan before now registry Done first u = absurd u
+unread_plan store types plan before now registry Words first u = absurd u
+unread_plan store types plan before now registry (BadRegistry file line reason) first u = absurd u
+unread_plan store types plan before now registry (BadPlan file line reason) first u = absurd u
+unread_plan store types plan before now registry ReadFault first u = u
+unread_plan store types plan before now registry WriteFault first u = absurd u
+unread_plan store types plan before now registry (Broken reason place) first u = absurd u
+unread_plan store types plan before now registry Cut first u = absurd u
+unread_plan store types plan before now registry Full first u = absurd u
+unread_plan store types plan before now registry (NoFile file) first u = (inr (u.0, record { registry = registry; is_of = first; plan_told = u.1 }), u.2)
+unread_plan store types plan before now registry NoMemory first u = u
 
 pub refused_plan : (store : Option Stored) (types plan : Text) (before now : ℕ) (registry : List Entity) (text : List ℕ) (status : Status) → IsOfFile store types registry
     → Tells store plan (Some text) → now ≡ before → RefusedText registry text status → NotSetUp store types plan before now status
@@ -69,7 +77,7 @@ refused_plan store types plan before now registry text Done first told same r = 
 refused_plan store types plan before now registry text Words first told same r = absurd r
 refused_plan store types plan before now registry text (BadRegistry file line reason) first told same r = absurd r
 refused_plan store types plan before now registry text (BadPlan file line reason) first told same r =
-    (r.0, record { types_text = first.text; plan_text = text; registry = registry; types_told = first.told; accepted = first.accepted; plan_told = told; refused = r.1 }, same)
+    (r.0, record { registry = registry; is_of = first; plan_text = text; plan_told = told; refused = r.1 }, same)
 refused_plan store types plan before now registry text ReadFault first told same r = absurd r
 refused_plan store types plan before now registry text WriteFault first told same r = absurd r
 refused_plan store types plan before now registry text (Broken reason place) first told same r = absurd r
@@ -79,6 +87,6 @@ refused_plan store types plan before now registry text (NoFile file) first told 
 refused_plan store types plan before now registry text NoMemory first told same r = same
 
 pub both_files : (store : Option Stored) (types plan : Text) (tag text : List ℕ) (registry : List Entity) (g : Setting) → IsOfFile store types registry → Tells store plan (Some text)
-    → ((typed : List ℕ) → IsAccepted typed registry → IsOf typed text tag g) → IsOfFiles store types plan tag g
+    → ((typed : List ℕ) → IsRegistryText typed registry → IsOf typed text tag g) → IsOfFiles store types plan tag g
 both_files store types plan tag text registry g first told is =
-    record { types_text = first.text; plan_text = text; types_told = first.told; plan_told = told; is_of = is first.text first.accepted }
+    record { types_text = first.text; plan_text = text; types_told = first.told; plan_told = told; is_of = is first.text first.is_text }

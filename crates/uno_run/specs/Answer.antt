@@ -7,25 +7,38 @@ use Rattle.uno_model.specs.Entities.{Entity}
 use Rattle.urp_model.specs.declared.reason.Reason.{Reason}
 use Rattle.plan_model.specs.declared.line_reason.LineReason.{LineReason}
 use Rattle.plan_reading_model.specs.TextReading.{verdict}
-use Rattle.registry_reading.specs.Verdicts.{IsAccepted}
 use Rattle.bridge_model.specs.Settings.{Setting}
 use Rattle.bridge_model.specs.declared.cause.Cause.TheVariants as cause
 use Rattle.command_words.specs.Names.{Text}
-use Rattle.answering.specs.Answering.{AnsweredPart, AnsweredWhole, InputEnded, WasRead}
-use Rattle.uno_run.specs.Idl.{Refused, Tells}
+use Rattle.answering.specs.Answering.{AnsweredPart, AnsweredWhole, GoesOnTelling, InputEnded, WasRead}
+use Rattle.uno_run.specs.Idl.{IsOfFile, IsRegistryText, Refused, Tells}
 use Rattle.uno_run.specs.declared.reason.RegistryReason.{RegistryReason}
 use Rattle.uno_run.specs.declared.status.Status.{Status}
-use Rattle.uno_run.specs.declared.status.Status.TheVariants.{Done, BadRegistry, BadPlan, ReadFault, WriteFault, Broken, Cut, Full, NoFile, NoMemory}
+use Rattle.uno_run.specs.declared.status.Status.TheVariants.{Done, Words, BadRegistry, BadPlan, ReadFault, WriteFault, Broken, Cut, Full, NoFile, NoMemory}
 
 -- the setting of an endpoint with this tag: the registry and the plan of two texts
 pub record IsOf (types plan tag : List ℕ) (g : Setting) : Type 0 where
-  pub accepted : IsAccepted types g.registry
+  pub is_text : IsRegistryText types g.registry
   pub read : verdict g.registry plan ≡ Ok g.plan
   pub tagged : g.tag ≡ tag
+
+-- the statuses with which the serving of an endpoint ends
+abbrev pub EndsServing : Status → Type 0
+EndsServing Done = Unit
+EndsServing ReadFault = Unit
+EndsServing WriteFault = Unit
+EndsServing (Broken why place) = Unit
+EndsServing Cut = Unit
+EndsServing Full = Unit
+EndsServing NoMemory = Unit
+EndsServing status = ⊥
 
 -- an endpoint of this setting over an input and an output, and how the run ended
 pub record Served {I O : Type 0} (left : I → Option (List ℕ)) (reads : I → ℕ) (taken : O → Option (List ℕ)) (writes : O → ℕ) (g : Setting)
     (input_old input_new : I) (output_old output_new : O) (status : Status) : Type 0 where
+  pub only : EndsServing status
+  -- an input that tells what it has left goes on telling it, whatever the status
+  pub goes_on : GoesOnTelling (left input_old) (left input_new)
   -- the bridge was disposed; or the input ended at the edge of a block, while no call waited for an answer
   pub done : status ≡ Done → (s : List ℕ) → WasRead (left input_old) (left input_new) s
       → AnsweredWhole g s false (taken output_old) (taken output_new) cause.Disposed ⊎ (AnsweredWhole g s true (taken output_old) (taken output_new) cause.Ended × InputEnded g s false × IsAtEnd (left input_new))
@@ -75,26 +88,32 @@ pub record FilesServed {I O : Type 0} (left : I → Option (List ℕ)) (reads : 
 
 -- the first file is the text of a registry, and the second a text that is no plan in it, first at this line for this reason
 pub record RefusedPlan (store : Option Stored) (types plan : Text) (line : ℕ) (why : LineReason) : Type 0 where
-  pub types_text : List ℕ
-  pub plan_text : List ℕ
   pub registry : List Entity
-  pub types_told : Tells store types (Some types_text)
-  pub accepted : IsAccepted types_text registry
+  pub is_of : IsOfFile store types registry
+  pub plan_text : List ℕ
   pub plan_told : Tells store plan (Some plan_text)
   pub refused : verdict registry plan_text ≡ Err (record { line = line; reason = why })
+
+-- the first file is the text of a registry, and the second is not there
+pub record LacksPlan (store : Option Stored) (types plan : Text) : Type 0 where
+  pub registry : List Entity
+  pub is_of : IsOfFile store types registry
+  pub plan_told : Tells store plan None
 
 -- a run of `answer` on two files
 pub record AnswerRun {F I O : Type 0} (stored : F → Option Stored) (readings : F → ℕ) (left : I → Option (List ℕ)) (reads : I → ℕ) (taken : O → Option (List ℕ)) (writes : O → ℕ)
     (types plan : Text) (tag : List ℕ) (files_old files_new : F) (input_old input_new : I) (output_old output_new : O) (status : Status) : Type 0 where
+  pub no_words : status ≢ Words
   pub served : HasServed status → FilesServed left reads taken writes (stored files_old) types plan tag input_old input_new output_old output_new status
-  -- a file failed, or the input did
+  -- a file failed, or the files were read and the input failed
   pub read_fault : status ≡ ReadFault → (Rose (readings files_old) (readings files_new) × (input_new ≡ input_old) × (output_new ≡ output_old))
-      ⊎ FilesServed left reads taken writes (stored files_old) types plan tag input_old input_new output_old output_new status
+      ⊎ ((readings files_new ≡ readings files_old)
+      × FilesServed left reads taken writes (stored files_old) types plan tag input_old input_new output_old output_new status)
   pub no_memory : status ≡ NoMemory → ((input_new ≡ input_old) × (output_new ≡ output_old))
       ⊎ FilesServed left reads taken writes (stored files_old) types plan tag input_old input_new output_old output_new status
   -- the first file that is refused or is not there ends the run, and nothing is read or written
   pub bad_registry : (file line : ℕ) (reason : RegistryReason) → status ≡ BadRegistry file line reason → (file ≡ 0) × Refused (stored files_old) types line reason
   pub bad_plan : (file line : ℕ) (why : LineReason) → status ≡ BadPlan file line why → (file ≡ 1) × RefusedPlan (stored files_old) types plan line why
-  pub no_file : (file : ℕ) → status ≡ NoFile file → ((file ≡ 0) × Tells (stored files_old) types None) ⊎ ((file ≡ 1) × Tells (stored files_old) plan None)
+  pub no_file : (file : ℕ) → status ≡ NoFile file → ((file ≡ 0) × Tells (stored files_old) types None) ⊎ ((file ≡ 1) × LacksPlan (stored files_old) types plan)
   pub idle : HasServed status ⊎ ((status ≡ ReadFault) ⊎ (status ≡ NoMemory)) ⊎ ((input_new ≡ input_old) × (output_new ≡ output_old))
   pub no_file_fault : status ≢ ReadFault → readings files_new ≡ readings files_old

@@ -7,8 +7,7 @@ use Rattle.uno_model.specs.Entities.{Entity}
 use Rattle.registry_text_model.specs.Canonical.{canonical_unoidl}
 use Rattle.registry_reading.specs.declared.error.RegError.{RegError}
 use Rattle.registry_reading.specs.declared.error.RegError.TheVariants as error
-use Rattle.registry_reading.specs.Verdicts.{IsAccepted}
-use Rattle.uno_run.specs.Idl.{IsRefused}
+use Rattle.uno_run.specs.Idl.{IsRefused, IsRegistryText}
 use Rattle.uno_run.specs.declared.reason.RegistryReason.TheVariants as reason
 use Rattle.uno_run.specs.declared.status.Status.{Status}
 use Rattle.uno_run.specs.declared.status.Status.TheVariants.{Done, BadRegistry, WriteFault, NoMemory}
@@ -35,7 +34,7 @@ RegistryPrinted registry old new before now status = TextWritten (canonical_unoi
 -- the registry of a text
 pub record Printed (text : List ℕ) (old new : Option (List ℕ)) (before now : ℕ) (status : Status) : Type 0 where
   pub registry : List Entity
-  pub is_text : IsAccepted text registry
+  pub is_text : IsRegistryText text registry
   pub printed : TextWritten (canonical_unoidl registry) old new before now status
 
 -- the registry of the text was printed, or the text was refused, or memory was wanted

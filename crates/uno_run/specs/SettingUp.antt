@@ -8,17 +8,10 @@ use Rattle.behaviour_text.specs.declared.error.PlanError.TheVariants as error
 use Rattle.bridge_model.specs.Settings.{Setting}
 use Rattle.command_words.specs.Names.{Text}
 use Rattle.plan_reading_model.specs.TextReading.{verdict}
-use Rattle.registry_reading.specs.Verdicts.{IsAccepted}
-use Rattle.uno_run.specs.Answer.{IsOf, RefusedPlan}
+use Rattle.uno_run.specs.Answer.{IsOf, LacksPlan, RefusedPlan}
 use Rattle.uno_run.specs.Idl.{IsRefused, Refused, Tells}
 use Rattle.uno_run.specs.declared.status.Status.{Status}
 use Rattle.uno_run.specs.declared.status.Status.TheVariants.{BadRegistry, BadPlan, ReadFault, NoFile, NoMemory}
-
--- the file is the text of a registry
-pub record IsOfFile (store : Option Stored) (types : Text) (registry : List Entity) : Type 0 where
-  pub text : List ℕ
-  pub told : Tells store types (Some text)
-  pub accepted : IsAccepted text registry
 
 -- the files have these texts, and the setting is theirs
 pub record IsOfFiles (store : Option Stored) (types plan : Text) (tag : List ℕ) (g : Setting) : Type 0 where
@@ -51,7 +44,7 @@ plan_refused (error.BadLine line why) = BadPlan 1 line why
 abbrev pub NotSetUp : Option Stored → (types plan : Text) → (before now : ℕ) → Status → Type 0
 NotSetUp store types plan before now (BadRegistry file line reason) = (file ≡ 0) × Refused store types line reason × (now ≡ before)
 NotSetUp store types plan before now (BadPlan file line why) = (file ≡ 1) × RefusedPlan store types plan line why × (now ≡ before)
-NotSetUp store types plan before now (NoFile file) = (((file ≡ 0) × Tells store types None) ⊎ ((file ≡ 1) × Tells store plan None)) × (now ≡ before)
+NotSetUp store types plan before now (NoFile file) = (((file ≡ 0) × Tells store types None) ⊎ ((file ≡ 1) × LacksPlan store types plan)) × (now ≡ before)
 NotSetUp store types plan before now ReadFault = Rose before now
 NotSetUp store types plan before now NoMemory = now ≡ before
 NotSetUp store types plan before now _ = ⊥

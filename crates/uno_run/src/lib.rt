@@ -3,6 +3,7 @@
 
 mod files;
 mod idl;
+mod laws;
 mod lines;
 mod own;
 mod reason;
@@ -11,6 +12,10 @@ mod setting_up;
 mod status;
 mod top;
 
+pub use laws::{
+    a_run_that_nothing_hinders_ends_as_the_order_of_work, an_input_ends_in_one_way,
+    the_order_of_work_has_one_end,
+};
 pub use lines::report;
 pub use reason::RegistryReason;
 pub use status::Status;

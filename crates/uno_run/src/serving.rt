@@ -8,8 +8,8 @@ ghost use Rattle.plan_model.specs.Plans.{manager_name};
 ghost use Rattle.plan_model.specs.Roots.{opening_run};
 ghost use Rattle.plan_model.specs.Statements.{RootStatement};
 ghost use Rattle.urp_model.specs.declared.reason.Reason.{Reason};
-ghost use Rattle.uno_run.specs.Answer.{Served};
-ghost use Rattle.uno_run.specs.Serving.{Ends, ServedOrNot};
+ghost use Rattle.uno_run.specs.Answer.{EndsServing, Served};
+ghost use Rattle.uno_run.specs.Serving.{ServedOrNot};
 
 use crate::Status;
 use answering::{Stopped, answer};
@@ -33,7 +33,7 @@ pub(crate) fn serve<I: Source, O: Sink>(
 ) -> Status
     requires { end.entries ≡ [] }
     ensures served { ServedOrNot I.left I.faults O.taken O.faults (setting_at end) input.old input.new output.old output.new result }
-    ensures ends { Ends result }
+    ensures ends { EndsServing result }
     ensures stays { O.closed output.new ≡ O.closed output.old }
 {
     let mut end = end;
@@ -51,7 +51,7 @@ fn serve_lent<I: Source, O: Sink>(
 ) -> Status
     requires { end.old.entries ≡ [] }
     ensures served { ServedOrNot I.left I.faults O.taken O.faults (setting_at end.old) input.old input.new output.old output.new result }
-    ensures ends { Ends result }
+    ensures ends { EndsServing result }
     ensures stays { O.closed output.new ≡ O.closed output.old }
 {
     match runs_of(alloc, end) {
@@ -70,7 +70,7 @@ fn serve_roots<I: Source, O: Sink>(
     requires beginning { end.old.entries ≡ [] }
     requires roots { map run_of runs.old.items ≡ first_runs 1 (setting_at end.old).plan.threads }
     ensures served { Served I.left I.faults O.taken O.faults (setting_at end.old) input.old input.new output.old output.new result }
-    ensures ends { Ends result }
+    ensures ends { EndsServing result }
     ensures stays { O.closed output.new ≡ O.closed output.old }
 {
     let stopped = answer(end, runs, input, output);
@@ -126,7 +126,7 @@ fn status_of(stopped: Stopped) -> Status
     ensures full { result ≡ Status.Full → stopped ≡ Stopped.Bridge why.Full }
     ensures read_fault { result ≡ Status.ReadFault → stopped ≡ Stopped.ReadFault }
     ensures write_fault { (result ≡ Status.WriteFault) ↔ (stopped ≡ Stopped.WriteFault) }
-    ensures ends { Ends result }
+    ensures ends { EndsServing result }
 {
     match stopped {
         Stopped::Bridge(Cause::Disposed) => Status::Done,

@@ -4,12 +4,12 @@ ghost use Rattle.bridge_endpoint.specs.Journals.{opening_endpoint, setting_at};
 ghost use Rattle.plan_model.specs.declared.line_reason.LineReason.{LineReason};
 ghost use Rattle.plan_reading_model.specs.TextReading.{verdict};
 ghost use Rattle.plan_typing.specs.Effects.{NamesDiffer};
-ghost use Rattle.registry_reading.specs.Verdicts.{IsAccepted};
 ghost use Rattle.uno_model.specs.Sound.{IsSound};
 ghost use Rattle.command_words.specs.Names.{Text};
 ghost use Rattle.uno_run.specs.Answer.{IsOf};
+ghost use Rattle.uno_run.specs.Idl.{IsOfFile, IsRegistryText};
 ghost use Rattle.uno_run.specs.Own.{own_plan, own_types};
-ghost use Rattle.uno_run.specs.SettingUp.{IsOfFile, IsOfFiles, NotSetUp, RefusedRegistry, RefusedText, plan_refused};
+ghost use Rattle.uno_run.specs.SettingUp.{IsOfFiles, NotSetUp, RefusedRegistry, RefusedText, plan_refused};
 
 use crate::Status;
 use crate::files::{refused, text_of};
@@ -31,7 +31,7 @@ pub(crate) fn own_end(alloc: Global, tag: &Tag) -> Result<Endpoint, NoMemory>
     ensures is_of { IfOk result (λ e. IsOf own_types own_plan tag.now (setting_at e)) }
     ensures opening { IfOk result (λ e. e.entries ≡ []) }
 {
-    match read_registry(alloc, own_types()) {
+    match registry_in(alloc, own_types()) {
         Ok(registry) => own_end_in(alloc, tag, registry),
         Err(_) => Err(NoMemory),
     }
@@ -40,11 +40,11 @@ pub(crate) fn own_end(alloc: Global, tag: &Tag) -> Result<Endpoint, NoMemory>
 /// The same in its registry.
 fn own_end_in(alloc: Global, tag: &Tag, registry: Registry) -> Result<Endpoint, NoMemory>
     requires sound { IsSound registry }
-    requires accepted { IsAccepted own_types registry }
+    requires names { NamesDiffer registry }
+    requires is_text { IsRegistryText own_types registry }
     ensures is_of { IfOk result (λ e. IsOf own_types own_plan tag.now (setting_at e)) }
     ensures opening { IfOk result (λ e. e.entries ≡ []) }
 {
-    know_names(&registry);
     match end_of(alloc, tag, registry, own_plan()) {
         Ok(end) => Ok(end),
         Err(_) => Err(NoMemory),
@@ -87,7 +87,7 @@ fn registry_of<F: Files>(alloc: Global, types: &str, files: &mut F) -> Result<Re
 
 /// The registry of a text.
 fn registry_in(alloc: Global, text: &[u8]) -> Result<Registry, Status>
-    ensures is_of { IfOk result (IsAccepted text.now) }
+    ensures is_of { IfOk result (IsRegistryText text.now) }
     ensures sound { IfOk result IsSound }
     ensures names { IfOk result NamesDiffer }
     ensures refused { IfErr result (RefusedRegistry text.now) }
@@ -129,7 +129,7 @@ fn end_in<F: Files>(
 fn end_with(alloc: Global, tag: &Tag, registry: Registry, plan: &[u8]) -> Result<Endpoint, Status>
     requires sound { IsSound registry }
     requires names { NamesDiffer registry }
-    ensures is_of { IfOk result (λ e. (types : List ℕ) → IsAccepted types registry → IsOf types plan.now tag.now (setting_at e)) }
+    ensures is_of { IfOk result (λ e. (types : List ℕ) → IsRegistryText types registry → IsOf types plan.now tag.now (setting_at e)) }
     ensures opening { IfOk result (λ e. e.entries ≡ []) }
     ensures refused { IfErr result (RefusedText registry plan.now) }
 {

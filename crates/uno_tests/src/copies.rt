@@ -10,23 +10,21 @@ use uno_types::{Name, Registry, Text, Tid, TypeName};
 
 fn name_copy(alloc: Global, text: &str) -> Result<bool, NoMemory> {
     let name = Name::of(alloc, text)?;
-    let copy = name.copy(alloc)?;
+    let copy = name.copy()?;
     Ok(copy.is(&name) && copy.as_str() == text)
 }
 
 fn text_copy(alloc: Global, text: &str) -> Result<bool, NoMemory> {
     let original = Text::of(alloc, text)?;
-    let copy = original.copy(alloc);
+    let copy = original.copy()?;
     drop(original);
-    let copy = copy?;
     Ok(copy.as_str() == text)
 }
 
 fn tid_copy(alloc: Global, text: &str) -> Result<bool, NoMemory> {
     let original = Tid::of(alloc, text.as_bytes())?;
-    let copy = original.copy(alloc);
+    let copy = original.copy()?;
     drop(original);
-    let copy = copy?;
     Ok(copy.as_bytes() == text.as_bytes())
 }
 
@@ -58,12 +56,8 @@ fn found_copy(alloc: Global, found: &Result<Option<TypeName>, NoMemory>) -> Resu
 }
 
 fn kind_copy(alloc: Global, kind: &TypeName) -> Result<bool, NoMemory> {
-    match kind.copy(alloc) {
-        Ok(copy) => {
-            let right = copy.is(kind);
-            drop(copy);
-            Ok(right)
-        }
+    match &kind.copy(alloc) {
+        Ok(copy) => Ok(copy.is(kind)),
         Err(NoMemory) => Err(NoMemory),
     }
 }
@@ -103,12 +97,9 @@ const KINDS: &str = "unoreg 1\n\
 
 /// Whether a copy has as many entities, and is sound as the registry is.
 fn is_copied(registry: &Registry) -> bool {
-    match registry.copy() {
+    match &registry.copy() {
         Ok(copy) => {
-            let as_many = copy.entities().len() == registry.entities().len();
-            let sound = copy.is_sound();
-            drop(copy);
-            as_many && sound == Ok(true)
+            copy.entities().len() == registry.entities().len() && copy.is_sound() == Ok(true)
         }
         Err(_) => false,
     }

@@ -179,6 +179,71 @@ const TOLD: &[Row] = &[
     },
 ];
 
+/// A run of which the first file is not there.
+const MISSING: Row = Row {
+    words: &["answer", "none", "nor"],
+    status: NoFile(0),
+    line: "uno: no file none\n",
+    ..IDL
+};
+
+/// A run of which a reading fails.
+const UNREAD: Row = Row {
+    status: ReadFault,
+    line: "uno: read fault\n",
+    ..IDL
+};
+
+/// The second file is not read where the first is refused or is not there, and a reading that fails is told before what the file would have been.
+const IN_ORDER: &[Row] = &[
+    Row { ..MISSING },
+    Row {
+        words: &["answer", "none", "p.plan"],
+        ..MISSING
+    },
+    Row {
+        readings: &[1],
+        ..MISSING
+    },
+    Row {
+        words: &["answer", "bad.reg", "p.plan"],
+        readings: &[1],
+        ..BAD
+    },
+    Row {
+        words: &["answer", "bad.reg", "none"],
+        readings: &[1],
+        ..BAD
+    },
+    Row {
+        words: &["answer", "bad.reg", "none"],
+        readings: &[0],
+        ..UNREAD
+    },
+    Row {
+        words: &["answer", "none", "nor"],
+        readings: &[0],
+        ..UNREAD
+    },
+    Row {
+        words: &["answer", "x.reg", "none"],
+        readings: &[1],
+        ..UNREAD
+    },
+    Row {
+        words: &["answer", "x.reg", "bad.plan"],
+        readings: &[1],
+        ..UNREAD
+    },
+    Row {
+        words: &["answer", "x.reg", "nor"],
+        readings: &[2],
+        status: NoFile(1),
+        line: "uno: no file nor\n",
+        ..IDL
+    },
+];
+
 /// A byte more than a text may have.
 const TOO_LONG: Row = Row {
     status: BadRegistry {
@@ -195,12 +260,34 @@ fn a_run_over_files_ends_as_its_row_says(rt: HostRuntime) {
     see_runs(&rt, rt.alloc(), "how idl ends", ENDED);
     see_runs(&rt, rt.alloc(), "texts that are refused", REFUSED);
     see_runs(&rt, rt.alloc(), "which file is told", TOLD);
+    see_runs(&rt, rt.alloc(), "in which order", IN_ORDER);
 }
+
+/// The same of a registry before a plan that is not there, and of a plan.
+const TOO_LONG_FIRST: Row = Row {
+    words: &["answer", "x.reg", "none"],
+    ..TOO_LONG
+};
+
+const TOO_LONG_PLAN: Row = Row {
+    words: &["answer", "counter.reg", "x.reg"],
+    status: BadPlan {
+        file: 1,
+        line: 0,
+        reason: LineReason::Limit,
+    },
+    line: "x.reg:0: Limit\n",
+    ..IDL
+};
 
 #[test]
 fn a_text_that_is_too_long_is_refused_at_line_0(rt: HostRuntime) {
     let text = b"a".repeat(rt.alloc(), 4_194_305).expect(&rt, "no memory");
-    let right = goes(&rt, rt.alloc(), &TOO_LONG, &text);
+    let alone = goes(&rt, rt.alloc(), &TOO_LONG, &text);
+    let first = goes(&rt, rt.alloc(), &TOO_LONG_FIRST, &text);
+    let second = goes(&rt, rt.alloc(), &TOO_LONG_PLAN, &text);
     drop(text);
-    see(&rt, right, "a text of 4,194,305 bytes");
+    see(&rt, alone, "a registry of 4,194,305 bytes");
+    see(&rt, first, "one before a plan that is not there");
+    see(&rt, second, "a plan of 4,194,305 bytes");
 }

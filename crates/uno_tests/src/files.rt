@@ -49,9 +49,7 @@ fn has_bytes(bytes: &[u8], wanted: &str) -> bool {
 fn answers<F: Files>(files: &mut F, readings: &[Reading]) -> bool {
     let mut right = true;
     for (name, wanted) in readings {
-        let found = files.read(name);
-        right &= is_read(&found, wanted);
-        drop(found);
+        right &= is_read(&files.read(name), wanted);
     }
     right
 }
@@ -82,9 +80,7 @@ fn is_cut(rt: &impl Abort, alloc: Global) -> bool {
     drop(bytes);
     let found = files.read("long");
     drop(files);
-    let right = has_length(&found, 4_194_305);
-    drop(found);
-    right
+    has_length(&found, 4_194_305)
 }
 
 fn has_length(found: &Result<Option<Vec<u8>>, FileError>, length: usize) -> bool {
@@ -98,7 +94,6 @@ fn has_length(found: &Result<Option<Vec<u8>>, FileError>, length: usize) -> bool
 fn files_in_memory_are_read_by_their_names(rt: HostRuntime) {
     let mut files = files_of(&rt, rt.alloc(), STORED, &[2]);
     see(&rt, answers(&mut files, IN_MEMORY), "files in memory");
-    drop(files);
     see(&rt, is_cut(&rt, rt.alloc()), "a long file");
 }
 

@@ -29,3 +29,5 @@ mod sources;
 mod streams;
 #[cfg(test)]
 mod talk;
+#[cfg(test)]
+mod threads;

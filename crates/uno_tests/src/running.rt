@@ -11,8 +11,9 @@ use urp_message::Tag;
 #[derive(Clone, Copy)]
 pub(crate) struct Row {
     pub words: &'static [&'static str],
-    /// The bytes of the file `x.reg`.
+    /// The bytes of the file `x.reg`, and those of `x.plan`.
     pub text: &'static [u8],
+    pub plan: &'static [u8],
     pub input: &'static [&'static [u8]],
     /// The sizes of the pieces that are read.
     pub sizes: &'static [usize],
@@ -31,6 +32,7 @@ pub(crate) struct Row {
 pub(crate) const EMPTY: Row = Row {
     words: &["answer"],
     text: b"",
+    plan: b"",
     input: &[],
     sizes: &[],
     readings: &[],
@@ -56,17 +58,49 @@ end
 export \"counter\" Counter
 ";
 
-/// The files of all runs, with these bytes in `x.reg`. `p.plan` has no objects, and the second line of `bad.plan` names no behaviour.
-fn stored(rt: &impl Abort, alloc: Global, text: &[u8], failing: &[u64]) -> MemFiles {
+/// The registry of the demonstration, of which the one that `answer` has alone is.
+const DEMO: &[u8] = b"unoreg 1
+exception demo.Refused com.sun.star.uno.Exception
+member Code long
+end
+interface demo.XEcho
+base com.sun.star.uno.XInterface
+method twice long
+param in a long
+end
+interface demo.XNode
+base com.sun.star.uno.XInterface
+method relay long
+param in back demo.XNode
+param in depth long
+method turn com.sun.star.uno.XInterface
+param in n demo.XNode
+method thrice void
+param in a demo.XNode
+param in b demo.XNode
+param in c demo.XNode
+method check void
+param in a long
+raises demo.Refused
+method forget void
+method shut void
+end
+";
+
+/// The files of all runs, with these bytes in `x.reg`, and those of the row in `x.plan`. `p.plan` has no objects, and the second line of `bad.plan`
+/// names no behaviour.
+fn stored(rt: &impl Abort, alloc: Global, text: &[u8], row: &Row) -> MemFiles {
     let files: &[(&str, &[u8])] = &[
         ("x.reg", text),
+        ("x.plan", row.plan),
+        ("demo.reg", DEMO),
         ("bad.reg", b"unoreg 2\n"),
         ("p.plan", b"unoplan 1\n"),
         ("bad.plan", b"unoplan 1\nexport \"x\" Nobody\n"),
         ("counter.reg", COUNTER_TYPES),
         ("counter.plan", COUNTER_PLAN),
     ];
-    files_of(rt, alloc, files, failing)
+    files_of(rt, alloc, files, row.readings)
 }
 
 /// The pieces, one behind the other.
@@ -138,11 +172,22 @@ fn is_right(
 
 /// Whether the run of a row, with these bytes in `x.reg`, comes to what the row says.
 pub(crate) fn goes(rt: &impl Abort, alloc: Global, row: &Row, text: &[u8]) -> bool {
+    goes_over(rt, alloc, row, text, joined(alloc, row.input))
+}
+
+/// The same with this input.
+pub(crate) fn goes_over(
+    rt: &impl Abort,
+    alloc: Global,
+    row: &Row,
+    text: &[u8],
+    bytes: Vec<u8>,
+) -> bool {
     let [reads, writes, lines] = row.failing;
     let tag = Tag::read(alloc, "S").expect(rt, "no tag");
     let words = owned(rt, alloc, row.words);
-    let mut files = stored(rt, alloc, text, row.readings);
-    let mut input = source_of(rt, alloc, joined(alloc, row.input), row.sizes, reads);
+    let mut files = stored(rt, alloc, text, row);
+    let mut input = source_of(rt, alloc, bytes, row.sizes, reads);
     let mut output = sink_of(rt, alloc, writes);
     let mut errors = sink_of(rt, alloc, lines);
     let status = status_of(
@@ -154,20 +199,13 @@ pub(crate) fn goes(rt: &impl Abort, alloc: Global, row: &Row, text: &[u8]) -> bo
         &mut output,
         &mut errors,
     );
-    let right = is_right(
+    is_right(
         row,
         status,
         &mut input,
         output.as_bytes(),
         errors.as_bytes(),
-    );
-    drop(errors);
-    drop(output);
-    drop(input);
-    drop(files);
-    drop(words);
-    drop(tag);
-    right
+    )
 }
 
 /// Sees that runs go as the rows say.

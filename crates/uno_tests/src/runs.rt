@@ -11,6 +11,24 @@ const SHORT: &[u8] = b"\x00\x00\x00\x05\x00\x00\x00\x01\x03\x00\x00\x00\x01";
 
 const DOUBLE_SHORT: &[u8] = b"\x00\x00\x00\x05\x00\x00\x00\x01\x80\x00\x00\x00\x02";
 
+/// A release of the object, and another one with a short header, of which none is owed.
+const RELEASE: &[u8] = b"\x00\x00\x00\x08\x00\x00\x00\x01\xC8\x02\x03C;0\x00\x01";
+
+const RELEASE_AGAIN: &[u8] = b"\x00\x00\x00\x01\x00\x00\x00\x01\x02";
+
+/// The query with a slot of which nothing was announced in place of the name, and with the null reference.
+const ASK_AT_5: &[u8] =
+    b"\x00\x00\x00\x36\x00\x00\x00\x01\xF8\x00\x96\x00\x00\x1Bcom.sun.star.uno.XInterface\x00\x00\x05\x01T\x00\x00\x96\x00\x01\x0Ademo.XEcho";
+
+const ASK_NULL: &[u8] =
+    b"\x00\x00\x00\x36\x00\x00\x00\x01\xF8\x00\x96\x00\x00\x1Bcom.sun.star.uno.XInterface\x00\xFF\xFF\x01T\x00\x00\x96\x00\x01\x0Ademo.XEcho";
+
+/// A block of two calls, of `twice(21)` on the chain `T` and of `twice(1)` on the chain `U`; and the answer to the second one, in a block of its own.
+const TWO_CALLS: &[u8] =
+    b"\x00\x00\x00\x19\x00\x00\x00\x02\xF0\x03\x16\x00\x01\x03S;1\x00\x01\x00\x00\x00\x15\xC8\x03\x01U\x00\x01\x00\x00\x00\x01";
+
+const DOUBLE_ON_U: &[u8] = b"\x00\x00\x00\x09\x00\x00\x00\x01\x88\x01U\x00\x01\x00\x00\x00\x02";
+
 /// The query and the call, and the answers to both.
 const TALK: &[&[u8]] = &[ASK, CALL];
 
@@ -124,6 +142,22 @@ const ANSWERED: &[Row] = &[
         ..EMPTY
     },
     Row {
+        input: &[ASK, CALL, SHORT, RELEASE],
+        output: &[OBJECT, DOUBLE, DOUBLE_SHORT],
+        ..EMPTY
+    },
+    Row {
+        input: &[ASK, TWO_CALLS],
+        output: &[OBJECT, DOUBLE, DOUBLE_ON_U],
+        ..EMPTY
+    },
+    Row {
+        input: &[ASK, TWO_CALLS],
+        sizes: &[1],
+        output: &[OBJECT, DOUBLE, DOUBLE_ON_U],
+        ..EMPTY
+    },
+    Row {
         words: &["answer", "counter.reg", "counter.plan"],
         input: COUNTED,
         output: COUNTS,
@@ -146,6 +180,27 @@ const BREAKS: &[Row] = &[
         output: &[],
         status: Broken(Reason::NoMessages, 0),
         line: "uno: broken NoMessages at 0\n",
+        ..BROKEN
+    },
+    Row {
+        input: &[ASK, CALL, SHORT, RELEASE, RELEASE_AGAIN],
+        output: &[OBJECT, DOUBLE, DOUBLE_SHORT],
+        status: Broken(Reason::Unowed, 126),
+        line: "uno: broken Unowed at 126\n",
+        ..BROKEN
+    },
+    Row {
+        input: &[ASK_AT_5],
+        output: &[],
+        status: Broken(Reason::UnknownSlot, 8),
+        line: "uno: broken UnknownSlot at 8\n",
+        ..BROKEN
+    },
+    Row {
+        input: &[ASK_NULL],
+        output: &[],
+        status: Broken(Reason::UnknownOid, 8),
+        line: "uno: broken UnknownOid at 8\n",
         ..BROKEN
     },
     Row {

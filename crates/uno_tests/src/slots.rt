@@ -1,6 +1,8 @@
 //! That the caches do what they are said to do where memory is ample, and leave what they say where it is not.
 use crate::judging::see;
+use std::alloc::Global;
 use uno_base::NoMemory;
+use uno_types::Text;
 use urp_cache::{Known, ReadCache, ReadCaches, SendCache, SendCaches};
 
 /// Whether a use of the name that is this number takes this slot, and finds it old or new there.
@@ -25,13 +27,13 @@ fn take_slots(caches: &mut SendCaches) -> bool {
 }
 
 /// Whether a slot means this name, or nothing.
-pub(crate) fn means(cache: &ReadCache, slot: u8, name: Option<&str>) -> bool {
+pub(crate) fn means(cache: &ReadCache<Text>, slot: u8, name: Option<&str>) -> bool {
     let meaning = cache.meaning(slot.into());
     let Some(name) = name else {
         return meaning.is_none();
     };
     match meaning {
-        Some(meaning) => meaning == name.as_bytes(),
+        Some(meaning) => meaning.as_str() == name,
         None => false,
     }
 }
@@ -51,16 +53,17 @@ const MEANT: &[(u8, Option<&str>)] = &[
 ];
 
 /// Announces names in a cache, and tells whether slots mean them there, and nothing in the other caches.
-fn are_meant(caches: &mut ReadCaches) -> Result<bool, NoMemory> {
+fn are_meant(alloc: Global, caches: &mut ReadCaches) -> Result<bool, NoMemory> {
     for (slot, name) in ANNOUNCED {
-        caches.oids.announce((*slot).into(), name.as_bytes())?;
+        let name = Text::of(alloc, *name)?;
+        caches.oids.announce((*slot).into(), name);
     }
     for (slot, name) in MEANT {
         if !means(&caches.oids, *slot, *name) {
             return Ok(false);
         }
     }
-    Ok(means(&caches.types, 3, None) && means(&caches.tids, 3, None))
+    Ok(means(&caches.types, 3, None) && caches.tids.meaning(3).is_none())
 }
 
 #[test]
@@ -70,7 +73,7 @@ fn the_least_recent_gives_up_its_slot_and_slots_mean_what_was_announced_last(rt:
     drop(sent);
     see(&rt, right, "what is sent");
     let mut read = ReadCaches::new(rt.alloc()).expect(&rt, "no memory");
-    let right = are_meant(&mut read);
+    let right = are_meant(rt.alloc(), &mut read);
     drop(read);
     see(&rt, right == Ok(true), "what is read");
 }

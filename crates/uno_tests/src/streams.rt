@@ -62,9 +62,7 @@ fn is_right(rt: &impl Abort, alloc: Global, row: &Row) -> bool {
     let (sizes, failing, pieces) = row;
     let text = Vec::from_slice(alloc, TEXT).expect(rt, "no memory");
     let mut source = source_of(rt, alloc, text, sizes, failing);
-    let right = gives(&mut source, pieces);
-    drop(source);
-    right
+    gives(&mut source, pieces)
 }
 
 #[test]
@@ -109,9 +107,7 @@ fn takes_until_closed(sink: &mut MemSink) -> bool {
 fn sink_is_right(rt: &impl Abort, alloc: Global) -> bool {
     let failing = Vec::from_slice(alloc, &[1]).expect(rt, "no memory");
     let mut sink = MemSink::with_room(alloc, 64, failing).expect(rt, "no memory");
-    let right = takes_until_closed(&mut sink);
-    drop(sink);
-    right
+    takes_until_closed(&mut sink)
 }
 
 /// Whether the text is too long for a room.

@@ -7,12 +7,8 @@ use uno_types::{Registry, Tag, TagError};
 
 fn type_is_copied(alloc: Global) -> Result<bool, NoMemory> {
     the_built_in_entities_are_sound();
-    match Registry::new(alloc) {
-        Ok(registry) => {
-            let right = kind_is_copied(alloc, &registry, "[][]com.sun.star.uno.XInterface");
-            drop(registry);
-            right
-        }
+    match &Registry::new(alloc) {
+        Ok(registry) => kind_is_copied(alloc, registry, "[][]com.sun.star.uno.XInterface"),
         Err(NoMemory) => Err(NoMemory),
     }
 }
@@ -23,12 +19,8 @@ pub(super) fn are_right(alloc: Global) -> Result<bool, NoMemory> {
 
 /// Whether the text is a tag, which then has just its letters, and so has a copy.
 fn is_tag(alloc: Global, text: &str) -> Result<bool, NoMemory> {
-    match Tag::read(alloc, text) {
-        Ok(tag) => {
-            let right = tag_copy(alloc, &tag, text);
-            drop(tag);
-            right
-        }
+    match &Tag::read(alloc, text) {
+        Ok(tag) => tag_copy(alloc, tag, text),
         Err(TagError::NoMemory) => Err(NoMemory),
         Err(TagError::BadTag) => Ok(false),
     }

@@ -113,12 +113,8 @@ fn run_from(alloc: Global, from: &Registry) -> Result<bool, NoMemory> {
 
 /// All of it, as far as there is memory.
 pub(super) fn run(alloc: Global) -> Result<bool, NoMemory> {
-    match read_registry(alloc, TYPES.as_bytes()) {
-        Ok(registry) => {
-            let right = run_from(alloc, &registry);
-            drop(registry);
-            right
-        }
+    match &read_registry(alloc, TYPES.as_bytes()) {
+        Ok(registry) => run_from(alloc, registry),
         Err(RegError::NoMemory) => Err(NoMemory),
         Err(_) => Ok(false),
     }

@@ -2,6 +2,7 @@
 use crate::slots::means;
 use std::alloc::Global;
 use uno_base::NoMemory;
+use uno_types::Text;
 use urp_cache::{Known, ReadCache, SendCache};
 
 /// Whether a name is held at this slot.
@@ -36,15 +37,16 @@ pub(super) fn sends(alloc: Global) -> Result<bool, NoMemory> {
 }
 
 /// Announces a name at the slot 3, and tells whether the slot then means it.
-fn announced(cache: &mut ReadCache, name: &str) -> Result<bool, NoMemory> {
-    cache.announce(3, name.as_bytes())?;
+fn announced(alloc: Global, cache: &mut ReadCache<Text>, name: &str) -> Result<bool, NoMemory> {
+    let text = Text::of(alloc, name)?;
+    cache.announce(3, text);
     Ok(means(cache, 3, Some(name)))
 }
 
 /// Whether the slot means the name that was announced last, of those for which there was memory, and another slot nothing.
-fn are_meant(cache: &mut ReadCache) -> bool {
-    let first = announced(cache, "a");
-    let second = announced(cache, "b");
+fn are_meant(alloc: Global, cache: &mut ReadCache<Text>) -> bool {
+    let first = announced(alloc, cache, "a");
+    let second = announced(alloc, cache, "b");
     if second == Err(NoMemory) && means(cache, 3, Some("a")) != first.is_ok() {
         return false;
     }
@@ -53,5 +55,5 @@ fn are_meant(cache: &mut ReadCache) -> bool {
 
 pub(super) fn reads(alloc: Global) -> Result<bool, NoMemory> {
     let mut cache = ReadCache::new(alloc)?;
-    Ok(are_meant(&mut cache))
+    Ok(are_meant(alloc, &mut cache))
 }

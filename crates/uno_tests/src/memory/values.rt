@@ -67,12 +67,8 @@ fn is_copied(alloc: Global, registry: &Registry, value: &Value) -> Result<bool, 
 
 /// Whether the one reference is that of the peer's object.
 fn has_refs(alloc: Global, value: &Value) -> Result<bool, NoMemory> {
-    match refs_of(alloc, value) {
-        Ok(found) => {
-            let right = found.len() == 1 && is_peer(found.first());
-            drop(found);
-            Ok(right)
-        }
+    match &refs_of(alloc, value) {
+        Ok(found) => Ok(found.len() == 1 && is_peer(found.first())),
         Err(NoMemory) => Err(NoMemory),
     }
 }
@@ -121,12 +117,8 @@ fn both_are_right(alloc: Global, registry: &Registry) -> Result<bool, NoMemory>
 
 pub(super) fn are_right(alloc: Global) -> Result<bool, NoMemory> {
     the_built_in_entities_are_sound();
-    match Registry::new(alloc) {
-        Ok(registry) => {
-            let right = both_are_right(alloc, &registry);
-            drop(registry);
-            right
-        }
+    match &Registry::new(alloc) {
+        Ok(registry) => both_are_right(alloc, registry),
         Err(NoMemory) => Err(NoMemory),
     }
 }

@@ -18,6 +18,7 @@ returns-clause-served g c =
       write_fault = did.write_fault;
       no_write_fault = did.no_write_fault;
       part = did.part;
+      goes_on = did.goes_on;
     })
     (record {
       done = says.done;

@@ -12,4 +12,4 @@ returns-in-Ok-clause-refused g c =
     (rw c.as_slice.ensures.value at c.end_with.ensures.refused)
 
 pub returns-in-Err-clause-refused : goal.returns-in-Err-clause-refused
-returns-in-Err-clause-refused g c = λ types first. unread_plan _ _ _ _ _ _ c.in-Err.ensures.unread
+returns-in-Err-clause-refused g c = λ types first. unread_plan _ types _ _ _ _ _ first c.in-Err.ensures.unread

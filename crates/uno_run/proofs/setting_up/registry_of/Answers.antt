@@ -4,7 +4,7 @@ use Rattle.uno_run.proofs.setting_up.registry_of.Goals as goal
 
 pub returns-in-Ok-clause-is_of : goal.returns-in-Ok-clause-is_of
 returns-in-Ok-clause-is_of g c =
-    ok_so _ _ c.registry_in.result (λ registry accepted. record { text = c.in-Ok.text.items; told = c.in-Ok.ensures.found; accepted = accepted })
+    ok_so _ _ c.registry_in.result (λ registry is_text. record { text = c.in-Ok.text.items; told = c.in-Ok.ensures.found; is_text = is_text })
     (rw c.as_slice.ensures.value at c.registry_in.ensures.is_of)
 
 pub returns-in-Ok-clause-refused : goal.returns-in-Ok-clause-refused
