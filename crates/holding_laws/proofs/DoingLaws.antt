@@ -52,7 +52,7 @@ all_apart g es x closed leads = apart_by g es x closed leads (stands x.side) ref
 
 -- ---- statements
 
-picked_one : (fs : List Frame) → is_body (first_frame fs) ≡ true → is_picked (picked_in fs) ≡ true
+pub picked_one : (fs : List Frame) → is_body (first_frame fs) ≡ true → is_picked (picked_in fs) ≡ true
 picked_one [] is = absurd (false≢true is)
 picked_one (base n ∷ fs) is = absurd (false≢true is)
 picked_one (body b ∷ fs) is = refl
@@ -86,12 +86,12 @@ unfolding AreApart
 first_picked tid [] apart is = absurd (cc)
 first_picked tid (z ∷ ss) apart is = found_by tid z ss apart.0 (first_picked tid ss apart.1) (is_body (first_frame z.frames)) refl is
 
-up_by : (g : Setting) (es : List Entry) (x : Told) (tid : List ℕ) → Leads g es x → is_picked (picked_in (frames_of tid x.side.stacks)) ≡ true → (b : Bool) → stands x.side ≡ b → stands x.side ≡ true
+pub up_by : (g : Setting) (es : List Entry) (x : Told) (tid : List ℕ) → Leads g es x → is_picked (picked_in (frames_of tid x.side.stacks)) ≡ true → (b : Bool) → stands x.side ≡ b → stands x.side ≡ true
 unfolding frames_of
 up_by g es x tid leads top true is = is
 up_by g es x tid leads top false is = absurd (true≢false (sym top ∙ ap (λ ss. is_picked (picked_in (frames_of tid ss))) (quiet_along g es x leads is)))
 
-may_or : (g : Setting) (s : Side) (tid : List ℕ) → stands s ≡ true → is_picked (picked_in (frames_of tid s.stacks)) ≡ true → (b : Bool) → has_entries s ≡ b
+pub may_or : (g : Setting) (s : Side) (tid : List ℕ) → stands s ≡ true → is_picked (picked_in (frames_of tid s.stacks)) ≡ true → (b : Bool) → has_entries s ≡ b
     → may g s (if b then full else applied tid) ≡ true
 unfolding may picked
 may_or g s tid up top true is = rw (up, is) refl
@@ -105,7 +105,7 @@ applied_may g es x tid closed leads is =
 
 -- ---- objects that go
 
-by_lowest : (n : ℕ) (o : Option Object) → option_map (λ (z : Object). z.number) o ≡ Some n → is_numbered n o ≡ true
+pub by_lowest : (n : ℕ) (o : Option Object) → option_map (λ (z : Object). z.number) o ≡ Some n → is_numbered n o ≡ true
 by_lowest n None is = absurd (cc)
 by_lowest n (Some z) is = let same : n ≡ z.number = cc in eq-eqb n z.number same
 
@@ -115,7 +115,7 @@ reaped_may g s n is = by_lowest n (lowest g s.tables) is
 
 -- ---- bytes that go out
 
-take_again : (n : ℕ) (xs : List ℕ) → take (length (take n xs)) xs ≡ take n xs
+pub take_again : (n : ℕ) (xs : List ℕ) → take (length (take n xs)) xs ≡ take n xs
 take_again zero xs = refl
 take_again (suc n) [] = refl
 take_again (suc n) (x ∷ xs) = ap (λ ys. x ∷ ys) (take_again n xs)
@@ -141,7 +141,7 @@ cut_first : (held : List ℕ) (b : ℕ) (bytes : List ℕ) (e : Bool) → is_som
 cut_first held b bytes true = refl
 cut_first held b bytes false = refl
 
-cut_some : (held piece : List ℕ) → is_some_bytes piece ≡ true → is_some_bytes (cut held piece) ≡ true
+pub cut_some : (held piece : List ℕ) → is_some_bytes piece ≡ true → is_some_bytes (cut held piece) ≡ true
 unfolding cut
 cut_some held [] some = absurd (false≢true some)
 cut_some held (b ∷ bytes) some = cut_first held b bytes (ends_part (held ++ b ∷ []))
@@ -180,7 +180,7 @@ not_over most n less = grind (arith, nat_tests)
 three_hold : (a b c : Bool) → a ≡ true → b ≡ false → c ≡ false → (a && (not b && not c)) ≡ true
 three_hold a b c some under unended = rw (some, under, unended) refl
 
-may_cut : (g : Setting) (s : Side) (piece : List ℕ) → stands s ≡ true → has_entries s ≡ false → is_some_bytes piece ≡ true → fed_count s.incoming + length piece ≤ most_fed → ends_part s.incoming.held ≡ false
+pub may_cut : (g : Setting) (s : Side) (piece : List ℕ) → stands s ≡ true → has_entries s ≡ false → is_some_bytes piece ≡ true → fed_count s.incoming + length piece ≤ most_fed → ends_part s.incoming.held ≡ false
     → may g s (fed (cut s.incoming.held piece)) ≡ true
 unfolding may
 may_cut g s piece up few some within unended =

@@ -11,7 +11,8 @@ use Rattle.world_laws.proofs.RunLaws.{both_lead}
 use Rattle.world_laws.proofs.SaidLaws.{given_a, given_b}
 use Rattle.world_model.specs.Worlds.{Settings, of_a, of_b, Runs, with_a, with_b, happens, entries_of}
 use Rattle.world_model.specs.declared.side.Side.TheVariants.{A, B}
-use Rattle.pairing_laws.specs.Doing.{CanEnter, RootsCanMove, CanBeDone}
+use Rattle.pairing_laws.specs.Doing.{CanBeDone}
+use Rattle.pairing_laws.proofs.Entering.{CanEnter, RootsCanMove}
 use Rattle.pairing_laws.proofs.DoingLaws.{DeedCan, deeds_can, all_some, all_joined, all_mapped}
 
 by_entry_a : (g : Settings) (cut : ℕ) (p : Pairing) (d : Deed) (x : Done) → done (of_a g) cut p.world.a.now p.world.b.now p.runs.a d ≡ Some x → (o : Option Entry) → x.entry ≡ o → CanEnter (of_a g) p.world.a p.world.b o

@@ -27,18 +27,10 @@ use Rattle.bridge_laws.proofs.ThreadStackLaws.{AreApart}
 use Rattle.pairing_model.specs.Moves.{Deed, applies, steps, reaps, drains, carries, closes, one_if, applying, does_move, stepping, reaping, may_carry, may_close, deeds, Done, with_entry, step_done, steps_at, carried, done}
 use Rattle.world_model.specs.Worlds.{End, moved, moved_by, pipe, may_come, acts}
 use Rattle.world_laws.proofs.SyncedLaws.{step_is}
-use Rattle.pairing_laws.specs.Doing.{CanEnter, MovedCanEnter, RunCanMove}
+use Rattle.holding_laws.proofs.DoingLaws.{picked_one, up_by, may_or, by_lowest, take_again, may_cut}
+use Rattle.pairing_laws.proofs.Entering.{CanEnter, MovedCanEnter, RunCanMove}
 
 -- ---- what is cut off a piece
-
-cut_first : (held : List ℕ) (b : ℕ) (bytes : List ℕ) (e : Bool) → is_some_bytes (if e then b ∷ [] else b ∷ cut (held ++ b ∷ []) bytes) ≡ true
-cut_first held b bytes true = refl
-cut_first held b bytes false = refl
-
-cut_some : (held piece : List ℕ) → is_some_bytes piece ≡ true → is_some_bytes (cut held piece) ≡ true
-unfolding cut
-cut_some held [] some = absurd (false≢true some)
-cut_some held (b ∷ bytes) some = cut_first held b bytes (ends_part (held ++ b ∷ []))
 
 front_one : (held : List ℕ) (b : ℕ) (bytes : List ℕ) (e : Bool) → cut (held ++ b ∷ []) bytes ≡ take (length (cut (held ++ b ∷ []) bytes)) bytes
     → (if e then b ∷ [] else b ∷ cut (held ++ b ∷ []) bytes) ≡ take (length (if e then b ∷ [] else b ∷ cut (held ++ b ∷ []) bytes)) (b ∷ bytes)
@@ -49,49 +41,6 @@ cut_front : (held piece : List ℕ) → cut held piece ≡ take (length (cut hel
 unfolding cut
 cut_front held [] = refl
 cut_front held (b ∷ bytes) = front_one held b bytes (ends_part (held ++ b ∷ [])) (cut_front (held ++ b ∷ []) bytes)
-
-short_one : (held : List ℕ) (b : ℕ) (bytes : List ℕ) (e : Bool) → length (cut (held ++ b ∷ []) bytes) ≤ length bytes
-    → length (if e then b ∷ [] else b ∷ cut (held ++ b ∷ []) bytes) ≤ suc (length bytes)
-short_one held b bytes true less = omega arith
-short_one held b bytes false less = omega (arith, less)
-
-cut_short : (held piece : List ℕ) → length (cut held piece) ≤ length piece
-unfolding cut
-cut_short held [] = omega arith
-cut_short held (b ∷ bytes) = short_one held b bytes (ends_part (held ++ b ∷ [])) (cut_short (held ++ b ∷ []) bytes)
-
-last_of_more : (b : ℕ) (held xs : List ℕ) → is_some_bytes xs ≡ true → ends_part ((held ++ b ∷ []) ++ but_last xs) ≡ false → ends_part (held ++ but_last (b ∷ xs)) ≡ false
-last_of_more b held [] some open_still = absurd (false≢true some)
-last_of_more b held (x ∷ xs) some open_still = ap ends_part (sym (append_assoc held (b ∷ []) (but_last (x ∷ xs)))) ∙ open_still
-
-last_one : (held : List ℕ) (b : ℕ) (bytes : List ℕ) (e : Bool) → ends_part (held ++ b ∷ []) ≡ e → ends_part held ≡ false
-    → (ends_part (held ++ b ∷ []) ≡ false → ends_part ((held ++ b ∷ []) ++ but_last (cut (held ++ b ∷ []) bytes)) ≡ false)
-    → ends_part (held ++ but_last (if e then b ∷ [] else b ∷ cut (held ++ b ∷ []) bytes)) ≡ false
-unfolding cut
-last_one held b bytes true is unended more = ap ends_part (append-nil held) ∙ unended
-last_one held b [] false is unended more = ap ends_part (append-nil held) ∙ unended
-last_one held b (c ∷ cs) false is unended more = last_of_more b held (cut (held ++ b ∷ []) (c ∷ cs)) (cut_some (held ++ b ∷ []) (c ∷ cs) refl) (more is)
-
--- no byte of it but its last ends anything
-cut_unended : (held piece : List ℕ) → ends_part held ≡ false → ends_part (held ++ but_last (cut held piece)) ≡ false
-unfolding cut
-cut_unended held [] unended = ap ends_part (append-nil held) ∙ unended
-cut_unended held (b ∷ bytes) unended = last_one held b bytes (ends_part (held ++ b ∷ [])) refl unended (λ more. cut_unended (held ++ b ∷ []) bytes more)
-
-not_over : (most n : ℕ) → n ≤ most → nat_lt most n ≡ false
-not_over most n less = grind (arith, nat_tests)
-
-three_hold : (a b c : Bool) → a ≡ true → b ≡ false → c ≡ false → (a && (not b && not c)) ≡ true
-three_hold a b c some under unended = rw (some, under, unended) refl
-
-may_cut : (g : Setting) (s : side.Side) (piece : List ℕ) → stands s ≡ true → has_entries s ≡ false → is_some_bytes piece ≡ true → fed_count s.incoming + length piece ≤ most_fed → ends_part s.incoming.held ≡ false
-    → may g s (fed (cut s.incoming.held piece)) ≡ true
-unfolding may
-may_cut g s piece up few some within unended =
-    let held = s.incoming.held in
-    let short = cut_short held piece in
-    let under = not_over most_fed (fed_count s.incoming + length (cut held piece)) (omega (arith, within, short)) in
-    rw (up, few) (three_hold (is_some_bytes (cut held piece)) (nat_lt most_fed (fed_count s.incoming + length (cut held piece))) (ends_part (held ++ but_last (cut held piece))) (cut_some held piece some) under (cut_unended held piece unended))
 
 -- a front of a front is one
 front_of : (b xs ys : List ℕ) (n : ℕ) → b ≡ take (length b) xs → xs ≡ take n ys → b ≡ take (length b) ys
@@ -119,13 +68,13 @@ same_some (x ∷ xs) is = refl
 
 -- ---- entries that may stand can be made
 
-acts_can : (g : Setting) (one other : End) (e : Entry) → may_come other.now one.now e ≡ true → may g one.now.side e ≡ true → CanEnter g one other (Some e)
+pub acts_can : (g : Setting) (one other : End) (e : Entry) → may_come other.now one.now e ≡ true → may g one.now.side e ≡ true → CanEnter g one other (Some e)
 unfolding acts
 acts_can g one other e comes can =
     let u = turn e one.now.side (does g e one.now.side) in
     (moved one (told_more one.now e u), ap (λ b. if b then moved_by one (told_by one.now e (step g one.now.side e)) else None) comes ∙ ap (λ o. moved_by one (told_by one.now e o)) (step_is g one.now.side e can))
 
-nothing_comes : (one other : End) → bytes_eq [] (take 0 (pipe other.now one.now)) ≡ true
+pub nothing_comes : (one other : End) → bytes_eq [] (take 0 (pipe other.now one.now)) ≡ true
 nothing_comes one other = (bytes_eq-Decides [] []).1 refl
 
 -- ---- lists
@@ -156,12 +105,6 @@ all_one P x false fine = tt
 
 -- ---- stacks that are ready
 
-picked_one : (fs : List Frame) → is_body (first_frame fs) ≡ true → is_picked (picked_in fs) ≡ true
-picked_one [] is = absurd (false≢true is)
-picked_one (base n ∷ fs) is = absurd (false≢true is)
-picked_one (body b ∷ fs) is = refl
-picked_one (outgoing o ∷ fs) is = absurd (false≢true is)
-
 abbrev TopFound : List Stack → Stack → Type 0
 TopFound ss s = is_body (first_frame s.frames) ≡ true → is_picked (picked_in (frames_of s.tid ss)) ≡ true
 
@@ -184,11 +127,6 @@ unfolding AreApart
 all_found [] apart = tt
 all_found (z ∷ ss) apart = (found_first z ss, all_some (TopFound ss) (TopFound (z ∷ ss)) (found_behind z ss apart.0) ss (all_found ss apart.1))
 
-up_by : (g : Setting) (es : List Entry) (x : Told) (tid : List ℕ) → Leads g es x → is_picked (picked_in (frames_of tid x.side.stacks)) ≡ true → (b : Bool) → stands x.side ≡ b → stands x.side ≡ true
-unfolding frames_of
-up_by g es x tid leads top true is = is
-up_by g es x tid leads top false is = absurd (true≢false (sym top ∙ ap (λ ss. is_picked (picked_in (frames_of tid ss))) (quiet_along g es x leads is)))
-
 -- ---- deeds of one end
 
 -- a deed can be done: it has what it does, and its entry can be made
@@ -200,12 +138,6 @@ module _ (g : Setting) (es : List Entry) (one other : End) (cut_at : ℕ) (some 
   entry_can rs d e is comes can = (record { entry = Some e; runs = rs }, is, acts_can g one other e comes can)
 
   -- a statement of a thread, or the limit
-  may_or : (tid : List ℕ) → stands one.now.side ≡ true → is_picked (picked_in (frames_of tid one.now.side.stacks)) ≡ true → (b : Bool) → has_entries one.now.side ≡ b
-      → may g one.now.side (if b then full else applied tid) ≡ true
-  unfolding may picked
-  may_or tid up top true is = rw (up, is) refl
-  may_or tid up top false is = rw (is, top) refl
-
   comes_or : (tid : List ℕ) (b : Bool) → may_come other.now one.now (if b then full else applied tid) ≡ true
   comes_or tid true = nothing_comes one other
   comes_or tid false = nothing_comes one other
@@ -214,7 +146,7 @@ module _ (g : Setting) (es : List Entry) (one other : End) (cut_at : ℕ) (some 
   unfolding done
   applies_can rs tid top =
       let b = has_entries one.now.side in
-      entry_can rs (applies tid) (or_full one.now.side (applied tid)) refl (comes_or tid b) (may_or tid (up_by g es one.now tid leads top (stands one.now.side) refl) top b refl)
+      entry_can rs (applies tid) (or_full one.now.side (applied tid)) refl (comes_or tid b) (may_or g one.now.side tid (up_by g es one.now tid leads top (stands one.now.side) refl) top b refl)
 
   all_apply : (rs : List Run) → AllByRecursion (DeedCan g cut_at one other rs) (applying one.now.side)
   all_apply rs =
@@ -248,21 +180,12 @@ module _ (g : Setting) (es : List Entry) (one other : End) (cut_at : ℕ) (some 
       (all_step whole (suc place) rs (λ n z is. subst (λ k. slice_get whole k ≡ Some z) (shift place n) (found (suc n) z is)) all.1)
 
   -- an object that goes
-  by_lowest : (n : ℕ) (o : Option Object) → option_map (λ (z : Object). z.number) o ≡ Some n → is_numbered n o ≡ true
-  by_lowest n None is = absurd (cc)
-  by_lowest n (Some z) is = let same : n ≡ z.number = cc in eq-eqb n z.number same
-
   all_reap : (rs : List Run) (o : Option ℕ) → may_reap g one.now.side ≡ o → AllByRecursion (DeedCan g cut_at one other rs) (reaping o)
   unfolding done may
   all_reap rs None is = tt
   all_reap rs (Some n) is = (entry_can rs (reaps n) (reaped n) refl (nothing_comes one other) (by_lowest n (lowest g one.now.side.tables) is), tt)
 
   -- bytes that go out
-  take_again : (n : ℕ) (xs : List ℕ) → take (length (take n xs)) xs ≡ take n xs
-  take_again zero xs = refl
-  take_again (suc n) [] = refl
-  take_again (suc n) (x ∷ xs) = ap (λ ys. x ∷ ys) (take_again n xs)
-
   next_is : (n : ℕ) (b : Bool) → is_no_memory one.now.side.cause ≡ b → b ≡ false → drained_next g n one.now.side ≡ take n (waiting_bytes g one.now.side)
   unfolding drained_next
   next_is n true is more = absurd (true≢false more)

@@ -144,7 +144,7 @@ does_good : (g : Settings) (cut : ℕ) (p q : Pairing) (m : Move) → IsGood g p
 unfolding does
 does_good g cut p q m good is = at_good g cut p q m m.side good is
 
-some_good : (g : Settings) (cut : ℕ) (p q : Pairing) (o : Option Move) → IsGood g p → does_some g cut p o ≡ Some q → IsGood g q
+pub some_good : (g : Settings) (cut : ℕ) (p q : Pairing) (o : Option Move) → IsGood g p → does_some g cut p o ≡ Some q → IsGood g q
 some_good g cut p q None good is = absurd (cc)
 some_good g cut p q (Some m) good is = does_good g cut (record p { generator = behind p.generator }) q m (record { history = good.history; roots_a = good.roots_a; roots_b = good.roots_b }) is
 
@@ -178,7 +178,7 @@ unfolding plays
 all_played zero g cut p q good is = absurd (cc)
 all_played (suc n) g cut p q good is = full_played g cut (plays n g cut) (all_played n g cut) p q (has_full p.world) refl good is
 
-first_good : (g : Settings) (seed : Option ℕ) → IsGood g (begins_pair g seed)
+pub first_good : (g : Settings) (seed : Option ℕ) → IsGood g (begins_pair g seed)
 first_good g seed =
     record {
       history = first_runs_so g;

@@ -192,7 +192,7 @@ module _ (g : Settings) (p q : Pairing) (stand : AreStanding g p) where
   deed_stands cut m A is = a_deed cut m.deed (done (of_a g) cut p.world.a.now p.world.b.now p.runs.a m.deed) refl is
   deed_stands cut m B is = b_deed cut m.deed (done (of_b g) cut p.world.b.now p.world.a.now p.runs.b m.deed) refl is
 
-some_stands : (g : Settings) (cut : ℕ) (p q : Pairing) (o : Option Move) → AreStanding g p → does_some g cut p o ≡ Some q → AreStanding g q
+pub some_stands : (g : Settings) (cut : ℕ) (p q : Pairing) (o : Option Move) → AreStanding g p → does_some g cut p o ≡ Some q → AreStanding g q
 unfolding does
 some_stands g cut p q None stand is = absurd (cc)
 some_stands g cut p q (Some m) stand is =
@@ -224,7 +224,7 @@ unfolding plays
 all_stand zero g cut p q stand is = absurd (cc)
 all_stand (suc n) g cut p q stand is = full_stands g cut (plays n g cut) (all_stand n g cut) p q (has_full p.world) stand is
 
-first_standing : (g : Settings) (seed : Option ℕ) → AreStanding g (begins_pair g seed)
+pub first_standing : (g : Settings) (seed : Option ℕ) → AreStanding g (begins_pair g seed)
 unfolding replay tells_all entries_of
 first_standing g seed = record { lead_a = refl; lead_b = refl; runs_a = first_at (of_a g) 1 g.a.plan.threads; runs_b = first_at (of_b g) 1 g.b.plan.threads }
 
@@ -233,7 +233,7 @@ pair_stands g seed cut last is = all_stand is.steps g cut (begins_pair g seed) l
 
 -- ---- what a reader sees of it
 
-each_stands : (g : Setting) (es : List Entry) (n : ℕ) (rs : List Run) → AreAt g es n rs → AllByRecursion (StandsFor g es) rs
+pub each_stands : (g : Setting) (es : List Entry) (n : ℕ) (rs : List Run) → AreAt g es n rs → AllByRecursion (StandsFor g es) rs
 unfolding AreAt
 each_stands g es n [] all = tt
 each_stands g es n (r ∷ rs) all = (all.1, each_stands g es (suc n) rs all.2)

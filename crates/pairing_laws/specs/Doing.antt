@@ -1,32 +1,13 @@
--- What it is that a move of a pair can be done.
-use Rattle.std.specs.Prelude.{◌≡◌, ℕ, Option, None, Some}
-use Rattle.std.specs.List.{AllByRecursion}
-use Rattle.plan_model.specs.Roots.{Run}
-use Rattle.bridge_model.specs.Entries.{Entry}
-use Rattle.bridge_model.specs.RootRuns.{Moved, waiting, finished, moved, root_moves}
-use Rattle.bridge_model.specs.Settings.{Setting}
+-- Which pairings moves lead to, and what it is that a move can be done.
+use Rattle.std.specs.Prelude.{◌≡◌, ℕ, Option, Some}
 use Rattle.pairing_model.specs.Moves.{Move}
-use Rattle.pairing_model.specs.Pairs.{Pairing, does}
-use Rattle.world_model.specs.Worlds.{Settings, of_a, of_b, End, acts}
+use Rattle.pairing_model.specs.Pairs.{Pairing, begins_pair, does, does_some}
+use Rattle.world_model.specs.Worlds.{Settings}
 
--- an entry of an end can be made, where the other is as it is; without one there is nothing to make
-abbrev pub CanEnter : Setting → (one other : End) → Option Entry → Type 0
-CanEnter g one other None = Unit
-CanEnter g one other (Some e) = (after : End) × (acts g one other e ≡ Some after)
-
-abbrev pub MovedCanEnter : Setting → (one other : End) → Moved → Type 0
-MovedCanEnter g one other waiting = Unit
-MovedCanEnter g one other finished = Unit
-MovedCanEnter g one other (moved next e) = CanEnter g one other e
-
--- what the next move of a root enters can be made
-abbrev pub RunCanMove : Setting → (one other : End) → Run → Type 0
-RunCanMove g one other r = MovedCanEnter g one other (root_moves g one.now.side r)
-
--- so it is of all roots of both ends
-pub record RootsCanMove (g : Settings) (p : Pairing) : Type 0 where
-  pub a : AllByRecursion (RunCanMove (of_a g) p.world.a p.world.b) p.runs.a
-  pub b : AllByRecursion (RunCanMove (of_b g) p.world.b p.world.a) p.runs.b
+-- moves one after the other lead to it, whichever are chosen
+pub data IsReached (g : Settings) (seed : Option ℕ) (cut : ℕ) : Pairing → Type 0 where
+  at_first : IsReached g seed cut (begins_pair g seed)
+  at_next : (p next : Pairing) → IsReached g seed cut p → (m : Move) → does_some g cut p (Some m) ≡ Some next → IsReached g seed cut next
 
 abbrev pub CanBeDone : Settings → (cut : ℕ) → Pairing → Move → Type 0
 CanBeDone g cut p m = (after : Pairing) × (does g cut p m ≡ Some after)

@@ -1,15 +1,25 @@
 //! Which moves of a pair can be done.
 ghost use Rattle.std.specs.List.{AllByRecursion};
-ghost use Rattle.std.specs.Prelude.{ℕ, ◌≤◌};
-ghost use Rattle.pairing_laws.specs.Doing.{RootsCanMove, CanBeDone};
+ghost use Rattle.std.specs.Prelude.{ℕ, ◌≤◌, Option};
+ghost use Rattle.pairing_laws.specs.Doing.{IsReached, CanBeDone};
 ghost use Rattle.pairing_model.specs.Moves.{moves};
 ghost use Rattle.pairing_model.specs.Pairs.{Pairing};
+ghost use Rattle.world_histories.specs.Kept.{BothKeep};
 ghost use Rattle.world_histories.specs.Ready.{AreReady, BothGiveWell};
-ghost use Rattle.world_model.specs.Worlds.{Settings, Runs};
+ghost use Rattle.world_model.specs.Worlds.{Settings};
 
-/// Each move that there is can be done, with a cut of at least 1, where what each root enters can be made: statements, reaping, bytes out and in, and the end of the input need
-/// nothing else.
-pub fn each_move_can_be_done_where_its_roots_can_move()
-    ensures { (g : Settings) (cut : ℕ) → 1 ≤ cut → AreReady g → (p : Pairing) → Runs g p.events p.world → BothGiveWell g p.events → RootsCanMove g p
+/// Wherever the moves of a pair lead, whichever are chosen, each move that there is can be done, with a cut of at least 1.
+pub fn each_move_of_a_pair_can_be_done()
+    ensures { (g : Settings) (seed : Option ℕ) (cut : ℕ) → 1 ≤ cut → AreReady g → (p : Pairing) → IsReached g seed cut p
         → AllByRecursion (CanBeDone g cut p) (moves g p.world p.runs) }
+{}
+
+/// And what the roots of both ends gave to get there is what they may give, and can be carried by bytes: of a pair that is no premise.
+pub fn the_roots_of_a_pair_give_what_they_may()
+    ensures { (g : Settings) (seed : Option ℕ) (cut : ℕ) → AreReady g → (p : Pairing) → IsReached g seed cut p → BothGiveWell g p.events }
+{}
+
+/// So all that two joined ends keep holds wherever the moves of a pair lead: of its settings alone.
+pub fn what_a_pair_keeps()
+    ensures { (g : Settings) → AreReady g → (seed : Option ℕ) (cut : ℕ) (p : Pairing) → IsReached g seed cut p → BothKeep g p.events p.world }
 {}

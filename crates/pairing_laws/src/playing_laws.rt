@@ -5,7 +5,7 @@ ghost use Rattle.plan_model.specs.Roots.{Run};
 ghost use Rattle.bridge_model.specs.RootRuns.{finished, root_moves, StandsFor};
 ghost use Rattle.line_laws.specs.Lines.{Lines};
 ghost use Rattle.pairing_model.specs.Pairs.{Pairing, has_full, IsPaired};
-ghost use Rattle.world_histories.specs.Ready.{AreReady, BothGiveWell};
+ghost use Rattle.world_histories.specs.Ready.{AreReady};
 ghost use Rattle.world_model.specs.Worlds.{Settings, of_a, of_b, Runs, entries_of};
 ghost use Rattle.world_model.specs.declared.side.Side.TheVariants.{A, B};
 
@@ -33,12 +33,12 @@ pub fn the_runs_of_a_pair_have_the_lines_of_its_history()
         → AllByRecursion (λ (r : Run). Lines (of_b g) (entries_of B last.events) r.root r.place r.lines) last.runs.b }
 {}
 
-/// Where no end reached its limit, every run is finished at the end: of two ends that are set up, whose roots give what they may.
+/// Where no end reached its limit, every run is finished at the end: of two ends that are set up.
 pub fn a_pair_ends_with_its_runs_finished()
     ensures a { (g : Settings) → AreReady g
-        → (seed : Option ℕ) (cut : ℕ) (last : Pairing) → BothGiveWell g last.events → IsPaired g seed cut last → has_full last.world ≡ false
+        → (seed : Option ℕ) (cut : ℕ) (last : Pairing) → IsPaired g seed cut last → has_full last.world ≡ false
         → AllByRecursion (λ (r : Run). root_moves (of_a g) last.world.a.now.side r ≡ finished) last.runs.a }
     ensures b { (g : Settings) → AreReady g
-        → (seed : Option ℕ) (cut : ℕ) (last : Pairing) → BothGiveWell g last.events → IsPaired g seed cut last → has_full last.world ≡ false
+        → (seed : Option ℕ) (cut : ℕ) (last : Pairing) → IsPaired g seed cut last → has_full last.world ≡ false
         → AllByRecursion (λ (r : Run). root_moves (of_b g) last.world.b.now.side r ≡ finished) last.runs.b }
 {}

@@ -84,10 +84,10 @@ record BothGo (w : World) : Type 0 where
   b : AllByRecursion MessageGoes w.b.now.said
 
 module _ (g : Settings) (ready : AreReady g) where
-  spells_a : IsGiven (of_a g)
+  pub spells_a : IsGiven (of_a g)
   spells_a = record { sound = ready.up.sound; items = ready.items; tag = tag_utf8 g.a.tag ready.up.tag_a; plan = plan_writable g.registry ready.up.sound ready.items g.a.plan ready.up.keeps_a }
 
-  spells_b : IsGiven (of_b g)
+  pub spells_b : IsGiven (of_b g)
   spells_b = record { sound = ready.up.sound; items = ready.items; tag = tag_utf8 g.b.tag ready.up.tag_b; plan = plan_writable g.registry ready.up.sound ready.items g.b.plan ready.up.keeps_b }
 
   -- an end that got what can be carried says what can be
@@ -114,6 +114,13 @@ module _ (g : Settings) (ready : AreReady g) (es : List Event) (w : World) (met 
 
   pub carried_b : AllByRecursion MessageSpellable w.b.now.said
   carried_b = messages_spellable w.b.now.said (both_go g ready es w met well.a well.b).b
+
+  -- what each got can be
+  pub got_goes_a : AllByRecursion MessageGoes w.a.now.got
+  got_goes_a = all_came g.registry w.b.now w.a.now (meets_linked g es w met).back (both_go g ready es w met well.a well.b).b
+
+  pub got_goes_b : AllByRecursion MessageGoes w.b.now.got
+  got_goes_b = all_came g.registry w.a.now w.b.now (meets_linked g es w met).there (both_go g ready es w met well.a well.b).a
 
   pub both_carried : BothCarried w
   both_carried =

@@ -20,7 +20,7 @@ use Rattle.world_model.specs.Readings.{is_broken}
 use Rattle.world_model.specs.Worlds.{Settings, of_a, of_b, World, opening_world, Event, happens, happen_all, Runs, is_at, entries_of}
 use Rattle.world_model.specs.declared.side.Side.{Side}
 use Rattle.world_model.specs.declared.side.Side.TheVariants.{A, B}
-use Rattle.world_laws.proofs.HeldLives.{supports_a, supports_b, there_a, there_b, homes_a, homes_b}
+use Rattle.world_laws.proofs.HeldLives.{supports_a, supports_b, there_a, there_b}
 use Rattle.world_laws.proofs.InterlockLaws.{interlock, interlock_second}
 use Rattle.world_laws.proofs.JoinedLaws.{joined}
 use Rattle.world_laws.proofs.LastLaws.{both_last, meets_linked}
@@ -31,6 +31,7 @@ use Rattle.world_laws.proofs.WorldLaws.{balance, paired_there, paired_back, stan
 use Rattle.world_histories.specs.Kept.{MayDispose, IsAccounted, Keeps, BothKeep}
 use Rattle.world_histories.specs.Ready.{AreReady, BothGiveWell}
 use Rattle.world_histories.proofs.CarriedLaws.{well_front, whole_met}
+use Rattle.world_histories.proofs.HomeLaws.{home_as_itself_a, home_as_itself_b}
 use Rattle.world_histories.proofs.ProxyLaws.{one_proxy}
 
 -- ---- a front of a history
@@ -163,7 +164,6 @@ module _ (g : Settings) (ready : AreReady g) (es : List Event) (well : BothGiveW
             let is = there_a g up es w met gives p foreign held in
             record { given = is.given; sent = is.owed; alive = is.lives_there; supports = supports_a g up es w met gives p is.given held };
         passes = passes_a g up es w met gives;
-        home = homes_a g up es w met gives;
         unbroken = unbroken_a g ready es well w runs;
       }
 
@@ -183,7 +183,6 @@ module _ (g : Settings) (ready : AreReady g) (es : List Event) (well : BothGiveW
             let is = there_b g up es w met gives p foreign held in
             record { given = is.given; sent = is.owed; alive = is.lives_there; supports = supports_b g up es w met gives p is.given held };
         passes = passes_b g up es w met gives;
-        home = homes_b g up es w met gives;
         unbroken = unbroken_b g ready es well w runs;
       }
 
@@ -196,6 +195,8 @@ module _ (g : Settings) (ready : AreReady g) (es : List Event) (well : BothGiveW
       record {
         a = keeps_a;
         b = keeps_b;
+        home_a = home_as_itself_a g ready es well w runs met;
+        home_b = home_as_itself_b g ready es well w runs met;
         threads_a = interlock g apart few also es w met;
         threads_b = interlock_second g apart few also es w met;
         served_a = each_serves_a g apart few also es w met;

@@ -1,3 +1,5 @@
 pub mod CarriedLaws
+pub mod HomeLaws
 pub mod KeptLaws
+pub mod SentLaws
 pub mod ProxyLaws

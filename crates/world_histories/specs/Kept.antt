@@ -1,13 +1,11 @@
 -- What holds of two joined ends behind every history: of each of them, and of the threads and answers that go between them.
 use Rattle.std.specs.Prelude.{◌≡◌, ℕ, ◌<◌, ◌↔◌, true, false, not, ◌&&◌, is_some, None, List, ◌∷◌, ◌++◌}
 use Rattle.std.specs.List.{AllByRecursion}
-use Rattle.message_model.specs.MessageNamings.{message_values}
 use Rattle.message_model.specs.Messages.{Message, Answer, reply}
 use Rattle.message_model.specs.Sayable.{arrived}
 use Rattle.table_model.specs.Bags.{how_many}
 use Rattle.table_model.specs.Pair.{Pair, is_pair}
 use Rattle.table_model.specs.Stubs.{stub}
-use Rattle.uno_model.specs.Values.{refs_in}
 use Rattle.urp_model.specs.declared.reason.Reason.{Reason}
 use Rattle.bridge_laws.specs.Counting.{total, one_if, places, releases_of}
 use Rattle.bridge_laws.specs.Living.{lives}
@@ -21,6 +19,7 @@ use Rattle.bridge_model.specs.Sides.{Outcome, answer, no_memory, answered, stand
 use Rattle.bridge_model.specs.Sides as side
 use Rattle.bridge_model.specs.declared.cause.Cause.{Cause}
 use Rattle.bridge_model.specs.declared.cause.Cause.TheVariants as cause
+use Rattle.bridge_typing.specs.Telling.{referred}
 use Rattle.outcome_laws.specs.Ending.{HasEnd}
 use Rattle.crossing_laws.specs.Calls.{IsAnswerOfCall}
 use Rattle.crossing_laws.specs.Ends.{near_of}
@@ -28,11 +27,11 @@ use Rattle.crossing_laws.specs.Roots.{IsOwn}
 use Rattle.crossing_laws.specs.Serving.{EachServesItsCall}
 use Rattle.world_model.specs.Balances.{Balance, Standing}
 use Rattle.world_model.specs.Flights.{flight, Follows}
-use Rattle.world_model.specs.Offers.{ComesHome}
 use Rattle.world_model.specs.Threads.{Interlock}
 use Rattle.world_model.specs.Worlds.{Settings, of_a, of_b, End, World, Event, entries_of}
 use Rattle.world_model.specs.declared.side.Side.{Side}
 use Rattle.world_model.specs.declared.side.Side.TheVariants.{A, B}
+use Rattle.world_histories.specs.Homes.{ComesAsItself}
 use Rattle.world_histories.specs.Proxies.{proxy_pairs}
 
 -- ---- outcomes
@@ -73,10 +72,8 @@ pub record Keeps (g h : Setting) (es : List Entry) (one other : End) : Type 0 wh
   pub proxies : (p : Pair) → how_many (is_pair p) (proxy_pairs g one.last.side.tables.holdings) ≡ one_if (not (is_own g p.oid) && is_held p.oid p.face one.last.side.tables)
   -- what the other end holds and did not give is this one's, which has the object
   pub objects : (p : Pair) → is_own h p.oid ≡ false → is_held p.oid p.face other.last.side.tables ≡ true → HasObject g one.last p
-  -- the first message in flight to this end is not refused, and what comes home with it is itself
+  -- the first message in flight to this end is not refused
   pub passes : stands one.now.side ≡ true → (m : Message) (ms : List Message) → flight other.now one.now ≡ m ∷ ms → refusal g one.now.side (arrived g.registry m) ≡ None
-  pub home : stands one.now.side ≡ true → (m : Message) (ms : List Message) → flight other.now one.now ≡ m ∷ ms
-      → AllByRecursion (ComesHome g one.now.side.tables) (refs_in (message_values (arrived g.registry m)))
   -- the other end never breaks the bridge
   pub unbroken : (why : Reason) (place : ℕ) → HasEnd g es (cause.Broken why place) → ⊥
 
@@ -85,6 +82,9 @@ pub record Keeps (g h : Setting) (es : List Entry) (one other : End) : Type 0 wh
 pub record BothKeep (g : Settings) (es : List Event) (w : World) : Type 0 where
   pub a : Keeps (of_a g) (of_b g) (entries_of A es) w.a w.b
   pub b : Keeps (of_b g) (of_a g) (entries_of B es) w.b w.a
+  -- what comes home with the first message in flight to an end, as its target or in its values, is itself
+  pub home_a : stands w.a.now.side ≡ true → (m : Message) (ms : List Message) → flight w.b.now w.a.now ≡ m ∷ ms → AllByRecursion (ComesAsItself g A es w) (referred (arrived g.registry m))
+  pub home_b : stands w.b.now.side ≡ true → (m : Message) (ms : List Message) → flight w.a.now w.b.now ≡ m ∷ ms → AllByRecursion (ComesAsItself g B es w) (referred (arrived g.registry m))
   -- each thread goes from end to end, and began at the end that gave its name; one that neither gave is nowhere
   pub threads_a : Interlock (is_own (of_a g)) w.a.last w.b.last
   pub threads_b : Interlock (is_own (of_b g)) w.b.last w.a.last

@@ -1,3 +1,4 @@
+pub mod Homes
 pub mod Kept
 pub mod Proxies
 pub mod Ready

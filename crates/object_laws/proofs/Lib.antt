@@ -1,0 +1,3 @@
+pub mod KeepingLaws
+pub mod NumberLaws
+pub mod StillLaws

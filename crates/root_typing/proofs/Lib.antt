@@ -1,0 +1,11 @@
+pub mod AnswerLaws
+pub mod OwedAnswers
+pub mod OwedEntries
+pub mod OwedFrames
+pub mod OwedMessages
+pub mod OwedSides
+pub mod RootLines
+pub mod RootTerms
+pub mod RunLaws
+pub mod RunTypes
+pub mod RunVariables
