@@ -1,0 +1,9 @@
+pub mod Agreeing
+pub mod Bounded
+pub mod Choices
+pub mod Exact
+pub mod Fronts
+pub mod Leaves
+pub mod LoopLaws
+pub mod Repeats
+pub mod Separating

@@ -1,0 +1,5 @@
+pub mod Agreement
+pub mod Loops
+pub mod Readings
+pub mod Relations
+pub mod Verdicts

@@ -1,0 +1,13 @@
+pub mod Bases
+pub mod CheckVerdicts
+pub mod Circles
+pub mod ConstantRanges
+pub mod ItemValues
+pub mod NamesDiffer
+pub mod OneWay
+pub mod Raised
+pub mod Services
+pub mod Singletons
+pub mod TypePlaces
+pub mod Whole
+pub mod WherePaths
