@@ -36,24 +36,5 @@ module _ (g : Setting) (i j o p : Option (List ℕ)) where
     pub input_at : (cut : Bool) → x ≡ stopped.Input cut → (s : List ℕ) → WasRead i j s → AnsweredWhole g s true o p reason.Ended
     input_at cut at s was = let cut_so = subst (λ z. Serves g i j o p (Ok z)) at is in answered_all cut_so.all s was
 
-    pub cut_at : (cut : Bool) → x ≡ stopped.Input cut → (s : List ℕ) → WasRead i j s → InputEnded g s cut
-    cut_at cut at s was = input_ended (subst (λ z. Serves g i j o p (Ok z)) at is) s was
-
     pub fault_at : x ≡ stopped.ReadFault → (s : List ℕ) → WasRead i j s → AnsweredWhole g s true o p reason.Ended
     fault_at at s was = answered_all (subst (λ z. Serves g i j o p (Ok z)) at is) s was
-
-    pub no_write_fault_at : {X : Type 0} → x ≡ stopped.WriteFault → X
-    no_write_fault_at at = absurd (subst (λ z. Serves g i j o p (Ok z)) at is)
-
-module _ (before now : ℕ) (left : Option (List ℕ)) (x : Stopped) (is : Reads before now left x) where
-  pub rose_at : x ≡ stopped.ReadFault → Rose before now
-  rose_at at = subst (Reads before now left) at is
-
-  pub kept_at_bridge : (why : Cause) → x ≡ stopped.Bridge why → now ≡ before
-  kept_at_bridge why at = subst (Reads before now left) at is
-
-  pub kept_at_input : (cut : Bool) → x ≡ stopped.Input cut → now ≡ before
-  kept_at_input cut at = let both = subst (Reads before now left) at is in both.0
-
-  pub end_at_input : (cut : Bool) → x ≡ stopped.Input cut → IsAtEnd left
-  end_at_input cut at = let both = subst (Reads before now left) at is in both.1

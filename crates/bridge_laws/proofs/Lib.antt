@@ -55,7 +55,6 @@ pub mod SilentLaws
 pub mod SpeakingLaws
 pub mod SpellingLaws
 pub mod StackCountLaws
-pub mod StackLaws
 pub mod StandingEffectLaws
 pub mod StandingFrameLaws
 pub mod StandingHistoryLaws

@@ -4,4 +4,3 @@ mod Marking
 mod NextFace
 mod Numbers
 mod Seen
-pub mod TableLaws

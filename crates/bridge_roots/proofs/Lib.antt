@@ -1,7 +1,6 @@
 pub mod AnyLemmas
 pub mod AskLemmas
 pub mod BegunLemmas
-pub mod EndLemmas
 pub mod GivingLemmas
 pub mod MadeLemmas
 pub mod MoveLemmas

@@ -1,4 +1,3 @@
 mod VariableLemmas
 mod FirstLemmas
 mod AnswerLemmas
-mod QueryLemmas

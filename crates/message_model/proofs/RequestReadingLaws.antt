@@ -8,7 +8,7 @@ use Rattle.uno_model.specs.Kinds.{Kind, interface_of}
 use Rattle.uno_model.specs.Kinds as kd
 use Rattle.uno_model.specs.Sound.{is_named}
 use Rattle.uno_model.specs.Values.{Plain}
-use Rattle.uno_model.proofs.Options.{same_some, none_some}
+use Rattle.uno_model.proofs.KindLaws.{interface_is}
 use Rattle.urp_model.specs.Agreement.{Agrees, pair, triple}
 use Rattle.urp_model.specs.Reading.{value_at}
 use Rattle.urp_model.specs.Spelling.{SpellsEach, Spells}
@@ -132,11 +132,6 @@ module _ (reg : List Entity) (named : list_all is_named reg ≡ true) where
 
   -- ---- requests
 
-  -- a type is an interface by the test
-  face_is : (k : Kind) (face : List ℕ) → interface_of k ≡ Some face → k ≡ kd.interface face
-  face_is (kd.interface other) face is = ap kd.interface (same_some is)
-  face_is _ face is = absurd (none_some is)
-
   asked_face : (o : Opening) (target : Target) (heard : Heard) (m : Message) (b : List ℕ) (after : Heard) → SpellsAsked reg o target heard m b after
       → (face : List ℕ) × (interface_of target.kind ≡ Some face)
   asked_face o target heard m b after (a_release face is _ _ _ _ _) = (face, ap interface_of is)
@@ -148,7 +143,7 @@ module _ (reg : List Entity) (named : list_all is_named reg ≡ true) where
   request_agrees heard first is =
       weaken triple
       (bind_agrees pair triple _ (opening_agrees first is) (λ o. bind_agrees triple triple _ (target_agrees reg named o heard) (λ (target : Target × Heard).
-      judged_agrees triple NotInterface (interface_of target.0.kind) _ (λ face found. asked_agrees o face target.0 target.1 (face_is target.0.kind face found)))))
+      judged_agrees triple NotInterface (interface_of target.0.kind) _ (λ face found. asked_agrees o face target.0 target.1 (interface_is target.0.kind face found)))))
       (λ x used t.
       let behind = t.5 in
       let last = behind.5 in

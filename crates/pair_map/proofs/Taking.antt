@@ -24,19 +24,11 @@ module _ {X : Type 0} (key : List ℕ) (faces : Rows X) where
       ∙ sym (append_assoc (face_rows e.0 e.1) (pair_rows es) (face_rows key faces))
 
   module _ (old new : List (List ℕ × Rows X)) (last : old ≡ new ++ (key, faces) ∷ []) where
-    rows_of_faces : (faces : Rows X) → length faces ≡ 0 → face_rows key faces ≡ []
-    rows_of_faces [] none = refl
-    rows_of_faces (f ∷ faces) none = let bad : ⊥ = omega arith in absurd bad
-
     any_of_faces : (faces : Rows X) → 0 < length faces → list_any (λ row. bytes_eq key row.0.oid) (face_rows key faces) ≡ true
     any_of_faces [] some = let bad : ⊥ = omega arith in absurd bad
     any_of_faces (f ∷ faces) some = ap (λ b. b || list_any (λ row. bytes_eq key row.0.oid) (face_rows key faces)) (nat_list_eq_equiv.refl key)
 
-    -- an OID that has no face takes no row with it
-    pub bare_rows : length faces ≡ 0 → pair_rows new ≡ pair_rows old
-    bare_rows none = sym (ap pair_rows last ∙ rows_with_last new ∙ ap (λ rest. pair_rows new ++ rest) (rows_of_faces faces none) ∙ append-nil (pair_rows new))
-
-    -- and one that has some was there
+    -- an OID that has a face was there
     pub some_rows : 0 < length faces → list_any (λ row. bytes_eq key row.0.oid) (pair_rows old) ≡ true
     some_rows some =
         ap (list_any (λ row. bytes_eq key row.0.oid)) (ap pair_rows last ∙ rows_with_last new)
@@ -58,9 +50,6 @@ module _ {X : Type 0} (key : List ℕ) (faces : Rows X) where
         ∙ ap (λ rows. length (in_order pair_cmp rows)) (filter-append _ (pair_rows new) (face_rows key faces))
         ∙ (λ i. length (in_order pair_cmp (none_of_oid key (pair_rows new) others i ++ all_of_oid key faces i)))
         ∙ as_many key faces apart
-
-    pub fewer_rows : length new < length old
-    fewer_rows = let long = ap length last ∙ length-append new ((key, faces) ∷ []) in omega (arith, long)
 
 -- maps with the same rows have the same at each pair
 pub same_in_rows : {X S : Type 0} (m n : HashMap (List ℕ) (Rows X) S) → IsUnique bytes_eq m → IsUnique bytes_eq n → pair_rows n.entries ≡ pair_rows m.entries

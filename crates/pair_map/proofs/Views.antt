@@ -84,7 +84,3 @@ number_taken m n rows o unique unique_after is change number many =
     let stay = ap length (taken_at m n _ o o unique unique_after refl refl change) in
     let long = ap length is in
     omega (arith, all, stay, long, many)
-
--- a list in order without items has none
-pub none_in_order : {X : Type 0} (xs rows : List (Pair × X)) → in_order pair_cmp xs ≡ rows → xs ≡ [] → rows ≡ []
-none_in_order xs rows is none = sym is ∙ ap (in_order pair_cmp) none

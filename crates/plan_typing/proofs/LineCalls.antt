@@ -19,6 +19,7 @@ use Rattle.uno_model.specs.Types.{is_type}
 use Rattle.uno_model.specs.declared.way.Way.{Way}
 use Rattle.uno_model.specs.declared.way.Way.TheVariants as way
 use Rattle.uno_model.proofs.CodeLaws.{same_kind_told}
+use Rattle.uno_model.proofs.KindLaws.{interface_is}
 use Rattle.uno_model.proofs.Options.{same_some, none_some}
 use Rattle.plan_model.specs.Contexts.{Context, kind_of_word, kind_of_variable, kind_fits, called_function, behaviour_number, behaviour_named, behaviours_before}
 use Rattle.plan_model.specs.Evaluation.{both_values}
@@ -48,12 +49,8 @@ pub then_there : {A B : Type 0} (o : Option A) (go : A → Option B) (z : B) →
 then_there None go z is = absurd (none_some is)
 then_there (Some x) go z is = record { first = x; first_is = refl; made = is }
 
-face_is : (k : Kind) (face : List ℕ) → interface_of k ≡ Some face → k ≡ kd.interface face
-face_is (kd.interface name) face is = ap kd.interface (same_some is)
-face_is _ face is = absurd (none_some is)
-
 face_known : (o : Option Kind) (face : List ℕ) → and_then o interface_of ≡ Some face → o ≡ Some (kd.interface face)
-face_known o face is = let known = then_there o interface_of face is in known.first_is ∙ ap Some (face_is known.first face known.made)
+face_known o face is = let known = then_there o interface_of face is in known.first_is ∙ ap Some (interface_is known.first face known.made)
 
 -- ---- what stands before a line
 

@@ -15,6 +15,7 @@ use Rattle.uno_model.specs.NamedTypes.{type_of_text}
 use Rattle.uno_model.specs.Sound.{IsSound}
 use Rattle.uno_model.specs.Types.{is_type}
 use Rattle.uno_model.proofs.CodeLaws.{same_kind_told}
+use Rattle.uno_model.proofs.KindLaws.{exception_is}
 use Rattle.uno_model.proofs.Options.{same_some, none_some}
 use Rattle.plan_model.specs.Contexts.{Scoped, Context, kind_of_word, kind_of_variable, kind_of_field, known_variable, open_function}
 use Rattle.plan_model.specs.Evaluation.{both_values}
@@ -38,12 +39,8 @@ use Rattle.plan_typing.proofs.ValueLaws.{both_there, mapped}
 
 -- ---- names of exceptions
 
-raised_is : (k : Kind) (name : List ℕ) → exception_of k ≡ Some name → k ≡ kd.exception name
-raised_is (kd.exception other) name is = ap kd.exception (same_some is)
-raised_is _ name is = absurd (none_some is)
-
 raised_known : (o : Option Kind) (name : List ℕ) → and_then o exception_of ≡ Some name → o ≡ Some (kd.exception name)
-raised_known o name is = let known = then_there o exception_of name is in known.first_is ∙ ap Some (raised_is known.first name known.made)
+raised_known o name is = let known = then_there o exception_of name is in known.first_is ∙ ap Some (exception_is known.first name known.made)
 
 not_both : (b : Bool) → not b ≡ true → b ≡ false
 not_both false is = refl

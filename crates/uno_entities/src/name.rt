@@ -71,7 +71,7 @@ impl Name {
         self.text.as_str()
     }
 
-    /// An equal name, which takes no memory.
+    /// An equal name, which shares its text; refused only if that has too many owners.
     pub fn copy(&self) -> Result<Name, NoMemory>
         ensures { IfOk result (λ name. name ≡ self.now) }
     {

@@ -81,7 +81,7 @@ impl Text {
         self.text.as_str()
     }
 
-    /// An equal text, which takes no memory.
+    /// An equal text, which shares its bytes; refused only if that has too many owners.
     pub fn copy(&self) -> Result<Text, NoMemory>
         ensures { IfOk result (λ copy. copy ≡ self.now) }
     {

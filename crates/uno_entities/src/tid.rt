@@ -37,7 +37,7 @@ impl Tid {
         self.bytes.as_slice()
     }
 
-    /// An equal identity, which takes no memory.
+    /// An equal identity, which shares its bytes; refused only if that has too many owners.
     pub fn copy(&self) -> Result<Tid, NoMemory>
         ensures { IfOk result (λ tid. tid ≡ self.now) }
     {

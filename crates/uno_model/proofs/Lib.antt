@@ -8,6 +8,7 @@ pub mod DefaultLaws
 pub mod FindLaws
 pub mod FitLaws
 pub mod FunctionLaws
+pub mod KindLaws
 pub mod MemberKindLaws
 pub mod MemberLaws
 pub mod NameLaws

@@ -16,7 +16,7 @@ pub enum Reference {
 }
 
 impl Reference {
-    /// An equal reference, which takes no memory.
+    /// An equal reference, which shares its texts; refused only if one of them has too many owners.
     pub fn copy(&self) -> Result<Reference, NoMemory>
         ensures { IfOk result (λ copy. ref_of copy ≡ ref_of self.now) }
     {
