@@ -5,6 +5,7 @@ ghost use Rattle.std.specs.Option.{is_some};
 ghost use Rattle.std.specs.Str.{bytes_eq};
 ghost use Rattle.bridge_setting.specs.Naming.{name_of, AreNames};
 
+use arrayvec::ArrayString;
 use itoa::Buffer;
 use std::alloc::Global;
 use std::marker::Model;
@@ -37,8 +38,8 @@ impl Names {
         ensures { IfOk result (λ names. (names.tag ≡ tag) × (names.roots ≡ roots)) }
     {
         let prefix = prefix_of(alloc, &tag)?;
-        let release = thread_named(alloc, &prefix, 0)?;
-        let roots = threads_named(alloc, &tag, &prefix, roots)?;
+        let release = thread_named(alloc, &tag, 0)?;
+        let roots = threads_named(alloc, &tag, roots)?;
         Ok(Names {
             tag,
             prefix,
@@ -75,8 +76,7 @@ impl Names {
     pub fn object(&self, alloc: Global, number: u32) -> Result<Text, NoMemory>
         ensures { IfOk result (λ oid. oid ≡ name_of self.now.tag number) }
     {
-        let name = named(alloc, &self.prefix, number as u64)?;
-        Text::from_string(name)
+        Text::of(alloc, named(&self.tag, number as u64).as_str())
     }
 
     /// Whether a name is the identity of the object of a number.
@@ -108,7 +108,7 @@ fn prefix_of(alloc: Global, tag: &Tag) -> Result<Text, NoMemory>
     ensures { IfOk result (λ prefix. prefix ≡ tag.now ++ codes ";") }
 {
     let mut prefix = String::from_str(alloc, tag.as_str())?;
-    prefix.push_str(";")?;
+    prefix.push_str(SEPARATOR)?;
     Text::from_string(prefix)
 }
 
@@ -120,40 +120,37 @@ fn is_printed(number: u32, digits: &str) -> bool
     buffer.format(number) == digits
 }
 
-/// The name of a number, behind the tag and `;`.
-fn named(alloc: Global, prefix: &Text, number: u64) -> Result<String, NoMemory>
-    ensures { IfOk result (λ name. string_bytes name ≡ prefix.now ++ decimal number) }
+/// The most bytes of a name: those of a tag, `;`, and a number.
+const MOST_NAME: usize = 53;
+
+const SEPARATOR: &str = ";";
+
+/// The name of a number.
+fn named(tag: &Tag, number: u64) -> ArrayString<MOST_NAME>
+    ensures { result.bytes ≡ name_of tag.now number }
 {
-    let prefix = prefix.as_str();
     let mut buffer = Buffer::new();
-    let digits = buffer.format(number);
-    let mut name = String::with_capacity(alloc, prefix.len().saturating_add(digits.len()))?;
-    name.push_str(prefix)?;
-    name.push_str(digits)?;
-    Ok(name)
+    let mut name = ArrayString::new();
+    name.push_str(tag.as_str());
+    name.push_str(SEPARATOR);
+    name.push_str(buffer.format(number));
+    name
 }
 
-/// The thread of a number, behind the tag and `;`.
-fn thread_named(alloc: Global, prefix: &Text, number: u64) -> Result<Tid, NoMemory>
-    ensures { IfOk result (λ tid. tid ≡ prefix.now ++ decimal number) }
+/// The thread of a number.
+fn thread_named(alloc: Global, tag: &Tag, number: u64) -> Result<Tid, NoMemory>
+    ensures { IfOk result (λ tid. tid ≡ name_of tag.now number) }
 {
-    let name = named(alloc, prefix, number)?;
-    Tid::of(alloc, name.as_bytes())
+    Tid::of(alloc, named(tag, number).as_str().as_bytes())
 }
 
 /// The threads of so many roots, in their order.
-fn threads_named(
-    alloc: Global,
-    tag: &Tag,
-    prefix: &Text,
-    count: usize,
-) -> Result<Vec<Tid>, NoMemory>
-    requires { prefix.now ≡ tag.now ++ codes ";" }
+fn threads_named(alloc: Global, tag: &Tag, count: usize) -> Result<Vec<Tid>, NoMemory>
     ensures { IfOk result (λ tids. AreNames tag.now 1 tids.items × (length tids.items ≡ count)) }
 {
     let mut tids = Vec::new(alloc);
     for place in 0..count {
-        let tid = thread_named(alloc, prefix, place as u64 + 1)?;
+        let tid = thread_named(alloc, tag, place as u64 + 1)?;
         tids.push(tid)?;
     }
     Ok(tids)

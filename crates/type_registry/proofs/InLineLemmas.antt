@@ -1,9 +1,10 @@
 -- What is sought over bases that lie in a line.
-use Rattle.std.proofs.Common.{◌≡◌, ℕ, zero, suc, ◌+◌, ◌≤◌, List, [], ◌∷◌, ◌++◌, length, slice_get, None, sym, ap, subst, ◌∙◌, arith, append-nil}
+use Rattle.std.proofs.Common.{◌≡◌, ℕ, zero, suc, ◌+◌, ◌≤◌, List, [], ◌∷◌, ◌++◌, length, slice_get, None, Some, refl, sym, ap, subst, ◌∙◌, arith, append-nil}
 use Rattle.std.proofs.lemmas.List.{length-append}
 use Rattle.std.proofs.lemmas.List.Concat.{flat_map-append}
+use Rattle.uno_model.specs.BuiltIn.{HasBuiltIn, x_interface, x_interface_name}
 use Rattle.uno_model.specs.Entities.{Entity}
-use Rattle.uno_model.specs.Functions.{Function, declared_by, is_met, met_within, visit_all}
+use Rattle.uno_model.specs.Functions.{Function, declared_by, is_met, met_within, root_functions, visit_all}
 use Rattle.uno_model.specs.Registry.{find_entity, stands_on, stands_on_body}
 use Rattle.type_registry.specs.Own.{Seeks, SeeksOver, functions_by}
 use Rattle.type_registry.specs.declared.own.Sought.{Sought}
@@ -41,6 +42,14 @@ pub ends_nowhere : (reg : List Entity) (name : List ℕ) (levels number : ℕ) �
 ends_nowhere reg name levels number some none =
     ends_at reg name levels number (sought.Past number) some (ap stands_on_body none)
     (subst (λ e. Seeks (declared_by name e) number (sought.Past number)) (sym none) (omega arith))
+
+-- the line ends at the root interface, whose functions all lie before the number
+pub ends_past_root : (reg : List Entity) (name : List ℕ) (levels number left : ℕ) → HasBuiltIn reg → 1 ≤ levels → name ≡ x_interface_name
+    → number ≡ length root_functions + left → SeeksOver reg name levels number (sought.Past left)
+ends_past_root reg name levels number left built_in some root past =
+    let found : find_entity name reg ≡ Some x_interface = ap (λ n. find_entity n reg) root ∙ built_in.found x_interface (4, omega arith, refl) in
+    ends_at reg name levels number (sought.Past left) some (ap stands_on_body found)
+    (subst (λ e. Seeks (declared_by name e) number (sought.Past left)) (sym found) past)
 
 -- what is found below an interface with a single base, and what is sought behind that
 pub found_below : (reg : List Entity) (name base : List ℕ) (levels less number : ℕ) (f : _) → levels ≡ less + 1 → stands_on reg name ≡ base ∷ []

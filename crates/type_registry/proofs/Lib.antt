@@ -2,5 +2,4 @@ pub mod InLineLemmas
 pub mod MetLemmas
 pub mod SeekLemmas
 pub mod TaskLemmas
-pub mod TableLemmas
 pub mod WalkLemmas

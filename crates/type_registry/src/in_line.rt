@@ -1,10 +1,16 @@
 //! One function of an interface whose bases lie in a line: where none has two bases, none can be met twice.
-ghost use Rattle.std.specs.Prelude.{IfSome};
+ghost use Rattle.std.specs.Prelude.{◌≡◌, ◌+◌, IfSome, length};
+ghost use Rattle.uno_model.specs.BuiltIn.{HasBuiltIn, x_interface_name};
+ghost use Rattle.uno_model.specs.Functions.{root_functions};
 ghost use Rattle.type_registry.specs.Own.{SeeksOver};
 
 use crate::bases::{bases_in, last_of};
 use crate::own::{Sought, seek_declared};
+use uno_entities::X_INTERFACE;
 use uno_types::Registry;
+
+/// How many functions the root interface has.
+const ROOT_FUNCTIONS: usize = 3;
 
 /// The function of an interface at a number, or how far the number lies past them. There is no answer where the interface, or one below it in the line, has two
 /// bases that are not optional, and none where the line has more levels than these.
@@ -14,9 +20,13 @@ pub(crate) fn seek_in_line<'a>(
     levels: usize,
     number: usize,
 ) -> Option<Sought<'a>>
+    requires { HasBuiltIn registry.now }
     ensures { IfSome result (λ sought. SeeksOver registry.now name.now levels number sought) }
 {
     let less = levels.checked_sub(1)?;
+    if let Some(left) = past_root(name, number) {
+        return Some(Sought::Past(left));
+    }
     let Some(entity) = registry.find(name) else {
         return Some(Sought::Past(number));
     };
@@ -30,4 +40,14 @@ pub(crate) fn seek_in_line<'a>(
         Sought::Found(function) => Some(Sought::Found(function)),
         Sought::Past(left) => Some(seek_declared(entity, left)),
     }
+}
+
+/// How far a number lies past the functions of the root interface, which has the same ones in every registry, where the name is that interface's.
+fn past_root(name: &str, number: usize) -> Option<usize>
+    ensures { IfSome result (λ left. (name.now ≡ x_interface_name) × (number ≡ length root_functions + left)) }
+{
+    if name != X_INTERFACE {
+        return None;
+    }
+    number.checked_sub(ROOT_FUNCTIONS)
 }

@@ -1,5 +1,3 @@
-use Rattle.std.proofs.Common.{◌∙◌, ◌+◌, ◌++◌, ap}
-use Rattle.std.specs.Fmt.{decimal}
 use Rattle.bridge_setting.proofs.NameLemmas.{also_named, none_named}
 use Rattle.bridge_setting.proofs.names.threads_named.Goals as goal
 
@@ -8,5 +6,5 @@ loop-place-init c = none_named c.args.tag.now c.new-tids.result.items c.new-tids
 
 pub loop-place-preserved : goal.loop-place-preserved
 loop-place-preserved c =
-    also_named c.args.tag.now c.loop-place.tids.items c.push.new.self.items c.in_ok-tid.tid c.loop-place.place c.loop-place.invariant.0 c.loop-place.invariant.1 (c.in_ok-tid.ensures ∙ ap (λ p. p ++ decimal (c.loop-place.place + 1)) c.requires)
+    also_named c.args.tag.now c.loop-place.tids.items c.push.new.self.items c.in_ok-tid.tid c.loop-place.place c.loop-place.invariant.0 c.loop-place.invariant.1 c.in_ok-tid.ensures
     c.in_ok-push.ensures.items
