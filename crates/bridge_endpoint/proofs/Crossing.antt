@@ -1,9 +1,11 @@
--- An endpoint may be sent to another thread. It is shown layer by layer, since one search down to the values runs out of steps.
-use denote.Param.Send.{IsSend, sendable}
+-- An endpoint may be sent to another thread, and a plan may be shared by threads. It is shown layer by layer, since one search down to the values runs out of steps.
+use denote.Param.Send.{IsSend, IsSync, sendable}
 use Rattle.std.proofs.Crossing.{crosses}
+use Rattle.std.proofs.MapsCrossing as maps
 use Rattle.uno_entities.proofs.name.Name.TheSendSync as names
 use Rattle.uno_entities.proofs.text.Text.TheSendSync as texts
 use Rattle.uno_entities.proofs.tid.Tid.TheSendSync as tids
+use Rattle.uno_entities.proofs.type_name.TypeName.TheLaws.TheKnot as kinds
 use Rattle.uno_entities.specs.contracts.entity.Attribute as Attribute
 use Rattle.uno_entities.specs.contracts.entity.Base as Base
 use Rattle.uno_entities.specs.contracts.entity.Body as Body
@@ -18,7 +20,11 @@ use Rattle.uno_entities.specs.contracts.entity.Param as Param
 use Rattle.uno_entities.specs.contracts.entity.Part as Part
 use Rattle.uno_entities.specs.contracts.entity.Service as Service
 use Rattle.uno_entities.specs.contracts.entity.Singleton as Singleton
+use Rattle.uno_entities.specs.contracts.type_name.TypeName as TypeName
 use Rattle.uno_types.specs.contracts.registry.Registry as Registry
+use Rattle.uno_values.proofs.value.Value.TheLaws.TheKnot as values
+use Rattle.uno_values.specs.contracts.reference.Reference as Reference
+use Rattle.uno_values.specs.contracts.value.Value as Value
 use Rattle.plan_types.proofs.expression.Expression.TheLaws.TheKnot as expressions
 use Rattle.plan_types.specs.contracts.expression.Argument as Argument
 use Rattle.plan_types.specs.contracts.expression.Expression as Expression
@@ -150,6 +156,71 @@ offer_send = let a = names.the_send in search sendable depth 20
 
 plan_send : IsSend Plan.the_field.row
 plan_send = let a = behaviour_send in let b = export_send in let c = offer_send in let d = root_statement_send in search (crosses, sendable) depth 20
+
+-- ---- what threads share: the plan
+
+kind_sync : IsSync TypeName.the_field.row
+kind_sync = let a = names.the_sync in search (kinds.crosses, crosses, sendable) depth 20
+
+reference_sync : IsSync Reference.the_field.row
+reference_sync = let a = names.the_sync in let b = texts.the_sync in search sendable depth 20
+
+value_sync : IsSync Value.the_field.row
+value_sync = let a = kind_sync in let b = reference_sync in let c = names.the_sync in let d = texts.the_sync in search (values.crosses, maps.crosses, crosses, sendable) depth 20
+
+field_sync : IsSync Field.the_field.row
+field_sync = let a = names.the_sync in let b = kind_sync in search sendable depth 20
+
+field_row_sync : IsSync Field.the_row
+field_row_sync = let a = names.the_sync in let b = kind_sync in search sendable depth 20
+
+word_sync : IsSync Word.the_field.row
+word_sync = let a = names.the_sync in search sendable depth 20
+
+expression_sync : IsSync Expression.the_field.row
+expression_sync = let a = names.the_sync in let b = kind_sync in let c = value_sync in let d = word_sync in search (expressions.crosses, crosses, sendable) depth 20
+
+expression_row_sync : IsSync Expression.the_row
+expression_row_sync = let a = names.the_sync in let b = kind_sync in let c = value_sync in let d = word_sync in search (expressions.crosses, crosses, sendable) depth 20
+
+argument_sync : IsSync Argument.the_row
+argument_sync = let a = names.the_sync in let b = expression_sync in search sendable depth 20
+
+callee_sync : IsSync Callee.the_field.row
+callee_sync = let a = names.the_sync in search sendable depth 20
+
+call_sync : IsSync Call.the_field.row
+call_sync = let a = word_sync in let b = callee_sync in let c = argument_sync in let d = field_row_sync in search (crosses, sendable) depth 20
+
+query_sync : IsSync Query.the_field.row
+query_sync = let a = names.the_sync in let b = word_sync in search sendable depth 20
+
+making_sync : IsSync Making.the_field.row
+making_sync = let a = names.the_sync in search sendable depth 20
+
+test_sync : IsSync Test.the_field.row
+test_sync = let a = word_sync in let b = expression_sync in search sendable depth 20
+
+statement_sync : IsSync Statement.the_row
+statement_sync = let a = names.the_sync in let b = field_sync in let c = expression_sync in let d = expression_row_sync in let e = call_sync in let f = query_sync in let g = making_sync in let h = test_sync in search (crosses, sendable) depth 20
+
+root_statement_sync : IsSync RootStatement.the_row
+root_statement_sync = let a = names.the_sync in let b = texts.the_sync in let c = call_sync in let d = query_sync in let e = making_sync in search sendable depth 20
+
+method_sync : IsSync Method.the_row
+method_sync = let a = names.the_sync in let b = statement_sync in search (crosses, sendable) depth 20
+
+behaviour_sync : IsSync Behaviour.the_row
+behaviour_sync = let a = names.the_sync in let b = field_row_sync in let c = method_sync in search (crosses, sendable) depth 20
+
+export_sync : IsSync Export.the_row
+export_sync = let a = texts.the_sync in search sendable depth 20
+
+offer_sync : IsSync Offer.the_row
+offer_sync = let a = names.the_sync in search sendable depth 20
+
+pub plan_sync : IsSync Plan.the_row
+plan_sync = let a = behaviour_sync in let b = export_sync in let c = offer_sync in let d = root_statement_sync in search (crosses, sendable) depth 20
 
 -- ---- the setting
 

@@ -111,7 +111,7 @@ kept_on g roots e log x f after kept may_it gives is entered room within =
 -- what holds of the side to which the journal leads
 module _ (g : Setting) (roots : ℕ) (e : EndSide) (log : Log) (kept : IsKept g roots e log) where
   pub kept_given : IsGiven g
-  kept_given = is_given g kept.set_up.sound kept.built_in kept.set_up.names kept.set_up.rules kept.tag
+  kept_given = is_given g kept.set_up.sound kept.built_in kept.set_up.names kept.set_up.rules kept.tag.short
 
   of_plan : AreOfPlan g log.entries
   of_plan = record { roots = (all_allowed g log.entries kept.told kept.leads).roots; few = kept_given.roots }
@@ -125,7 +125,7 @@ module _ (g : Setting) (roots : ℕ) (e : EndSide) (log : Log) (kept : IsKept g 
   pub kept_sayable : AreSayable g.registry e.side.tables.unsaid
   kept_sayable =
       subst (λ s. AreSayable g.registry s.tables.unsaid) kept.here
-      (unsaid_sayable g kept.set_up.sound kept.built_in kept.set_up.names kept.set_up.rules kept.tag log.entries kept.told kept.gives kept.leads)
+      (unsaid_sayable g kept.set_up.sound kept.built_in kept.set_up.names kept.set_up.rules kept.tag.short log.entries kept.told kept.gives kept.leads)
 
   -- of a root of the plan that is idle
   pub kept_idle : (root : ℕ) → 1 ≤ root → root ≤ length g.plan.threads → waits (state_of root e.side.tables.roots) ≡ false → frames_of (root_tid g root) e.side.stacks ≡ []

@@ -3,6 +3,7 @@ use Rattle.std.proofs.Common.{◌≡◌, refl, ◌∙◌, ℕ, suc, ◌+◌, ◌
 use Rattle.plan_model.specs.Plans.{first_objects}
 use Rattle.table_model.specs.declared.holder.Holder.{Holder}
 use Rattle.table_model.specs.declared.holder.Holder.TheVariants as holder
+use Rattle.uno_entities.specs.Tag.{IsTag}
 use Rattle.uno_model.specs.BuiltIn.{HasBuiltIn}
 use Rattle.uno_model.specs.Values.{Plain, Ref, null, own, peer}
 use Rattle.bridge_journal.specs.Logs.{empty_log}
@@ -56,7 +57,7 @@ none_counted : (g : Setting) → (opening g).entries ≤ 0
 unfolding opening
 none_counted g = omega arith
 
-pub opening_kept : (g : Setting) (roots : ℕ) → IsSetUp g → HasBuiltIn g.registry → length g.tag ≤ 32 → roots ≡ length g.plan.threads
+pub opening_kept : (g : Setting) (roots : ℕ) → IsSetUp g → HasBuiltIn g.registry → IsTag g.tag → roots ≡ length g.plan.threads
     → IsWithin (with_room (2 + (opening g).tables.objects_made) empty_log) → IsKept g roots (opening_end g) (with_room (2 + (opening g).tables.objects_made) empty_log)
 opening_kept g roots set_up built_in tag named within =
     record {

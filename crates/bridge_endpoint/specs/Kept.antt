@@ -6,6 +6,7 @@ use Rattle.bridge_model.specs.Settings.{Setting}
 use Rattle.bridge_room.specs.Room.{needed}
 use Rattle.bridge_state.specs.EndSides.{EndSide, IsEndOf}
 use Rattle.bridge_typing.specs.Giving.{RootsGive}
+use Rattle.uno_entities.specs.Tag.{IsTag}
 use Rattle.uno_model.specs.BuiltIn.{HasBuiltIn}
 use Rattle.bridge_endpoint.specs.Entering.{IsWithin}
 use Rattle.bridge_endpoint.specs.Journals.{IsSetUp}
@@ -18,7 +19,7 @@ pub record IsKept (g : Setting) (roots : ℕ) (e : EndSide) (log : Log) : Type 0
   pub of : IsEndOf g e
   pub set_up : IsSetUp g
   pub built_in : HasBuiltIn g.registry
-  pub tag : length g.tag ≤ 32
+  pub tag : IsTag g.tag
   pub gives : RootsGive g log.entries
   pub named : roots ≡ length g.plan.threads
   pub room : needed e.side ≤ log.room

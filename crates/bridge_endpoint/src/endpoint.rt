@@ -1,5 +1,5 @@
 //! The endpoint itself, and its ends.
-ghost use Rattle.std.specs.Prelude.{◌≡◌, ◌+◌, ◌≤◌, true, false, IfOk, length};
+ghost use Rattle.std.specs.Prelude.{◌≡◌, ◌+◌, true, false, IfOk};
 ghost use Rattle.bridge_journal.specs.Logs.{empty_log, entry_of};
 ghost use Rattle.bridge_model.specs.Entries as entry;
 ghost use Rattle.bridge_model.specs.Sides.{stands};
@@ -7,6 +7,7 @@ ghost use Rattle.bridge_model.specs.Steps.{is_no_memory, opening};
 ghost use Rattle.bridge_setting.specs.Settings.{setting_of};
 ghost use Rattle.bridge_state.specs.EndSides.{opening_end};
 ghost use Rattle.plan_types.specs.Plans.{plan_of};
+ghost use Rattle.uno_entities.specs.Tag.{IsTag};
 ghost use Rattle.uno_model.specs.BuiltIn.{HasBuiltIn};
 ghost use Rattle.uno_model.specs.Sound.{IsSound};
 ghost use Rattle.bridge_endpoint.specs.Entering.{IsWithin, how_cause, how_ended, with_room};
@@ -156,7 +157,7 @@ fn entry_for(how: InputEnd) -> Entry
 /// What is known of each registry and of each tag; it does nothing.
 fn know(registry: &Registry, tag: &Tag)
     ensures built_in { HasBuiltIn registry.now }
-    ensures tag { length tag.now ≤ 32 }
+    ensures tag { IsTag tag.now }
 {
     registry.entities();
     tag.as_bytes();

@@ -11,9 +11,10 @@ ghost use Rattle.bridge_state.specs.Telling.{counts_told, state_told};
 ghost use Rattle.bridge_tables.specs.Roots.{outcome_of};
 ghost use Rattle.bridge_typing.specs.Giving.{RootsGive};
 ghost use Rattle.plan_types.specs.Plans.{plan_of};
+ghost use Rattle.uno_entities.specs.Tag.{IsTag};
 ghost use Rattle.uno_model.specs.BuiltIn.{HasBuiltIn};
 ghost use Rattle.uno_model.specs.Sound.{IsSound};
-ghost use Rattle.bridge_endpoint.specs.Journals.{setting_at, side_at, told_at};
+ghost use Rattle.bridge_endpoint.specs.Journals.{IsSetUp, setting_at, side_at, told_at};
 
 use crate::Endpoint;
 use bridge_journal::Entry;
@@ -50,11 +51,14 @@ impl Endpoint {
         self.setting.own_oid(self.alloc, number)
     }
 
-    /// The entries, oldest first. They are a history of the definition, so that all its laws hold of it.
+    /// The entries, oldest first. They are a history of the definition, and the setting is as its laws ask for, so that all of them hold of it.
     pub fn journal(&self) -> &[Entry]
         ensures entries { map entry_of result.now ≡ self.now.entries }
         ensures leads { Leads (setting_at self.now) self.now.entries (told_at self.now) }
         ensures gives { RootsGive (setting_at self.now) self.now.entries }
+        ensures set_up { IsSetUp (setting_at self.now) }
+        ensures built_in { HasBuiltIn (setting_at self.now).registry }
+        ensures tag { IsTag (setting_at self.now).tag }
     {
         self.journal.entries()
     }
