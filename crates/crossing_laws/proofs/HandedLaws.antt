@@ -44,7 +44,7 @@ pub record IsTaken (g : Setting) (t : Tables) (ss : List Stack) (u : Side) (rs :
   pub roots : u.tables.roots ≡ roots_by g (handed_down g.registry tid (home_answer g a) on.below) t.roots
   pub said : rs ≡ replies_by tid (handed_down g.registry tid (home_answer g a) on.below)
   pub frames : List Frame
-  pub left : FramesBy g (handed_down g.registry tid (home_answer g a) on.below) frames
+  pub left : FramesBy g u.tables.objects (handed_down g.registry tid (home_answer g a) on.below) frames
   pub stacks : u.stacks ≡ puts_frames tid frames ss
 
 reply_taken : (g : Setting) (t : Tables) (ss : List Stack) (z : Side) (tid face : List ℕ) (function : ℕ) (a : Answer) → IsReceived g t ss (reply tid face function a) z
@@ -52,7 +52,7 @@ reply_taken : (g : Setting) (t : Tables) (ss : List Stack) (z : Side) (tid face 
 unfolding fate_of_message replies_of_message
 reply_taken g t ss z tid face function a is = by_stacks is.stacks
   where
-    by_stacks : (on : IsOnTop tid face function ss) × (fs : List Frame) × FramesBy g (handed_down g.registry tid (home_answer g a) on.below) fs × (z.stacks ≡ puts_frames tid fs ss)
+    by_stacks : (on : IsOnTop tid face function ss) × (fs : List Frame) × FramesBy g z.tables.objects (handed_down g.registry tid (home_answer g a) on.below) fs × (z.stacks ≡ puts_frames tid fs ss)
         → IsTaken g t ss z (replies_by tid (handed_down g.registry tid (home_answer g a) (below_top (frames_of tid ss)))) tid face function a
     by_stacks (on, fs, left, at) =
         let below : below_top (frames_of tid ss) ≡ on.below = ap below_top on.top in
@@ -68,7 +68,14 @@ reply_taken g t ss z tid face function a is = by_stacks is.stacks
 taken_on : (g : Setting) (t : Tables) (ss : List Stack) (z end : Side) (rs qs : List Message) (tid face : List ℕ) (function : ℕ) (a : Answer) → end.tables ≡ z.tables → end.stacks ≡ z.stacks → qs ≡ rs
     → IsTaken g t ss z rs tid face function a → IsTaken g t ss end qs tid face function a
 taken_on g t ss z end rs qs tid face function a same at says k =
-    record { on = k.on; roots = ap (λ (x : Tables). x.roots) same ∙ k.roots; said = says ∙ k.said; frames = k.frames; left = k.left; stacks = at ∙ k.stacks }
+    record {
+      on = k.on;
+      roots = ap (λ (x : Tables). x.roots) same ∙ k.roots;
+      said = says ∙ k.said;
+      frames = k.frames;
+      left = subst (λ (x : Tables). FramesBy g x.objects (handed_down g.registry tid (home_answer g a) k.on.below) k.frames) (sym same) k.left;
+      stacks = at ∙ k.stacks;
+    }
 
 chain_taken : (g : Setting) (t : Tables) (ss : List Stack) (ms rs : List Message) (z : Side) (tid face : List ℕ) (function : ℕ) (a : Answer) → Hears g t ss ms rs z → ms ≡ reply tid face function a ∷ []
     → stands z ≡ true → IsTaken g t ss z rs tid face function a

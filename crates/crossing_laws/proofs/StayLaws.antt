@@ -11,7 +11,7 @@ use Rattle.bridge_model.specs.Ends.{ends_by}
 use Rattle.bridge_model.specs.Roots.{is_idle, root_calls, root_queries, root_asks}
 use Rattle.bridge_model.specs.Settings.{Setting, root_tid}
 use Rattle.bridge_model.specs.Histories.{Told, Leads}
-use Rattle.bridge_model.specs.Sides.{RootState, idle, waits_call, waits_query, answered, Side, Tables, stands, state_of}
+use Rattle.bridge_model.specs.Sides.{Object, RootState, idle, waits_call, waits_query, answered, Side, Tables, stands, state_of}
 use Rattle.bridge_laws.specs.Rooted.{waits}
 use Rattle.bridge_laws.proofs.RootedLaws.{is_rooted}
 use Rattle.bridge_laws.proofs.TellingLaws.{all_allowed}
@@ -46,12 +46,12 @@ not_said tid t s none same = by_test (bytes_eq tid t) ((bytes_eq-Decides tid t).
     by_test true is none = cc
     by_test false is none = true≢false (sym is)
 
-message_stays : (g : Setting) (tid : List ℕ) (t : Tables) (ss : List Stack) (m : Message) (zs : List Stack) → signal_on tid m ≡ [] → Leaves g t ss m zs → frames_of tid zs ≡ frames_of tid ss
+message_stays : (g : Setting) (tid : List ℕ) (t : Tables) (ss : List Stack) (m : Message) (os : List Object) (zs : List Stack) → signal_on tid m ≡ [] → Leaves g t ss m os zs → frames_of tid zs ≡ frames_of tid ss
 unfolding signal_on
-message_stays g tid t ss (release k oid face) zs none is = ap (frames_of tid) is
-message_stays g tid t ss (request k oid face function args) zs none (inl (at_once, is)) = ap (frames_of tid) is
-message_stays g tid t ss (request k oid face function args) zs none (inr (begins, is)) = put_other tid k _ ss zs (not_said tid k _ none) is
-message_stays g tid t ss (reply k face function a) zs none (on, fs, left, is) = put_other tid k fs ss zs (not_said tid k _ none) is
+message_stays g tid t ss (release k oid face) os zs none is = ap (frames_of tid) is
+message_stays g tid t ss (request k oid face function args) os zs none (inl (at_once, is)) = ap (frames_of tid) is
+message_stays g tid t ss (request k oid face function args) os zs none (inr (begins, is)) = put_other tid k _ ss zs (not_said tid k _ none) is
+message_stays g tid t ss (reply k face function a) os zs none (on, fs, left, is) = put_other tid k fs ss zs (not_said tid k _ none) is
 
 -- each of these messages is of another thread
 abbrev pub AreSilent : (tid : List ℕ) → List Message → Type 0
@@ -62,7 +62,7 @@ unfolding ends_by
 chain_stays g tid t' ss' ms' rs' z' (rests z) up none = refl
 chain_stays g tid t' ss' ms' rs' z' (breaks s why place) up none = absurd (cc)
 chain_stays g tid t' ss' ms' rs' end' (hears t ss m z ms rs end got later) up none =
-    chain_stays g tid z.tables z.stacks ms rs end later up none.1 ∙ message_stays g tid t ss m z.stacks none.0 got.stacks
+    chain_stays g tid z.tables z.stacks ms rs end later up none.1 ∙ message_stays g tid t ss m z.tables.objects z.stacks none.0 got.stacks
 
 -- no message, or one
 pub same_first : (m k : Message) (ms : List Message) → m ∷ ms ≡ k ∷ [] → (m ≡ k) × (ms ≡ [])

@@ -22,7 +22,7 @@ use Rattle.bridge_model.specs.Objects.{lowest}
 use Rattle.bridge_model.specs.References.{each_home, home_answer}
 use Rattle.bridge_model.specs.Roots.{root_calls, root_queries, root_asks}
 use Rattle.bridge_model.specs.Settings.{Setting, root_tid}
-use Rattle.bridge_model.specs.Sides.{Side, Tables, stands}
+use Rattle.bridge_model.specs.Sides.{Object, Side, Tables, stands}
 use Rattle.bridge_model.specs.Stacks.{puts_frames}
 use Rattle.bridge_model.specs.Steps.{Picked, picked, picked_in, has_entries, applies_effect, applies_picked, Turn, step, does, may}
 use Rattle.bridge_laws.proofs.Replays.{of_step}
@@ -117,28 +117,28 @@ begun_goes fs l (there k) is = begun_there fs k is
 
 -- ---- a message
 
-fate_shrinks : (g : Setting) (tid : List ℕ) (a : Answer) (fs gs : List Frame) → (handed_down g.registry tid a fs ≡ nothing → ⊥) → FramesBy g (handed_down g.registry tid a fs) gs
+fate_shrinks : (g : Setting) (os : List Object) (tid : List ℕ) (a : Answer) (fs gs : List Frame) → (handed_down g.registry tid a fs ≡ nothing → ⊥) → FramesBy g os (handed_down g.registry tid a fs) gs
     → Shrinks (calls_in fs) (served_in fs) gs
 unfolding handed_down calls_in served_in goes_on
-fate_shrinks g tid a [] gs some left = absurd (some refl)
-fate_shrinks g tid a (base n ∷ fs) gs some left =
+fate_shrinks g os tid a [] gs some left = absurd (some refl)
+fate_shrinks g os tid a (base n ∷ fs) gs some left =
     subst (Shrinks (calls_in fs) (served_in fs)) (sym left) (record { answered = calls_in fs; ended = served_in fs; calls = sym (append-nil (calls_in fs)); served = sym (append-nil (served_in fs)) })
-fate_shrinks g tid a (outgoing o ∷ fs) gs some left = absurd (some refl)
-fate_shrinks g tid (returned x outs) (body b ∷ fs) gs some (os, is) = subst (Shrinks (calls_in (body b ∷ fs)) (served_in (body b ∷ fs))) (sym is) (stays _ _ _ refl refl)
-fate_shrinks g tid (raised k x) (body b ∷ fs) gs some left =
+fate_shrinks g os tid a (outgoing o ∷ fs) gs some left = absurd (some refl)
+fate_shrinks g os tid (returned x outs) (body b ∷ fs) gs some is = subst (Shrinks (calls_in (body b ∷ fs)) (served_in (body b ∷ fs))) (sym is) (stays _ _ _ refl refl)
+fate_shrinks g os tid (raised k x) (body b ∷ fs) gs some left =
     by_peer b.from_peer (leaving_frame g.registry tid b (raised k x)) (handed_down g.registry tid (leaving_frame g.registry tid b (raised k x)) fs) some left
-    (λ some left. fate_shrinks g tid (leaving_frame g.registry tid b (raised k x)) fs gs some left)
+    (λ some left. fate_shrinks g os tid (leaving_frame g.registry tid b (raised k x)) fs gs some left)
   where
-    by_peer : (p : Bool) (c : Answer) (h : Fate) → ((if p then for_peer b fs c else h) ≡ nothing → ⊥) → FramesBy g (if p then for_peer b fs c else h) gs
-        → ((h ≡ nothing → ⊥) → FramesBy g h gs → Shrinks (calls_in fs) (served_in fs) gs) → Shrinks (calls_in fs) (served_if p (begun_at b fs) (served_in fs)) gs
+    by_peer : (p : Bool) (c : Answer) (h : Fate) → ((if p then for_peer b fs c else h) ≡ nothing → ⊥) → FramesBy g os (if p then for_peer b fs c else h) gs
+        → ((h ≡ nothing → ⊥) → FramesBy g os h gs → Shrinks (calls_in fs) (served_in fs) gs) → Shrinks (calls_in fs) (served_if p (begun_at b fs) (served_in fs)) gs
     by_peer true c h some left later =
         record { answered = []; ended = begun_at b fs ∷ []; calls = ap calls_in (sym left); served = ap (λ zs. begun_at b fs ∷ served_in zs) (sym left) }
     by_peer false c h some left later = later some left
 
-answered_goes : (g : Setting) (tid : List ℕ) (a : Answer) (o : Outgoing) (below gs : List Frame) → has_somebody (shapes below) ≡ true → FramesBy g (handed_down g.registry tid a below) gs → Goes (outgoing o ∷ below) gs
+answered_goes : (g : Setting) (os : List Object) (tid : List ℕ) (a : Answer) (o : Outgoing) (below gs : List Frame) → has_somebody (shapes below) ≡ true → FramesBy g os (handed_down g.registry tid a below) gs → Goes (outgoing o ∷ below) gs
 unfolding calls_in served_in
-answered_goes g tid a o below gs has left =
-    let s = fate_shrinks g tid a below gs (is_handed g.registry tid below has a) left in
+answered_goes g os tid a o below gs has left =
+    let s = fate_shrinks g os tid a below gs (is_handed g.registry tid below has a) left in
     shrinks (record { answered = (outgoing o ∷ below) ∷ s.answered; ended = s.ended; calls = ap (λ zs. (outgoing o ∷ below) ∷ zs) s.calls; served = s.served })
 
 -- what one message does to the frames of a thread
@@ -160,23 +160,24 @@ request_begins g tid k oid face function args t ss zs apart is true same =
 request_begins g tid k oid face function args t ss zs apart is false same =
     moves (same_frames _ _ (ap (frames_of tid) is ∙ frames_stay k tid _ ss (λ one. true≢false (sym ((bytes_eq-Decides tid k).1 one) ∙ same))))
 
-message_comes : (g : Setting) (tid : List ℕ) (t : Tables) (ss : List Stack) (m : Message) (zs : List Stack) → AreApart ss → IsForSomebody tid ss m → Leaves g t ss m zs → Comes g tid t ss zs m
-message_comes g tid t ss (release k oid face) zs apart some is = moves (same_frames _ _ (ap (frames_of tid) is))
-message_comes g tid t ss (request k oid face function args) zs apart some (inl (at_once, is)) = moves (same_frames _ _ (ap (frames_of tid) is))
-message_comes g tid t ss (request k oid face function args) zs apart some (inr (later, is)) = request_begins g tid k oid face function args t ss zs apart is (bytes_eq tid k) refl
-message_comes g tid t ss (reply k face function a) zs apart some (on, fs, left, is) =
+message_comes : (g : Setting) (tid : List ℕ) (t : Tables) (ss : List Stack) (m : Message) (os : List Object) (zs : List Stack) → AreApart ss → IsForSomebody tid ss m → Leaves g t ss m os zs → Comes g tid t ss zs m
+message_comes g tid t ss (release k oid face) os zs apart some is = moves (same_frames _ _ (ap (frames_of tid) is))
+message_comes g tid t ss (request k oid face function args) os zs apart some (inl (at_once, is)) = moves (same_frames _ _ (ap (frames_of tid) is))
+message_comes g tid t ss (request k oid face function args) os zs apart some (inr (later, is)) = request_begins g tid k oid face function args t ss zs apart is (bytes_eq tid k) refl
+message_comes g tid t ss (reply k face function a) os zs apart some (on, fs, left, is) =
     moves (put_on tid k fs ss zs apart is
     (λ one. let top : frames_of tid ss ≡ outgoing on.call ∷ on.below = ap (λ z. frames_of z ss) one ∙ on.top in
     subst (λ gs. Goes gs fs) (sym top)
-    (answered_goes g k (home_answer g a) on.call on.below fs (some face function a on.call on.below (ap (λ z. reply z face function a) (sym one)) top) left)))
+    (answered_goes g os k (home_answer g a) on.call on.below fs (some face function a on.call on.below (ap (λ z. reply z face function a) (sym one)) top) left)))
 
-chain_leaves : (g : Setting) (t : Tables) (ss : List Stack) (ms rs : List Message) (z : Side) (m : Message) → Hears g t ss ms rs z → ms ≡ m ∷ [] → stands z ≡ true → Leaves g t ss m z.stacks
+chain_leaves : (g : Setting) (t : Tables) (ss : List Stack) (ms rs : List Message) (z : Side) (m : Message) → Hears g t ss ms rs z → ms ≡ m ∷ [] → stands z ≡ true → Leaves g t ss m z.tables.objects z.stacks
 chain_leaves g t' ss' ms' rs' z' m (rests z) one up = absurd (cc)
 chain_leaves g t' ss' ms' rs' z' m (breaks s why place) one up = absurd (cc)
 chain_leaves g t' ss' ms' rs' end' m (hears t ss k z ms rs end got later) one up =
     let both = same_first k m ms one in
     let rest = chain_rests g z.tables z.stacks ms rs end later both.1 up in
-    subst (λ n. Leaves g t ss n end.stacks) both.0 (subst (Leaves g t ss k) (sym rest.1) got.stacks)
+    let there = subst (λ (x : Tables). Leaves g t ss k x.objects z.stacks) (sym rest.0) got.stacks in
+    subst (λ n. Leaves g t ss n end.tables.objects end.stacks) both.0 (subst (Leaves g t ss k end.tables.objects) (sym rest.1) there)
 
 -- ---- a piece
 
@@ -208,7 +209,7 @@ piece_passes g ours es x y tid b u leads apart locks is up (inl none) =
     goes (fed b) (same_frames _ _ (ap (frames_of tid) (chain_rests g x.side.tables x.side.stacks u.got _ u.side (piece_heard g es x b u leads is) none up).1))
 piece_passes g ours es x y tid b u leads apart locks is up (inr (m, ms, flies, one)) =
     came_passes g tid x.side u b (arrived g.registry m) one
-    (message_comes g tid x.side.tables x.side.stacks (arrived g.registry m) u.side.stacks apart (for_somebody g.registry ours x y tid locks m ms flies)
+    (message_comes g tid x.side.tables x.side.stacks (arrived g.registry m) u.side.tables.objects u.side.stacks apart (for_somebody g.registry ours x y tid locks m ms flies)
     (chain_leaves g x.side.tables x.side.stacks u.got _ u.side (arrived g.registry m) (piece_heard g es x b u leads is) one up))
 
 -- ---- other entries

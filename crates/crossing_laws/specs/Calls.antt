@@ -61,5 +61,5 @@ pub record IsHanded (g : Settings) (which : Side) (es : List Event) (w : World) 
   pub roots : u.side.tables.roots ≡ roots_by (near_of which g) fate (near which w).now.side.tables.roots
   pub said : replies u.said ≡ replies_by tid fate
   pub frames : List Frame
-  pub left : FramesBy (near_of which g) fate frames
+  pub left : FramesBy (near_of which g) u.side.tables.objects fate frames
   pub stacks : u.side.stacks ≡ puts_frames tid frames (near which w).now.side.stacks

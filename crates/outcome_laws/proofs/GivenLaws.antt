@@ -1,5 +1,5 @@
 -- Each answer that a root has was given by one entry.
-use Rattle.std.proofs.Common.{◌≡◌, refl, sym, ap, subst, ◌∙◌, ℕ, zero, suc, ◌≤◌, ◌⊎◌, inl, inr, Bool, true, false, not, nat_lt, ◌==◌, eqb-true, List, [], ◌∷◌, ◌++◌, length, slice_set, Option, None, Some, unwrap_or, arith, if◌then◌else◌}
+use Rattle.std.proofs.Common.{◌≡◌, refl, sym, ap, subst, ◌∙◌, ℕ, zero, suc, ◌≤◌, ◌⊎◌, inl, inr, Bool, true, false, not, ◌&&◌, nat_lt, ◌==◌, eqb-true, List, [], ◌∷◌, ◌++◌, length, slice_set, Option, None, Some, unwrap_or, arith, if◌then◌else◌}
 use Rattle.std.proofs.lemmas.Bool.{true≢false, and_parts, and_from, ltb-true, ltb-false}
 use Rattle.std.proofs.lemmas.List.{append_assoc, length-set}
 use Rattle.std.proofs.lemmas.Option.{slice_get_past}
@@ -22,10 +22,10 @@ use Rattle.bridge_model.specs.Going.{drains}
 use Rattle.bridge_model.specs.Histories.{Told, nothing_told, told_more, Leads}
 use Rattle.bridge_model.specs.Objects.{object_answer, lowest, defaults_of}
 use Rattle.bridge_model.specs.References.{gains_all}
-use Rattle.bridge_model.specs.Roots.{answered_before, bottom, begins_call, calls_unless, begins_query, queries_unless, asks_unless, root_calls, root_queries, root_asks, root_makes, root_drops, root_takes}
+use Rattle.bridge_model.specs.Roots.{answered_before, is_idle, bottom, begins_call, calls_unless, begins_query, queries_unless, asks_unless, root_calls, root_queries, root_asks, root_makes, root_drops, root_takes}
 use Rattle.bridge_model.specs.Settings.{Setting, ref_of, root_tid, is_own}
 use Rattle.bridge_model.specs.Sides.{answer, RootState, idle, waits_call, waits_query, answered, Tables, nothing_came, nothing_goes, Side, stands, state_of, states_with, with_root}
-use Rattle.bridge_model.specs.Steps.{Picked, picked, applies_effect, applies_picked, Turn, step, does}
+use Rattle.bridge_model.specs.Steps.{Picked, picked, applies_effect, applies_picked, Turn, may, may_begin, is_root, has_entries, step, does}
 use Rattle.bridge_model.specs.declared.cause.Cause.{Cause}
 use Rattle.bridge_model.specs.declared.cause.Cause.TheVariants as cause
 use Rattle.bridge_laws.proofs.Replays.{of_step}
@@ -297,16 +297,34 @@ took_none : (root n : ℕ) (states : List RootState) (a : Answer) (b : Bool) →
 took_none root n states a true is at = no_state a (sym (subst (λ k. state_of k (states_with root idle states) ≡ idle) (eqb-true root n is) (took_idle root states)) ∙ at)
 took_none root n states a false is at = ap not is
 
-does_untaken : (g : Setting) (e : Entry) (s : Side) (n : ℕ) (a : Answer) → Has n a (does g e s).side.tables.roots → leaves_outcome n e ≡ true
-unfolding does root_takes
-does_untaken g (took root) s n a at = took_none root n s.tables.roots a (root == n) refl at
-does_untaken g e s n a at = refl
+-- one that has an outcome begins no call
+begins_none : (root n : ℕ) (s : Side) (a : Answer) (b : Bool) → (root == n) ≡ b → is_idle (state_of root s.tables.roots) ≡ true → Has n a s.tables.roots → not (root == n) ≡ true
+begins_none root n s a true is free was =
+    absurd (true≢false (sym free ∙ (ap (λ k. is_idle (state_of k s.tables.roots)) (eqb-true root n is) ∙ ap is_idle was)))
+begins_none root n s a false is free was = ap not is
 
-turn_untaken : (g : Setting) (s : Side) (e : Entry) (u : Turn) → step g s e ≡ Some u → (n : ℕ) (a : Answer) → Has n a u.side.tables.roots → leaves_outcome n e ≡ true
-turn_untaken g s e u is n a =
-    of_step g s e u (λ v. Has n a v.side.tables.roots → leaves_outcome n e ≡ true) (λ can now. does_untaken g e s n a (ap (state_of n) (sym (turn_roots g e s)) ∙ now)) is
+idle_first : (g : Setting) (root : ℕ) (s : Side) (a b c : Bool) → a && (b && (may_begin g root s && c)) ≡ true → is_idle (state_of root s.tables.roots) ≡ true
+idle_first g root s a b c can =
+    let inner = and_parts b (may_begin g root s && c) (and_parts a (b && (may_begin g root s && c)) can).1 in
+    (and_parts (is_root g root) (is_idle (state_of root s.tables.roots)) (and_parts (may_begin g root s) c inner.1).0).1
 
-all_push : (test : Entry → Bool) (es : List Entry) (e : Entry) → list_all test es ≡ true → test e ≡ true → list_all test (es ++ e ∷ []) ≡ true
+idle_last : (g : Setting) (root : ℕ) (s : Side) (a b : Bool) → a && (b && may_begin g root s) ≡ true → is_idle (state_of root s.tables.roots) ≡ true
+idle_last g root s a b can =
+    (and_parts (is_root g root) (is_idle (state_of root s.tables.roots)) (and_parts b (may_begin g root s) (and_parts a (b && may_begin g root s) can).1).1).1
+
+does_rest : (g : Setting) (e : Entry) (s : Side) (n : ℕ) (a : Answer) → may g s e ≡ true → Has n a s.tables.roots → Has n a (does g e s).side.tables.roots → leaves_outcome n e ≡ true
+unfolding may does root_takes
+does_rest g (asked root name wanted) s n a can was at = begins_none root n s a (root == n) refl (idle_last g root s (stands s) (not (has_entries s)) can) was
+does_rest g (called root oid face function args) s n a can was at = begins_none root n s a (root == n) refl (idle_first g root s (stands s) (not (has_entries s)) _ can) was
+does_rest g (queried root oid face wanted) s n a can was at = begins_none root n s a (root == n) refl (idle_first g root s (stands s) (not (has_entries s)) _ can) was
+does_rest g (took root) s n a can was at = took_none root n s.tables.roots a (root == n) refl at
+does_rest g e s n a can was at = refl
+
+turn_rests : (g : Setting) (s : Side) (e : Entry) (u : Turn) → step g s e ≡ Some u → (n : ℕ) (a : Answer) → Has n a s.tables.roots → Has n a u.side.tables.roots → leaves_outcome n e ≡ true
+turn_rests g s e u is n a was =
+    of_step g s e u (λ v. Has n a v.side.tables.roots → leaves_outcome n e ≡ true) (λ can now. does_rest g e s n a can was (ap (state_of n) (sym (turn_roots g e s)) ∙ now)) is
+
+pub all_push : (test : Entry → Bool) (es : List Entry) (e : Entry) → list_all test es ≡ true → test e ≡ true → list_all test (es ++ e ∷ []) ≡ true
 all_push test [] e all is = and_from (test e) true is refl
 all_push test (f ∷ es) e all is =
     let parts = and_parts (test f) (list_all test es) all in and_from (test f) (list_all test (es ++ e ∷ [])) parts.0 (all_push test es e parts.1 is)
@@ -319,8 +337,8 @@ AreGiven g es x = (n : ℕ) (a : Answer) → Has n a x.side.tables.roots → IsG
 given_kept : (g : Setting) (es : List Entry) (x : Told) (e : Entry) (u : Turn) → Leads g es x → AreGiven g es x → step g x.side e ≡ Some u → AreGiven g (es ++ e ∷ []) (told_more x e u)
 given_kept g es x e u leads has is n a at = by_turn (turn_given g x.side e u is (always_apart g es x leads) n a at)
   where
-    later : IsGiven g es n a → IsGiven g (es ++ e ∷ []) n a
-    later k =
+    later : Has n a x.side.tables.roots → IsGiven g es n a → IsGiven g (es ++ e ∷ []) n a
+    later was k =
         record {
           before = k.before;
           entry = k.entry;
@@ -331,12 +349,12 @@ given_kept g es x e u leads has is n a at = by_turn (turn_given g x.side e u is 
           turn = k.turn;
           does = k.does;
           gives = k.gives;
-          untaken = all_push (leaves_outcome n) k.later e k.untaken (turn_untaken g x.side e u is n a at);
+          kept = all_push (leaves_outcome n) k.later e k.kept (turn_rests g x.side e u is n a was at);
         }
 
     by_turn : Or g x.side n a e u.got → IsGiven g (es ++ e ∷ []) n a
-    by_turn (inl was) = later (has n a was)
-    by_turn (inr now) = record { before = es; entry = e; later = []; journal = refl; told = x; leads = leads; turn = u; does = is; gives = now; untaken = refl }
+    by_turn (inl was) = later was (has n a was)
+    by_turn (inr now) = record { before = es; entry = e; later = []; journal = refl; told = x; leads = leads; turn = u; does = is; gives = now; kept = refl }
 
 none_given : (g : Setting) → AreGiven g [] (nothing_told g)
 none_given g n a at = no_state a (sym (first_idle g n) ∙ at)

@@ -1,17 +1,18 @@
 -- What handing an answer says, keeps of the roots and leaves of the frames is what its fate says.
-use Rattle.std.proofs.Common.{◌≡◌, refl, sym, ap, ◌∙◌, ℕ, Bool, true, false, List, [], ◌∷◌, ◌++◌, if◌then◌else◌}
+use Rattle.std.proofs.Common.{◌≡◌, refl, sym, ap, subst, ◌∙◌, ℕ, Bool, true, false, List, [], ◌∷◌, ◌++◌, if◌then◌else◌}
 use Rattle.std.proofs.lemmas.List.{append-nil}
 use Rattle.message_model.specs.Messages.{Message, Answer, returned, raised, reply}
 use Rattle.uno_model.specs.Values.{Ref, Plain, refs}
 use Rattle.plan_model.specs.Frames.{Body, Frame, base, body, outgoing}
 use Rattle.table_model.specs.declared.holder.Holder.TheVariants as holder
-use Rattle.plan_model.specs.Holdings.{is_taken}
+use Rattle.plan_model.specs.Holdings.{is_taken, goes_on}
 use Rattle.plan_model.specs.Leaving.{leaving_frame}
 use Rattle.bridge_model.specs.Calls.{Unwound, unwound}
 use Rattle.bridge_model.specs.Handing.{statement_at, taken_by, goes_on_with, root_gets, lets_go_frame, answers_peer, gains_below, hands_over, hands, hands_down, ends_frame, hands_from_peer, takes_below}
 use Rattle.bridge_model.specs.References.{says}
 use Rattle.bridge_model.specs.Settings.{Setting}
-use Rattle.bridge_model.specs.Sides.{answer, RootState, idle, waits_call, waits_query, answered, Tables, state_of, with_root}
+use Rattle.bridge_model.specs.Sides.{Object, answer, RootState, idle, waits_call, waits_query, answered, Tables, state_of, with_root}
+use Rattle.bridge_laws.proofs.FrameCountLaws.{lets_go_all_objects}
 use Rattle.outcome_laws.specs.Outcomes.{Fate, nothing, for_root, for_method, for_peer, handed_down, frame_ended, replies, replies_by, root_outcome, roots_by, FramesBy}
 use Rattle.outcome_laws.proofs.StillLaws.{says_replies, IsStill, still, then_still, still_lets_go_all, still_gains_below, still_takes_below}
 
@@ -19,14 +20,15 @@ use Rattle.outcome_laws.proofs.StillLaws.{says_replies, IsStill, still, then_sti
 pub record Given (g : Setting) (tid : List ℕ) (t : Tables) (h : Fate) (u : Unwound) : Type 0 where
   pub said : replies u.tables.unsaid ≡ replies t.unsaid ++ replies_by tid h
   pub roots : u.tables.roots ≡ roots_by g h t.roots
-  pub left : FramesBy g h u.frames
+  pub left : FramesBy g u.tables.objects h u.frames
 
 pub after_still : (g : Setting) (tid : List ℕ) (t u : Tables) (h : Fate) (x : Unwound) → IsStill t u → Given g tid u h x → Given g tid t h x
 after_still g tid t u h x s is =
     record { said = is.said ∙ ap (λ ms. ms ++ replies_by tid h) s.mute; roots = is.roots ∙ ap (roots_by g h) s.stay; left = is.left }
 
-pub before_still : (g : Setting) (tid : List ℕ) (t : Tables) (h : Fate) (fs : List Frame) (u x : Tables) → Given g tid t h (unwound fs u) → IsStill u x → Given g tid t h (unwound fs x)
-before_still g tid t h fs u x is s = record { said = s.mute ∙ is.said; roots = s.stay ∙ is.roots; left = is.left }
+pub before_still : (g : Setting) (tid : List ℕ) (t : Tables) (h : Fate) (fs : List Frame) (u x : Tables) → Given g tid t h (unwound fs u) → IsStill u x → x.objects ≡ u.objects → Given g tid t h (unwound fs x)
+before_still g tid t h fs u x is s same =
+    record { said = s.mute ∙ is.said; roots = s.stay ∙ is.roots; left = subst (λ os. FramesBy g os h fs) (sym same) is.left }
 
 -- where nobody is answered
 pub nothing_given : (g : Setting) (tid : List ℕ) (t : Tables) (u : Unwound) → IsStill t u.tables → Given g tid t nothing u
@@ -54,7 +56,10 @@ unfolding goes_on_with
 method_given g tid b x outs fs t =
     let taken = taken_by g (statement_at g t.objects b) x outs b.variables in
     let s = still_lets_go_all g (holder.Frame b.number) taken.let_go t in
-    record { said = s.mute ∙ sym (append-nil (replies t.unsaid)); roots = s.stay; left = (t.objects, refl) }
+    record { said = s.mute ∙ sym (append-nil (replies t.unsaid)); roots = s.stay; left = ap goes_on_by (sym (lets_go_all_objects g (holder.Frame b.number) taken.let_go t)) }
+  where
+    goes_on_by : List Object → List Frame
+    goes_on_by os = body (goes_on (taken_by g (statement_at g os b) x outs b.variables).variables b) ∷ fs
 
 -- ---- the peer
 
@@ -99,6 +104,7 @@ down_given g tid b (returned x outs) fs t =
     before_still g tid t _ u.frames u.tables (lets_go_frame g b [] u.tables)
     (after_still g tid t below _ u (still_gains_below fs (returned x outs) t) (hands_given g tid (returned x outs) fs below))
     (still_lets_go_all g (holder.Frame b.number) _ u.tables)
+    (lets_go_all_objects g (holder.Frame b.number) _ u.tables)
 down_given g tid b (raised k x) fs t =
     let over = hands_over g b [] (raised k x) fs t in
     after_still g tid t over _ _ (still_over g b [] (raised k x) fs t) (hands_given g tid (raised k x) fs over)

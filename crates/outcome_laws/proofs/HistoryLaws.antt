@@ -25,7 +25,7 @@ use Rattle.outcome_laws.proofs.MessageFates.{nothing_apart, feeds_on}
 
 -- ---- along a history
 
-nowhere : (g : Setting) (es : List Entry) (x : Told) → tells_all g None es ≡ Some x → ⊥
+pub nowhere : (g : Setting) (es : List Entry) (x : Told) → tells_all g None es ≡ Some x → ⊥
 unfolding tells_all
 nowhere g [] x is = absurd (cc)
 nowhere g (e ∷ es) x is = absurd (cc)
@@ -60,10 +60,11 @@ on_step g P keeps es more front x leads holds e y (Some u) is to =
     subst (λ zs. P zs y) (append_assoc front (e ∷ []) es)
     (more (front ++ e ∷ []) (told_more x e u) y (leads_push g front e x u leads is) (keeps front x e u leads holds is) to)
 
-on : (g : Setting) (P : List Entry → Told → Type 0) → IsKeptOn g P → (es front : List Entry) (x y : Told) → Leads g front x → P front x → tells_all g (Some x) es ≡ Some y → P (front ++ es) y
+-- and along later entries
+pub along_later : (g : Setting) (P : List Entry → Told → Type 0) → IsKeptOn g P → (es front : List Entry) (x y : Told) → Leads g front x → P front x → tells_all g (Some x) es ≡ Some y → P (front ++ es) y
 unfolding tells_all
-on g P keeps [] front x y leads holds to = subst (P (front ++ [])) (same_told x y to) (subst (λ zs. P zs x) (sym (append-nil front)) holds)
-on g P keeps (e ∷ es) front x y leads holds to = on_step g P keeps es (λ front x y leads holds to. on g P keeps es front x y leads holds to) front x leads holds e y (step g x.side e) refl to
+along_later g P keeps [] front x y leads holds to = subst (P (front ++ [])) (same_told x y to) (subst (λ zs. P zs x) (sym (append-nil front)) holds)
+along_later g P keeps (e ∷ es) front x y leads holds to = on_step g P keeps es (λ front x y leads holds to. along_later g P keeps es front x y leads holds to) front x leads holds e y (step g x.side e) refl to
 
 first_leads : (g : Setting) → Leads g [] (nothing_told g)
 unfolding replay tells_all
@@ -71,7 +72,7 @@ first_leads g = refl
 
 pub along_history : (g : Setting) (P : List Entry → Told → Type 0) → P [] (nothing_told g) → IsKeptOn g P → (es : List Entry) (y : Told) → Leads g es y → P es y
 unfolding replay
-along_history g P first keeps es y leads = on g P keeps es [] (nothing_told g) y (first_leads g) first leads
+along_history g P first keeps es y leads = along_later g P keeps es [] (nothing_told g) y (first_leads g) first leads
 
 -- ---- no thread has two stacks
 

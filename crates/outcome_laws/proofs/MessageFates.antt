@@ -82,7 +82,7 @@ reply_received g tid face function a s on =
       stacks = (
         on,
         (hands_from_peer g tid (home_answer g a) fs s.tables).frames,
-        subst (λ gs. FramesBy g (handed_down g.registry tid (home_answer g a) gs) (hands_from_peer g tid (home_answer g a) fs s.tables).frames) below given.left,
+        subst (λ gs. FramesBy g (hands_from_peer g tid (home_answer g a) fs s.tables).tables.objects (handed_down g.registry tid (home_answer g a) gs) (hands_from_peer g tid (home_answer g a) fs s.tables).frames) below given.left,
         refl,
       );
     }

@@ -35,12 +35,15 @@ pub data Gives (g : Setting) (s : Side) (root : ℕ) (a : Answer) : Entry → Li
   at_once : (got : List Message) → (oid face wanted : List ℕ) → is_own g oid ≡ true
       → a ≡ root_outcome g (waits_query wanted) (returned (object_answer g oid (kd.interface wanted) s.tables.objects) []) → Gives g s root a (queried root oid face wanted) got
 
--- an entry leaves a root the outcome that it has
+-- an entry leaves a root the outcome that it has: the root does not take it there, nor ask, call or query
 abbrev pub leaves_outcome : ℕ → Entry → Bool
+leaves_outcome n (asked root name wanted) = not (root == n)
+leaves_outcome n (called root oid face function args) = not (root == n)
+leaves_outcome n (queried root oid face wanted) = not (root == n)
 leaves_outcome n (took root) = not (root == n)
 leaves_outcome n e = true
 
--- a journal gave a root its answer at one entry, and the root took none since; so it began nothing since, for a root that has an outcome is not idle
+-- a journal gave a root its answer at one entry, behind which the root took none and began no call
 pub record IsGiven (g : Setting) (es : List Entry) (root : ℕ) (a : Answer) : Type 0 where
   pub before : List Entry
   pub entry : Entry
@@ -51,4 +54,4 @@ pub record IsGiven (g : Setting) (es : List Entry) (root : ℕ) (a : Answer) : T
   pub turn : Turn
   pub does : step g told.side entry ≡ Some turn
   pub gives : Gives g told.side root a entry turn.got
-  pub untaken : list_all (leaves_outcome root) later ≡ true
+  pub kept : list_all (leaves_outcome root) later ≡ true

@@ -7,7 +7,7 @@ use Rattle.bridge_model.specs.Calls.{first_body}
 use Rattle.bridge_model.specs.Ends.{ends_by}
 use Rattle.bridge_model.specs.References.{each_home, home_answer}
 use Rattle.bridge_model.specs.Settings.{Setting}
-use Rattle.bridge_model.specs.Sides.{Tables, Side}
+use Rattle.bridge_model.specs.Sides.{Object, Tables, Side}
 use Rattle.bridge_model.specs.Stacks.{puts_frames}
 use Rattle.bridge_model.specs.declared.cause.Cause.TheVariants as cause
 use Rattle.outcome_laws.specs.Outcomes.{handed_down, fate_of_message, replies, replies_of_message, roots_by, FramesBy}
@@ -21,20 +21,20 @@ pub record IsOnTop (tid face : List ℕ) (function : ℕ) (stacks : List Stack) 
   pub same_function : call.function ≡ function
 
 -- a request of function 0 leaves the stacks; another one begins the method of its target that serves it, with its arguments, on top of its thread; a reply is handed to the
--- frame under the call on top of its thread, which it answers
-abbrev pub Leaves : Setting → Tables → List Stack → Message → List Stack → Type 0
-Leaves g t ss (release tid oid face) after = after ≡ ss
-Leaves g t ss (request tid oid face function args) after =
+-- frame under the call on top of its thread, which it answers, with these objects there
+abbrev pub Leaves : Setting → Tables → List Stack → Message → List Object → (after : List Stack) → Type 0
+Leaves g t ss (release tid oid face) os after = after ≡ ss
+Leaves g t ss (request tid oid face function args) os after =
     ((function ≡ 0) × (after ≡ ss))
     ⊎ ((function ≡ 0 → ⊥) × (after ≡ puts_frames tid (body (first_body g true oid face function (each_home g args) t) ∷ frames_of tid ss) ss))
-Leaves g t ss (reply tid face function a) after =
-    (on : IsOnTop tid face function ss) × (fs : List Frame) × FramesBy g (handed_down g.registry tid (home_answer g a) on.below) fs × (after ≡ puts_frames tid fs ss)
+Leaves g t ss (reply tid face function a) os after =
+    (on : IsOnTop tid face function ss) × (fs : List Frame) × FramesBy g os (handed_down g.registry tid (home_answer g a) on.below) fs × (after ≡ puts_frames tid fs ss)
 
 -- a message is received, on these tables and stacks
 pub record IsReceived (g : Setting) (t : Tables) (ss : List Stack) (m : Message) (z : Side) : Type 0 where
   pub said : replies z.tables.unsaid ≡ replies t.unsaid ++ replies_of_message g t ss m
   pub roots : z.tables.roots ≡ roots_by g (fate_of_message g ss m) t.roots
-  pub stacks : Leaves g t ss m z.stacks
+  pub stacks : Leaves g t ss m z.tables.objects z.stacks
 
 -- these messages one after the other, with the replies that they say: behind them the side is as it is, or ends since the protocol is broken
 pub data Hears (g : Setting) : Tables → List Stack → List Message → List Message → Side → Type 0 where

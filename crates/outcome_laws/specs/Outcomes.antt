@@ -122,12 +122,13 @@ roots_by g (for_root root a) states = states_with root (answered (answer (root_o
 roots_by g (for_method b below x outs) states = states
 roots_by g (for_peer b below a) states = states
 
--- the frames that are left: none under a root; a method that goes on has taken the result; under one that the peer called those below it
-abbrev pub FramesBy : Setting → Fate → List Frame → Type 0
-FramesBy g nothing fs = Unit
-FramesBy g (for_root root a) fs = fs ≡ []
-FramesBy g (for_method b below x outs) fs = (os : List Object) × (fs ≡ body (goes_on (taken_by g (statement_at g os b) x outs b.variables).variables b) ∷ below)
-FramesBy g (for_peer b below a) fs = fs ≡ below
+-- the frames that are left, with these objects there: none under a root; a method that goes on has taken the result, as the statement at which it waits says; under one that
+-- the peer called those below it
+abbrev pub FramesBy : Setting → List Object → Fate → List Frame → Type 0
+FramesBy g os nothing fs = Unit
+FramesBy g os (for_root root a) fs = fs ≡ []
+FramesBy g os (for_method b below x outs) fs = fs ≡ body (goes_on (taken_by g (statement_at g os b) x outs b.variables).variables b) ∷ below
+FramesBy g os (for_peer b below a) fs = fs ≡ below
 
 -- the innermost method of a thread that the peer called, and the frames below it
 unfoldable pub serving_in : List Frame → Option Picked
@@ -143,7 +144,7 @@ pub record IsAnswered (g : Setting) (tid : List ℕ) (s : Side) (h : Fate) (u : 
   pub said : replies u.said ≡ replies_by tid h
   pub roots : u.side.tables.roots ≡ roots_by g h s.tables.roots
   pub frames : List Frame
-  pub left : FramesBy g h frames
+  pub left : FramesBy g u.side.tables.objects h frames
   pub stacks : u.side.stacks ≡ puts_frames tid frames s.stacks
 
 -- the root under methods that were called from here

@@ -48,7 +48,7 @@ pub fn a_root_gets_the_answer_under_its_own_methods()
     ensures message { (reg : List Entity) (tid : List ℕ) (a b : Answer) (fs : List Frame) (root : ℕ) → handed_down reg tid a fs ≡ for_root root b → root_under fs ≡ Some root }
 {}
 
-/// Each answer that a root has was given to it by one entry of the journal, behind which it took none: a statement or a message of its thread whose answer reached it, the call
+/// Each answer that a root has was given to it by one entry of the journal, behind which it took none and began no call: a statement or a message of its thread whose answer reached it, the call
 /// that it began where that would weigh too much or is nested too deep, or its query of an own object.
 pub fn each_answer_of_a_root_was_given_by_one_entry()
     ensures { (g : Setting) (es : List Entry) (x : Told) (root : ℕ) (a : Answer) → Leads g es x → state_of root x.side.tables.roots ≡ answered (answer a) → IsGiven g es root a }

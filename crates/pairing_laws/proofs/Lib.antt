@@ -2,10 +2,12 @@ pub mod AllDone
 pub mod DoingLaws
 pub mod Entering
 pub mod GivingLaws
+pub mod OutcomeLaws
 pub mod PairLaws
 pub mod PlayLaws
 pub mod QuietLaws
 pub mod ReachedLaws
 pub mod StandLaws
 pub mod StuckLaws
+pub mod ThreadLaws
 pub mod WaitingLaws

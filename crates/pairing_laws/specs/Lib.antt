@@ -1,1 +1,3 @@
 pub mod Doing
+pub mod Outcomes
+pub mod Runs

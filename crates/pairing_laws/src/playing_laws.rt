@@ -4,6 +4,8 @@ ghost use Rattle.std.specs.List.{AllByRecursion};
 ghost use Rattle.plan_model.specs.Roots.{Run};
 ghost use Rattle.bridge_model.specs.RootRuns.{finished, root_moves, StandsFor};
 ghost use Rattle.line_laws.specs.Lines.{Lines};
+ghost use Rattle.pairing_laws.specs.Doing.{IsReached};
+ghost use Rattle.pairing_laws.specs.Outcomes.{TellsItsOutcomes};
 ghost use Rattle.pairing_model.specs.Pairs.{Pairing, has_full, IsPaired};
 ghost use Rattle.world_histories.specs.Ready.{AreReady};
 ghost use Rattle.world_model.specs.Worlds.{Settings, of_a, of_b, Runs, entries_of};
@@ -31,6 +33,13 @@ pub fn the_runs_of_a_pair_have_the_lines_of_its_history()
         → AllByRecursion (λ (r : Run). Lines (of_a g) (entries_of A last.events) r.root r.place r.lines) last.runs.a }
     ensures b { (g : Settings) (seed : Option ℕ) (cut : ℕ) (last : Pairing) → IsPaired g seed cut last
         → AllByRecursion (λ (r : Run). Lines (of_b g) (entries_of B last.events) r.root r.place r.lines) last.runs.b }
+{}
+
+/// Wherever its moves lead, each outcome that a line of a root tells is that of the very call that its statement made: the call's entry is the last of the root's own before it; the other
+/// end ended that call so, or this end did; or the bridge ended behind it.
+pub fn each_outcome_in_a_pair_is_that_of_the_call_of_its_statement()
+    ensures a { (g : Settings) → AreReady g → (seed : Option ℕ) (cut : ℕ) (p : Pairing) → IsReached g seed cut p → AllByRecursion (TellsItsOutcomes g A p.events) p.runs.a }
+    ensures b { (g : Settings) → AreReady g → (seed : Option ℕ) (cut : ℕ) (p : Pairing) → IsReached g seed cut p → AllByRecursion (TellsItsOutcomes g B p.events) p.runs.b }
 {}
 
 /// Where no end reached its limit, every run is finished at the end: of two ends that are set up.

@@ -1,4 +1,6 @@
 pub mod AnswerLaws
+pub mod CallLaws
+pub mod EndLaws
 pub mod OwedAnswers
 pub mod OwedEntries
 pub mod OwedFrames

@@ -13,6 +13,7 @@ use Rattle.uno_model.specs.Kinds as kd
 use Rattle.uno_model.specs.NamedTypes.{type_of_text}
 use Rattle.uno_model.specs.Sound.{IsSound}
 use Rattle.uno_model.specs.Types.{is_type}
+use Rattle.uno_model.proofs.KindLaws.{interface_is}
 use Rattle.uno_model.proofs.Options.{same_some, none_some}
 use Rattle.plan_model.specs.Building.{behind_root_statement, with_root_statement, with_statement, with_line, with_service, with_singleton, with_export, opens_method, with_field, closes, behind, behind_all}
 use Rattle.plan_model.specs.Building as building
@@ -89,10 +90,6 @@ right_line reg c l is =
     let new = ruled (names_are_new c l) _ _ known.1 in
     let both = and_parts (is_line reg l) (may_stand c.block l) form.0 in
     record { formed = both.0; stands = both.1; new = new.0 }
-
-face_is : (k : Kind) (face : List ℕ) → interface_of k ≡ Some face → k ≡ kd.interface face
-face_is (kd.interface name) face is = ap kd.interface (same_some is)
-face_is _ face is = absurd (none_some is)
 
 abbrev context : Plan → Block → List Scoped → Context
 context q bl vs = record { plan = q; block = bl; variables = vs }
@@ -186,7 +183,7 @@ module _ (reg : List Entity) (sound : IsSound reg) (plan : Plan) where
     face_known : (text face : List ℕ) → face_of_text reg text ≡ Some face → IsInterface reg face
     face_known text face is =
         let known = then_there (type_of_text reg text) interface_of face is in
-        text_type reg sound text (kd.interface face) (known.first_is ∙ ap Some (face_is known.first face known.made))
+        text_type reg sound text (kd.interface face) (known.first_is ∙ ap Some (interface_is known.first face known.made))
 
     -- names of what begins
     result_new : (f : Function) (to : Option Declared) (y : Option Field) → is_result_new here to ≡ true → result_field reg f to ≡ Some y → IsResultNew y (root_types vs)

@@ -104,7 +104,7 @@ module _ (g : Setting) (s : Side) (r : Run) where
 
 -- ---- an entry that is not a root's changes nothing of what it asks for
 
-other_asks : (n : ℕ) (q : Option Asking) (e : Entry) → is_of_root n e ≡ false → asked_by n q e ≡ q
+pub other_asks : (n : ℕ) (q : Option Asking) (e : Entry) → is_of_root n e ≡ false → asked_by n q e ≡ q
 other_asks n q (asked root name wanted) is = rw is refl
 other_asks n q (called root oid face function args) is = rw is refl
 other_asks n q (queried root oid face wanted) is = rw is refl

@@ -1,2 +1,3 @@
 pub mod RootAnswers
+pub mod RootCalls
 pub mod RootStatements

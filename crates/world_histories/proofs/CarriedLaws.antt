@@ -24,7 +24,7 @@ use Rattle.world_model.specs.Flights.{flight, Follows}
 use Rattle.world_model.specs.Meetings.{Meets, begins, a_moves, b_moves}
 use Rattle.world_model.specs.Offers.{BothCarried}
 use Rattle.world_model.specs.Readings.{MayArrive}
-use Rattle.world_model.specs.Setups.{IsTagOf}
+use Rattle.world_model.specs.Setups.{IsTag}
 use Rattle.world_model.specs.Worlds.{Settings, of_a, of_b, World, Event, Runs, entries_of}
 use Rattle.world_model.specs.declared.side.Side.TheVariants.{A, B}
 use Rattle.world_laws.proofs.FlightLaws.{flight_is}
@@ -49,7 +49,7 @@ letters_ascii : (tag : List ℕ) → All (λ c. IsTrue (is_ascii_alphanumeric c)
 letters_ascii [] all = refl
 letters_ascii (c ∷ tag) all = and_from (nat_lt c 128) (are_ascii tag) (letter_ascii c (all 0 c (omega arith))) (letters_ascii tag (λ k d less. all (suc k) d (omega arith)))
 
-tag_utf8 : (tag : List ℕ) → IsTagOf tag → IsUtf8 tag
+tag_utf8 : (tag : List ℕ) → IsTag tag → IsUtf8 tag
 tag_utf8 tag is = utf8_of_ascii tag (letters_ascii tag is.letters)
 
 -- ---- what was said

@@ -79,16 +79,16 @@ module _ (s : Side) (e : Entry) (later : List Entry) where
   split (x ∷ es) before is = split_by x es (is_at s x.side) refl before is (λ fs more. split es fs more)
 
 -- the world behind a front
-record Reached (g : Settings) (o : Option World) (front : List Event) : Type 0 where
-  at : World
-  to : happen_all g o front ≡ Some at
+pub record Reached (g : Settings) (o : Option World) (front : List Event) : Type 0 where
+  pub at : World
+  pub to : happen_all g o front ≡ Some at
 
 nowhere : {X : Type 0} (g : Settings) (es : List Event) (w : World) → happen_all g None es ≡ Some w → X
 unfolding happen_all
 nowhere g [] w is = absurd (cc)
 nowhere g (e ∷ es) w is = absurd (cc)
 
-reached : (g : Settings) (o : Option World) (front rest : List Event) (w : World) → happen_all g o (front ++ rest) ≡ Some w → Reached g o front
+pub reached : (g : Settings) (o : Option World) (front rest : List Event) (w : World) → happen_all g o (front ++ rest) ≡ Some w → Reached g o front
 unfolding happen_all
 reached g None front rest w to = nowhere g (front ++ rest) w to
 reached g (Some v) [] rest w to = record { at = v; to = refl }

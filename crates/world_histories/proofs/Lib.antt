@@ -1,3 +1,4 @@
+pub mod BlockArrivals
 pub mod CarriedLaws
 pub mod HomeLaws
 pub mod KeptLaws

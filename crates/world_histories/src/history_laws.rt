@@ -7,7 +7,7 @@ ghost use Rattle.message_model.specs.Messages.{Message};
 ghost use Rattle.message_model.specs.Sayable.{MessageSpellable};
 ghost use Rattle.world_model.specs.Flights.{flight};
 ghost use Rattle.world_model.specs.Meetings.{Meets};
-ghost use Rattle.world_model.specs.Readings.{MayArrive, IsSynced};
+ghost use Rattle.world_model.specs.Readings.{MayArrive, ArrivesWithItsBlock, IsSynced};
 ghost use Rattle.world_model.specs.Worlds.{Settings, of_a, of_b, World, Event, Runs, entries_of};
 ghost use Rattle.world_model.specs.declared.side.Side.TheVariants.{A, B};
 ghost use Rattle.outcome_laws.specs.Ending.{HasEnd};
@@ -26,6 +26,14 @@ pub fn the_first_message_in_flight_may_arrive()
         → (m : Message) (ms : List Message) → flight w.b.now w.a.now ≡ m ∷ ms → MayArrive (of_a g) w.a.now m }
     ensures b { (g : Settings) → AreReady g → (es : List Event) (w : World) → Meets g es w → BothGiveWell g es → stands w.b.now.side ≡ true
         → (m : Message) (ms : List Message) → flight w.a.now w.b.now ≡ m ∷ ms → MayArrive (of_b g) w.b.now m }
+{}
+
+/// And it comes with the rest of its block, which is the next of what the other end said; an end that has room may be fed it.
+pub fn the_first_message_in_flight_arrives_with_its_block()
+    ensures a { (g : Settings) → AreReady g → (es : List Event) → BothGiveWell g es → (w : World) → Runs g es w → stands w.a.now.side ≡ true
+        → (m : Message) (ms : List Message) → flight w.b.now w.a.now ≡ m ∷ ms → ArrivesWithItsBlock (of_a g) w.b.now w.a.now m }
+    ensures b { (g : Settings) → AreReady g → (es : List Event) → BothGiveWell g es → (w : World) → Runs g es w → stands w.b.now.side ≡ true
+        → (m : Message) (ms : List Message) → flight w.a.now w.b.now ≡ m ∷ ms → ArrivesWithItsBlock (of_b g) w.a.now w.b.now m }
 {}
 
 /// Every history on bytes is a run of messages: what came is a front of what was said, in bytes and as it arrives.

@@ -20,7 +20,7 @@ front_gives_both g front rest es is gives =
     }
 
 -- where the first message in flight can be carried along a history, it may come
-all_arrive : (g : Settings) (up : AreSetUp g) (es : List Event) (w : World) (met : Meets g es w) (gives : BothGive g es) → BothCarried w → MayAllArrive g w
+pub all_arrive : (g : Settings) (up : AreSetUp g) (es : List Event) (w : World) (met : Meets g es w) (gives : BothGive g es) → BothCarried w → MayAllArrive g w
 all_arrive g up es w met gives carried =
     record {
       to_a = λ on m ms flies. arrives_a g up es w met gives on m ms flies (carried.to_a on m ms flies);

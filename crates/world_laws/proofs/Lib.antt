@@ -4,6 +4,7 @@ pub mod BalanceLaws
 pub mod FlightLaws
 pub mod PieceFronts
 pub mod ReadingLaws
+pub mod BlockLaws
 pub mod StepReading
 pub mod BrokenLaws
 pub mod SyncedLaws

@@ -11,7 +11,9 @@ mod world_laws;
 
 pub use balance_laws::{balance_follows_of_two_ends, standing_follows_of_one_end};
 pub use offer_laws::what_is_offered_may_arrive;
-pub use reading_laws::a_piece_is_read_as_it_was_said;
+pub use reading_laws::{
+    a_message_arrives_with_the_rest_of_its_block, a_piece_is_read_as_it_was_said,
+};
 pub use refusal_laws::{
     no_message_is_refused, what_arrives_names_what_was_sent_out, what_can_be_carried_may_arrive,
     what_comes_home_is_itself,

@@ -2,3 +2,4 @@ mod CallbackRows
 mod CrossingRows
 mod OnLiterals
 mod Rows
+mod StandingRows

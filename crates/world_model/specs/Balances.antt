@@ -23,6 +23,10 @@ IsBalanced reg x y p =
 abbrev pub Balance : Setting → (x y : Told) → Type 0
 Balance g x y = (p : Pair) → is_own g p.oid ≡ true → IsBalanced g.registry x y p
 
--- behind each message in flight to the one that uses a pair of it stands a release of the pair, or the other holds it still
+-- behind each message in flight to the one that uses the pair stands a release of it, or the other holds it still
+abbrev pub IsStanding : (x y : Told) → Pair → Type 0
+IsStanding x y p = Stands p (held_by p y) (flight y x)
+
+-- of each pair of the one
 abbrev pub Standing : Setting → (x y : Told) → Type 0
-Standing g x y = (p : Pair) → is_own g p.oid ≡ true → Stands p (held_by p y) (flight y x)
+Standing g x y = (p : Pair) → is_own g p.oid ≡ true → IsStanding x y p
