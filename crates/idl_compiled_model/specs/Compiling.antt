@@ -1,6 +1,6 @@
 -- What comes of files that are compiled together: the registry that they mean, or the one refusal that counts. Files are lexed and parsed one after the other,
 -- then the names of all are resolved, and then the rules are asked.
-use Rattle.std.specs.Prelude.{◌≡◌, ℕ, suc, List, [], ◌∷◌, ◌++◌, length, Result, Ok, Err}
+use Rattle.std.specs.Prelude.{◌≡◌, ℕ, suc, Bool, true, List, [], ◌∷◌, ◌++◌, length, Result, Ok, Err}
 use Rattle.uno_model.specs.Entities.{Entity}
 use Rattle.registry_text_model.specs.Rules.{Rule}
 use Rattle.idl_text_model.specs.LexVerdicts.{LexFault, too_long, bad_utf8, bad_token, open_comment, most_bytes, IsLexed}
@@ -9,6 +9,8 @@ use Rattle.idl_model.specs.ParseVerdicts.{ParseFault, unexpected, nested, IsPars
 use Rattle.idl_model.specs.PlacedTokens.{in_file}
 use Rattle.idl_model.specs.Places.{Place}
 use Rattle.idl_model.specs.Trees.{Tree}
+use Rattle.idl_model.specs.Values.{numbers_fit}
+use Rattle.idl_meaning_model.specs.Declarations.{Origin, expression}
 use Rattle.idl_meaning_model.specs.NameFaults.{NameFault, IsResolved}
 use Rattle.idl_rules_model.specs.CheckVerdicts.{IsChecked}
 
@@ -59,6 +61,11 @@ IsUnread file text (lexed number fault) = (number ≡ file) × IsLexed text (Err
 IsUnread file text (parsed fault) = (tokens : List Token) × IsLexed text (Ok tokens) × IsParsed (in_file file tokens) (Err fault)
 IsUnread file text (named place fault) = ⊥
 IsUnread file text (broken rule place) = ⊥
+
+-- the numbers of what gives a value are below 2^64, as those of tokens are
+abbrev pub origin_fits : Origin → Bool
+origin_fits (expression e) = numbers_fit e
+origin_fits _ = true
 
 -- ---- verdicts
 

@@ -17,12 +17,12 @@ use Rattle.idl_meaning_model.proofs.EachLaws.{AllPairsOf, each_at}
 
 -- ---- places
 
-same_at : (p q : Place) → is_at p q ≡ true → p ≡ q
+pub same_at : (p q : Place) → is_at p q ≡ true → p ≡ q
 same_at p q at =
     let parts = and_parts (p.file == q.file) (p.byte == q.byte) at in
     ap₂ (λ (f b : ℕ). record { file = f; byte = b }) (eqb-true p.file q.file parts.0) (eqb-true p.byte q.byte parts.1)
 
-at_itself : (p : Place) → is_at p p ≡ true
+pub at_itself : (p : Place) → is_at p p ≡ true
 at_itself p = and_from (p.file == p.file) (p.byte == p.byte) (eq-eqb p.file p.file refl) (eq-eqb p.byte p.byte refl)
 
 -- two places of which neither comes before the other are one

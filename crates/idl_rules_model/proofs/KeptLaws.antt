@@ -63,8 +63,11 @@ unfolding past_limits
 whole_kept ds reg d nothing =
     (and_parts (is_whole_within_limits reg (entity_meant ds d)) true (all_pass (λ (e : Declared). is_whole_within_limits reg (entity_meant ds e)) (λ e. e.name.place) (d ∷ []) nothing)).0
 
-module _ (ds : List Declared) (apart : are_apart (leaf_places ds) ≡ true) (once : declared_twice ds ≡ [])
-    (right : (r : Rule) → AllByRecursion (λ d. broken_by r ds (registry_of ds) d ≡ []) (entities_declared ds)) where
+-- no declaration breaks a rule
+abbrev pub NoneBreaks : List Declared → Rule → Type 0
+NoneBreaks ds r = AllByRecursion (λ d. broken_by r ds (registry_of ds) d ≡ []) (entities_declared ds)
+
+module _ (ds : List Declared) (apart : are_apart (leaf_places ds) ≡ true) (once : declared_twice ds ≡ []) where
   abbrev reg : List Entity
   reg = registry_of ds
 
@@ -72,30 +75,30 @@ module _ (ds : List Declared) (apart : are_apart (leaf_places ds) ≡ true) (onc
   has = registry_has_built_in ds apart once
 
   -- no declared name is on a circle
-  no_circle : (name : List ℕ) (d : Declared) → declared_as ds name ≡ Some d → ¬ Leads (leads_on_to reg) name name
-  no_circle name d found =
-      let both = declared_each (λ e. on_circles ds reg e ≡ []) ds name d (right rule.circles) found in
+  no_circle : NoneBreaks ds rule.circles → (name : List ℕ) (d : Declared) → declared_as ds name ≡ Some d → ¬ Leads (leads_on_to reg) name name
+  no_circle round name d found =
+      let both = declared_each (λ e. on_circles ds reg e ≡ []) ds name d round found in
       subst (λ n. ¬ Leads (leads_on_to reg) n n) (sym both.1) (on_no_circle reg (full_name d) (never_brought_back ds reg d both.0))
 
-  keeps : (r : Rule) (d : Declared) → is_forward d.body ≡ false → broken_by r ds reg d ≡ [] → Keeps reg r (entity_meant ds d)
+  keeps : (r : Rule) → (r ≡ rule.types → NoneBreaks ds rule.circles) → NoneBreaks ds r → (d : Declared) → is_forward d.body ≡ false → broken_by r ds reg d ≡ [] → Keeps reg r (entity_meant ds d)
   unfolding wrong_bases wrong_parts wrong_targets bases_are_of_their_kind services_have_parts singletons_have_targets
-  keeps rule.bases d entity nothing = bases_kept ds reg d (root_there reg has) d.body nothing
-  keeps rule.circles d entity nothing = on_no_circle reg (full_name d) (never_brought_back ds reg d nothing)
-  keeps rule.names d entity nothing = names_kept ds apart once d entity nothing
-  keeps rule.one_way d entity nothing = one_way_kept ds reg d nothing
-  keeps rule.raised d entity nothing = raised_kept ds reg d nothing
-  keeps rule.values d entity nothing = items_kept ds reg d nothing
-  keeps rule.constant_values d entity nothing = constants_kept ds reg d nothing
-  keeps rule.services d entity nothing = parts_kept ds reg d d.body nothing
-  keeps rule.singletons d entity nothing = targets_kept ds reg d d.body nothing
-  keeps rule.types d entity nothing = types_kept ds apart once no_circle (right rule.types) d nothing
-  keeps rule.whole d entity nothing = whole_kept ds reg d nothing
+  keeps rule.bases round right d entity nothing = bases_kept ds reg d (root_there reg has) d.body nothing
+  keeps rule.circles round right d entity nothing = on_no_circle reg (full_name d) (never_brought_back ds reg d nothing)
+  keeps rule.names round right d entity nothing = names_kept ds apart once d entity nothing
+  keeps rule.one_way round right d entity nothing = one_way_kept ds reg d nothing
+  keeps rule.raised round right d entity nothing = raised_kept ds reg d nothing
+  keeps rule.values round right d entity nothing = items_kept ds reg d nothing
+  keeps rule.constant_values round right d entity nothing = constants_kept ds reg d nothing
+  keeps rule.services round right d entity nothing = parts_kept ds reg d d.body nothing
+  keeps rule.singletons round right d entity nothing = targets_kept ds reg d d.body nothing
+  keeps rule.types round right d entity nothing = types_kept ds apart once (no_circle (round refl)) right d nothing
+  keeps rule.whole round right d entity nothing = whole_kept ds reg d nothing
 
-  pub all_keep : (r : Rule) → AllKeep reg r
-  all_keep r e in' =
+  pub all_keep : (r : Rule) → (r ≡ rule.types → NoneBreaks ds rule.circles) → NoneBreaks ds r → AllKeep reg r
+  all_keep r round right e in' =
       each_of_registry (Keeps reg r) ds (λ b in''. built_in_keeps reg (registry_rises ds apart once) has b in'' r)
-      (each_weaker (λ d. (is_forward d.body ≡ false) × (broken_by r ds reg d ≡ [])) (λ d. Keeps reg r (entity_meant ds d)) (entities_declared ds) (λ d both. keeps r d both.0 both.1)
-      (each_both (λ d. is_forward d.body ≡ false) (λ d. broken_by r ds reg d ≡ []) (entities_declared ds) (not_forward ds) (right r))) e in'
+      (each_weaker (λ d. (is_forward d.body ≡ false) × (broken_by r ds reg d ≡ [])) (λ d. Keeps reg r (entity_meant ds d)) (entities_declared ds) (λ d both. keeps r round right d both.0 both.1)
+      (each_both (λ d. is_forward d.body ≡ false) (λ d. broken_by r ds reg d ≡ []) (entities_declared ds) (not_forward ds) right)) e in'
 
   -- names are names where those that are declared are identifiers
   built_in_named : list_all is_named built_in ≡ true
@@ -111,7 +114,7 @@ module _ (ds : List Declared) (apart : are_apart (leaf_places ds) ≡ true) (onc
 
 -- ---- of files
 
-once_declared : (trees : List Tree) → faults trees ≡ [] → declared_twice (declarations trees) ≡ []
+pub once_declared : (trees : List Tree) → faults trees ≡ [] → declared_twice (declarations trees) ≡ []
 unfolding faults
 once_declared trees nothing =
     let ds = declarations trees in
@@ -125,6 +128,6 @@ unfolding meant broken
 what_breaks_none_keeps_all trees names registry files resolved checked =
     let ds = declarations trees in
     let once = once_declared trees resolved.0 in
-    let right : (r : Rule) → AllByRecursion (λ d. broken_by r ds (registry_of ds) d ≡ []) (entities_declared ds) = λ r. none_of_each (broken_by r ds (registry_of ds)) (entities_declared ds) (checked.0 r) in
+    let right : (r : Rule) → NoneBreaks ds r = λ r. none_of_each (broken_by r ds (registry_of ds)) (entities_declared ds) (checked.0 r) in
     subst (λ r. KeepsTheRules r × HasBuiltIn r × IsRising r) (sym checked.1)
-    (record { named = all_named ds files.apart once right files.identifiers; each = all_keep ds files.apart once right }, registry_has_built_in ds files.apart once, registry_rises ds files.apart once)
+    (record { named = all_named ds files.apart once files.identifiers; each = λ r. all_keep ds files.apart once r (λ e. right rule.circles) (right r) }, registry_has_built_in ds files.apart once, registry_rises ds files.apart once)

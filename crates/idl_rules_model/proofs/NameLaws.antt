@@ -112,6 +112,18 @@ module _ (ds : List Declared) (modules : List (List ℕ)) where
       ap all_differ (sym (parameters_named m.parameters)) ∙ texts_differ own (map (λ (p : Parameter). written_at p.name) m.parameters) parts.0 in
       and_from (all_differ (map (λ p. p.name) (map (parameter_meant ds modules) m.parameters))) (list_all params_differ (filter_map (member_meant ds modules) ms)) here (methods_differ own ms parts.1)
 
+  abbrev parameters_written : List Parameter → List NameAt
+  parameters_written ps = map (λ (p : Parameter). written_at p.name) ps
+
+  methods_once : (own : Place) (members : List InterfaceMember) → list_all params_differ (filter_map (member_meant ds modules) members) ≡ true → flat_map (second_names own) (map parameter_names members) ≡ []
+  unfolding second_names
+  methods_once own [] differ = refl
+  methods_once own (tree.base_member optional path ∷ ms) differ = methods_once own ms differ
+  methods_once own (tree.attribute a ∷ ms) differ = methods_once own ms differ
+  methods_once own (tree.method m ∷ ms) differ =
+      let parts = and_parts (all_differ (map (λ p. p.name) (map (parameter_meant ds modules) m.parameters))) (list_all params_differ (filter_map (member_meant ds modules) ms)) differ in
+      ap₂ (λ ps qs. ps ++ qs) (no_second own (parameters_written m.parameters) (ap all_differ (parameters_named m.parameters) ∙ parts.0)) (methods_once own ms parts.1)
+
   -- ---- functions
 
   accessors_named : (owner : List ℕ) (members : List InterfaceMember) → map text (flat_map accessors members) ≡ map function_name (flat_map (accessors_of owner) (filter_map (member_meant ds modules) members))
@@ -154,6 +166,14 @@ module _ (ds : List Declared) (modules : List (List ℕ)) where
       let parts = append_none (second_names own names) (flat_map (second_names own) (map (λ (k : Constructor). map (λ (p : ConstructorParameter). written_at p.name) k.parameters) cs)) none in
       and_from (given_differ (constructor_meant ds modules c)) (list_all given_differ (map (constructor_meant ds modules) cs))
       (ap all_differ (sym (before_and_rest c.parameters)) ∙ texts_differ own names parts.0) (constructors_differ own cs parts.1)
+
+  constructors_once : (own : Place) (cs : List Constructor) → list_all given_differ (map (constructor_meant ds modules) cs) ≡ true
+      → flat_map (second_names own) (map (λ (c : Constructor). map (λ (p : ConstructorParameter). written_at p.name) c.parameters) cs) ≡ []
+  constructors_once own [] differ = refl
+  constructors_once own (c ∷ cs) differ =
+      let parts = and_parts (given_differ (constructor_meant ds modules c)) (list_all given_differ (map (constructor_meant ds modules) cs)) differ in
+      ap₂ (λ ps qs. ps ++ qs)
+      (no_second own (map (λ (p : ConstructorParameter). written_at p.name) c.parameters) (ap all_differ (before_and_rest c.parameters) ∙ parts.0)) (constructors_once own cs parts.1)
 
   parts_named : (members : List ServiceMember) → texts (flat_map property_name members) ≡ flat_map part_names (map (part_meant ds modules) members)
   parts_named [] = refl
@@ -283,3 +303,61 @@ module _ (ds : List Declared) (apart : are_apart (leaf_places ds) ≡ true) (non
   pub names_kept : (d : Declared) → is_forward d.body ≡ false → repeated_names ds (registry_of ds) d ≡ [] → names_differ (registry_of ds) (entity_meant ds d) ≡ true
   unfolding repeated_names names_differ
   names_kept d entity nothing = names_kept_in d d.name.place d.body entity nothing
+
+  -- ---- and the other way
+
+  abbrev Seconds : Place → Declared → Declaration → Type 0
+  Seconds own d body = flat_map (second_names own) (name_lists ds (registry_of ds) (full_name d) body) ≡ []
+
+  abbrev Differ : Declared → Declaration → Type 0
+  Differ d body = (own_names_differ (body_meant ds d body) && all_names_differ (registry_of ds) (full_name d) (body_meant ds d body)) ≡ true
+
+  from_one_list : (own : Place) (names : List NameAt) → all_differ (texts names) ≡ true → flat_map (second_names own) (names ∷ []) ≡ []
+  from_one_list own names differ = ap (λ ps. ps ++ []) (no_second own names differ)
+
+  one_part : (b : Bool) → (b && true) ≡ true → b ≡ true
+  one_part b both = (and_parts b true both).0
+
+  no_names : (own : Place) → second_names own [] ++ [] ≡ []
+  unfolding second_names
+  no_names own = refl
+
+  constructors_apart : (d : Declared) (own : Place) (base : tree.Path) (c : Constructor) (cs : List Constructor) → Differ d (tree.new_service base (c ∷ cs)) → Seconds own d (tree.new_service base (c ∷ cs))
+  unfolding body_meant with_create
+  constructors_apart d own base c cs differ =
+      let names = map (λ (k : Constructor). written_at k.name) (c ∷ cs) in
+      let own_part = one_part (all_differ (map (λ k. k.name) (map (constructor_meant ds d.modules) (c ∷ cs))) && list_all given_differ (map (constructor_meant ds d.modules) (c ∷ cs))) differ in
+      let both = and_parts (all_differ (map (λ k. k.name) (map (constructor_meant ds d.modules) (c ∷ cs)))) (list_all given_differ (map (constructor_meant ds d.modules) (c ∷ cs))) own_part in
+      let row : texts names ≡ map (λ k. k.name) (map (constructor_meant ds d.modules) (c ∷ cs)) = same_row (λ (k : Constructor). written_at k.name) (constructor_meant ds d.modules) text (λ k. k.name) (c ∷ cs) (λ k. refl) in
+      ap₂ (λ ps qs. ps ++ qs) (no_second own names (ap all_differ row ∙ both.0)) (constructors_once ds d.modules own (c ∷ cs) both.1)
+
+  no_seconds_in : (d : Declared) (own : Place) (body : Declaration) → Differ d body → Seconds own d body
+  unfolding body_meant
+  no_seconds_in d own tree.forward differ = refl
+  no_seconds_in d own (tree.interface base members) differ =
+      let rest = map parameter_names members in
+      let both = and_parts (all_differ (map declared_name (filter_map (member_meant ds d.modules) members)) && list_all params_differ (filter_map (member_meant ds d.modules) members)) (all_differ (map (λ f. f.name) (functions_of (registry_of ds) (full_name d)))) differ in
+      let first = and_parts (all_differ (map declared_name (filter_map (member_meant ds d.modules) members))) (list_all params_differ (filter_map (member_meant ds d.modules) members)) both.0 in
+      ap₂ (λ ps qs. ps ++ qs) (no_second own (flat_map member_name members) (ap all_differ (members_named ds d.modules members) ∙ first.0))
+      (ap₂ (λ ps qs. ps ++ qs) (no_second own (all_functions ds (registry_of ds) (full_name d)) (ap all_differ (all_functions_named (full_name d)) ∙ both.1)) (methods_once ds d.modules own members first.1))
+  no_seconds_in d own (tree.struct base members) differ =
+      from_one_list own (all_fields ds (registry_of ds) (full_name d)) (ap all_differ (all_fields_named (full_name d)) ∙ differ)
+  no_seconds_in d own (tree.exception base members) differ =
+      from_one_list own (all_fields ds (registry_of ds) (full_name d)) (ap all_differ (all_fields_named (full_name d)) ∙ differ)
+  no_seconds_in d own (tree.enum items) differ =
+      from_one_list own (map (λ (i : Item). written_at i.name) items)
+      (ap all_differ (items_named ds d first_item items) ∙ one_part (all_differ (map (λ i. i.name) (map (item_meant (all_valued ds)) (items_valued d first_item items)))) differ)
+  no_seconds_in d own (tree.constants cs) differ =
+      from_one_list own (map (λ (c : Constant). written_at c.name) cs)
+      (ap all_differ (same_row (λ (c : Constant). written_at c.name) (constant_meant ds d) text (λ c. c.name) cs (λ c. refl)) ∙ one_part (all_differ (map (λ c. c.name) (map (constant_meant ds d) cs))) differ)
+  no_seconds_in d own (tree.typedef t) differ = refl
+  no_seconds_in d own (tree.new_service base []) differ = no_names own
+  no_seconds_in d own (tree.new_service base (c ∷ cs)) differ = constructors_apart d own base c cs differ
+  no_seconds_in d own (tree.old_service members) differ =
+      from_one_list own (flat_map property_name members) (ap all_differ (parts_named ds d.modules members) ∙ one_part (all_differ (flat_map part_names (map (part_meant ds d.modules) members))) differ)
+  no_seconds_in d own (tree.new_singleton base) differ = refl
+  no_seconds_in d own (tree.old_singleton service) differ = refl
+
+  pub no_repeated_names : (d : Declared) → names_differ (registry_of ds) (entity_meant ds d) ≡ true → repeated_names ds (registry_of ds) d ≡ []
+  unfolding repeated_names names_differ
+  no_repeated_names d differ = no_seconds_in d d.name.place d.body differ

@@ -99,7 +99,7 @@ target_stands (kd.sequence k) may elements = elements
 
 -- ---- built-in entities
 
-found_with : (Q : Entity → Type 0) (name : List ℕ) (es : List Entity) (e : Entity) → AllByRecursion Q es → find_entity name es ≡ Some e → Q e
+pub found_with : (Q : Entity → Type 0) (name : List ℕ) (es : List Entity) (e : Entity) → AllByRecursion Q es → find_entity name es ≡ Some e → Q e
 unfolding find_entity
 found_with Q name [] e all found = let bad : ⊥ = cc in absurd bad
 found_with Q name (f ∷ fs) e all found = by_test (bytes_eq name f.name) found (found_with Q name fs e all.1)

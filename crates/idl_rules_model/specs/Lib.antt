@@ -9,5 +9,6 @@ pub mod Raised
 pub mod Services
 pub mod Singletons
 pub mod TypePlaces
+pub mod Unshown
 pub mod Whole
 pub mod WherePaths
