@@ -1,0 +1,5 @@
+mod LexingLemmas
+mod MarkLemmas
+mod NumberLemmas
+mod PieceLemmas
+mod RunLemmas

@@ -1,0 +1,178 @@
+//! The pieces of a file: white space, directives, comments and words.
+ghost use Rattle.std.specs.Prelude.{◌≡◌, ◌≤◌, None, Some, drop, length, option_map, IfOk};
+ghost use Rattle.idl_text_model.specs.Numbers.{number_of_word};
+ghost use Rattle.idl_text_model.specs.Pieces.{is_in_line};
+ghost use Rattle.idl_text_model.specs.Readings.{comment_at, mark_at};
+ghost use Rattle.idl_text_model.specs.Tokens as plain;
+ghost use Rattle.literal_model.specs.Shapes.{run_of, behind_run};
+ghost use Rattle.uno_model.specs.Names.{goes_on_identifier};
+ghost use Rattle.idl_trees.specs.Tokens.{word_of};
+ghost use Rattle.idl_lex.specs.Lexing.{found_of, is_single, word_at, worded, IsLongestMark};
+ghost use Rattle.idl_lex.specs.Runs.{test_of};
+
+use crate::number::number_of_word;
+use crate::run::{Run, as_text, begins, behind_line_start, goes_on, split_run};
+use idl_trees::Word;
+use std::alloc::Global;
+use uno_base::NoMemory;
+use uno_entities::{Name, Text, begins_identifier, is_identifier};
+
+/// A piece in front of what is left of a file: the word that it is, if it is one, and what is behind it.
+#[derive(Drop)]
+pub(crate) struct Found<'t> {
+    pub(crate) word: Option<Word>,
+    pub(crate) behind: &'t [u8],
+}
+
+/// The piece that a text begins with.
+pub(crate) fn piece(alloc: Global, text: &[u8]) -> Result<Option<Found<'_>>, NoMemory>
+    ensures { IfOk result (λ found. option_map found_of found ≡ word_at text.now) }
+{
+    let Some((first, behind)) = text.split_first() else {
+        return Ok(None);
+    };
+    if goes_on(Run::Blank, *first) {
+        return Ok(Some(without_word(Run::Blank, text)));
+    }
+    if *first == b'\n' {
+        return Ok(Some(Found {
+            word: None,
+            behind: behind_line_start(behind),
+        }));
+    }
+    if begins_identifier(*first) {
+        return name(alloc, text);
+    }
+    if first.is_ascii_digit() {
+        return Ok(numeral(text));
+    }
+    if begins(text, b"//") {
+        return Ok(Some(line_comment(text)));
+    }
+    if begins(text, b"/*") {
+        return Ok(block_comment(text));
+    }
+    mark(alloc, text)
+}
+
+/// A piece up to the end of a run.
+fn without_word(run: Run, text: &[u8]) -> Found<'_>
+    ensures { found_of result ≡ (None, behind_run (test_of run) text.now) }
+{
+    let (_, behind) = split_run(run, text);
+    Found { word: None, behind }
+}
+
+/// An identifier, or a word that is none.
+fn name(alloc: Global, text: &[u8]) -> Result<Option<Found<'_>>, NoMemory>
+    ensures { IfOk result (λ found. option_map found_of found
+        ≡ Some (Some (plain.word_named (run_of goes_on_identifier text.now)), behind_run goes_on_identifier text.now)) }
+{
+    let (run, behind) = split_run(Run::Word, text);
+    let word = word_named(alloc, as_text(run))?;
+    Ok(Some(Found {
+        word: Some(word),
+        behind,
+    }))
+}
+
+/// What letters, digits and `_` say.
+fn word_named(alloc: Global, word: &str) -> Result<Word, NoMemory>
+    ensures { IfOk result (λ w. word_of w ≡ plain.word_named word.now) }
+{
+    if is_identifier(word) {
+        return Ok(Word::Identifier(Name::of(alloc, word)?));
+    }
+    Ok(Word::Quoted(Text::of(alloc, word)?))
+}
+
+/// A word that begins with a digit is a number as a whole.
+fn numeral(text: &[u8]) -> Option<Found<'_>>
+    ensures { option_map found_of result
+        ≡ option_map (λ n. (Some (plain.number n), behind_run goes_on_identifier text.now)) (number_of_word (run_of goes_on_identifier text.now)) }
+{
+    let (run, behind) = split_run(Run::Word, text);
+    let number = number_of_word(run)?;
+    Some(Found {
+        word: Some(Word::Number(number)),
+        behind,
+    })
+}
+
+/// A comment up to the end of the line.
+fn line_comment(text: &[u8]) -> Found<'_>
+    requires { 2 ≤ length text.now }
+    ensures { found_of result ≡ (None, behind_run is_in_line (drop 2 text.now)) }
+{
+    let (_, body) = text.split_at(2);
+    without_word(Run::Line, body)
+}
+
+/// A comment up to the first `*/`.
+fn block_comment(text: &[u8]) -> Option<Found<'_>>
+    requires { 2 ≤ length text.now }
+    ensures { option_map found_of result ≡ option_map (λ x. (None, x.1)) (comment_at (drop 2 text.now)) }
+{
+    let (_, body) = text.split_at(2);
+    let behind = behind_comment(body)?;
+    Some(Found { word: None, behind })
+}
+
+fn behind_comment(text: &[u8]) -> Option<&[u8]>
+    ensures { option_map (λ behind. behind.now) result ≡ option_map (λ x. x.1) (comment_at text.now) }
+{
+    let mut rest = text;
+    while !rest.is_empty() {
+        if begins(rest, b"*/") {
+            let (_, behind) = rest.split_at(2);
+            return Some(behind);
+        }
+        let (_, next) = rest.split_at(1);
+        rest = next;
+    }
+    None
+}
+
+/// The longest mark.
+fn mark(alloc: Global, text: &[u8]) -> Result<Option<Found<'_>>, NoMemory>
+    ensures { IfOk result (λ found. option_map found_of found ≡ worded (mark_at text.now)) }
+{
+    let length = mark_length(text);
+    if length == 0 {
+        return Ok(None);
+    }
+    let (mark, behind) = text.split_at(length);
+    let mark = Text::of(alloc, as_text(mark))?;
+    Ok(Some(Found {
+        word: Some(Word::Mark(mark)),
+        behind,
+    }))
+}
+
+/// How many bytes the longest mark at the front has; 0 where there is none.
+fn mark_length(text: &[u8]) -> usize
+    ensures { IsLongestMark text.now result }
+{
+    if begins(text, b"...") {
+        return 3;
+    }
+    if begins(text, b"::") {
+        return 2;
+    }
+    let Some((first, _)) = text.split_first() else {
+        return 0;
+    };
+    if is_single_mark(*first) {
+        return 1;
+    }
+    0
+}
+
+const SINGLE_MARKS: &[u8] = b"{}()[]<>:;,=+-*/%~&|^";
+
+#[tactic(auto, unfolding(crate::specs::Lexing::is_single))]
+fn is_single_mark(byte: u8) -> bool
+    ensures { result ≡ is_single byte }
+{
+    SINGLE_MARKS.iter().any(|mark| byte == *mark)
+}
