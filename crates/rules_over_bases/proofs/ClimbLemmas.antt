@@ -19,7 +19,7 @@ use Rattle.uno_entities.specs.Marks.{Marked}
 use Rattle.uno_entities.proofs.SpreadLemmas.{entity_at}
 use Rattle.entity_rules.specs.NearMembers.{carries}
 use Rattle.rules_over_bases.specs.Climbing.{bases_in, needs_base, IsCarrierAt}
-use Rattle.rules_over_bases.specs.Known.{KeepsAt, KnownMembers}
+use Rattle.rules_over_bases.specs.Known.{KeepsAt, KnownToPass, KnownMembers}
 use Rattle.rules_over_bases.proofs.FirstLemmas.{body_read}
 use Rattle.rules_over_bases.proofs.KindLaws.{one_base, carrier_bases}
 
@@ -257,10 +257,11 @@ marked_set (k ∷ ks) zero (suc i) m = inr m
 marked_set (k ∷ ks) (suc at) zero m = inr m
 marked_set (k ∷ ks) (suc at) (suc i) m = elim (marked_set ks at i m) [ inl here ↦ inl (ap suc here) | inr old ↦ inr old ]
 
-pub known_one_more : (reg : List Entity) (known : List Bool) (at : ℕ) → KnownMembers reg known → KeepsAt (has_member reg) reg at true → KnownMembers reg (set known at true)
-known_one_more reg known at before here = record {
+pub known_one_more : (test : Entity → Bool) (reg : List Entity) (known : List Bool) (at : ℕ) → KnownToPass test reg known → KeepsAt test reg at true
+    → KnownToPass test reg (set known at true)
+known_one_more test reg known at before here = record {
   one_each = length-set known at true ∙ before.one_each;
-  passes = λ i m. elim (marked_set known at i m) [ inl is ↦ subst (λ k. KeepsAt (has_member reg) reg k true) (sym is) here | inr old ↦ before.passes i old ];
+  passes = λ i m. elim (marked_set known at i m) [ inl is ↦ subst (λ k. KeepsAt test reg k true) (sym is) here | inr old ↦ before.passes i old ];
 }
 
 pub known_at : (reg : List Entity) (known : List Bool) (at : ℕ) (d : Bool) → KnownMembers reg known → at < length reg → get_or known at d ≡ true → KeepsAt (has_member reg) reg at true

@@ -159,7 +159,7 @@ names_alone reg name none stands =
     let met : interfaces_of reg name ≡ name ∷ [] = visit_is reg [] name none ∙ ap (λ bs. visit_all (visit reg) [] bs ++ name ∷ []) stands in
     ap (flat_map (λ n. names_at (find_entity n reg))) met ∙ append-nil (names_at (find_entity name reg))
 
-names_behind : (reg : List Entity) (name b : List ℕ) → HasNoCircle (leads_to reg) → stands_on reg name ≡ b ∷ []
+pub names_behind : (reg : List Entity) (name b : List ℕ) → HasNoCircle (leads_to reg) → stands_on reg name ≡ b ∷ []
     → names_over reg name ≡ names_over reg b ++ names_at (find_entity name reg)
 unfolding names_over is_met visit_all
 names_behind reg name b none stands =

@@ -1,23 +1,20 @@
 -- What is known place by place, and what a search adds.
-use Rattle.std.proofs.Common.{◌≡◌, ℕ, ◌<◌, Bool, true, false, List, length, replicate, refl, sym, ap, subst, ◌∙◌, inl, inr}
-use Rattle.std.specs.Prelude.{[], Some, None, slice_get, get_or, Contains, Result, IfOk}
-use Rattle.std.proofs.lemmas.Result.{IfOk-weaker}
+use Rattle.std.proofs.Common.{◌≡◌, ℕ, ◌<◌, Bool, true, false, List, length, replicate, sym, subst, ◌∙◌, inl, inr}
+use Rattle.std.specs.Prelude.{Some, slice_get, Contains}
 use Rattle.std.proofs.lemmas.List.{length-replicate}
 use Rattle.uno_model.specs.Circles.{HasNoCircle}
 use Rattle.uno_model.specs.Entities as plain
-use Rattle.uno_model.specs.Registry.{IsRising, leads_to, stands_on_body}
+use Rattle.uno_model.specs.Registry.{IsRising, leads_to}
 use Rattle.uno_model.specs.Sound.{all_differ}
-use Rattle.uno_model.proofs.PlaceLaws.{named_there}
-use Rattle.uno_entities.specs.Entities.{entities_of, body_of}
-use Rattle.uno_entities.specs.declared.entity.Entity.{Entity}
 use Rattle.uno_entities.specs.Marks.{MarksBases}
 use Rattle.uno_entities.specs.Reaching.{Lists, MarksMore}
 use Rattle.uno_entities.proofs.SpreadLemmas.{entity_at, replicate_unmarked}
-use Rattle.rules_over_bases.specs.Known.{KeepsAt, KnownToPass, KnownToDiffer, differ_over, names_at, stands_alone}
-use Rattle.rules_over_bases.specs.OwnNames.{own_names, marked_names}
-use Rattle.rules_over_bases.proofs.FirstLemmas.{body_read}
-use Rattle.rules_over_bases.proofs.KindLaws.{names_alone}
-use Rattle.rules_over_bases.proofs.MarkedNames.{marked_differ_over, differ_below}
+use Rattle.rules_over_bases.specs.Known.{KeepsAt, KnownToPass, KnownToDiffer, differ_over}
+use Rattle.rules_over_bases.specs.OwnNames.{marked_names}
+use Rattle.rules_over_bases.specs.Seen.{SeenAll}
+use Rattle.rules_over_bases.specs.Trail.{SeenOver}
+use Rattle.rules_over_bases.specs.declared.seen.Seen.{Seen}
+use Rattle.rules_over_bases.proofs.MarkedNames.{marked_over, marked_differ_over, differ_below}
 
 -- at first nothing is known
 pub none_known : (test : plain.Entity → Bool) (reg : List plain.Entity) (count : ℕ) (known : List Bool) → length reg ≡ count → known ≡ replicate count false
@@ -51,22 +48,12 @@ more_differ reg place marks known known_after places listed rising none within m
       ];
     }
 
--- what stands alone has over its bases the names that it declares itself
-alone_stands : (e : plain.Entity) (body : plain.Body) → stands_alone body ≡ true → stands_on_body (Some (record { name = e.name; published = e.published; body = body })) ≡ []
-alone_stands e (plain.interface bases members) is = let bad : false ≡ true = is in absurd cc
-alone_stands e (plain.struct None members) is = refl
-alone_stands e (plain.struct (Some base) members) is = let bad : false ≡ true = is in absurd cc
-alone_stands e (plain.exception None members) is = refl
-alone_stands e (plain.exception (Some base) members) is = let bad : false ≡ true = is in absurd cc
-alone_stands e body is = refl
-
-pub alone_differs : {E : Type 0} (es : List Entity) (place : ℕ) (c d : Entity) (alone : Bool) (result : Result Bool E) → IsRising (entities_of es) → HasNoCircle (leads_to (entities_of es))
-    → place < length es → alone ≡ stands_alone (body_of (get_or es place c).body) → alone ≡ true
-    → IfOk result (λ b. b ≡ all_differ (own_names (body_of (get_or es place d).body))) → IfOk result (λ b. KeepsAt (differ_over (entities_of es)) (entities_of es) place b)
-alone_differs es place c d alone result rising none within says is after =
-    let reg = entities_of es in
-    IfOk-weaker result _ _ (λ b told e at.
-    let found = named_there reg place e rising at in
-    let stands = ap stands_on_body found ∙ alone_stands e e.body (sym (ap stands_alone (body_read es place c within e at)) ∙ sym says ∙ is) in
-    told ∙ ap (λ x. all_differ (own_names x)) (body_read es place d within e at) ∙ sym (ap all_differ (names_alone reg e.name none stands ∙ ap names_at found)))
-    after
+-- what a search has seen are the names over the entity from which it began
+pub searched_over : (reg : List plain.Entity) (place : ℕ) (found answer : Bool) (marks : List Bool) (seen : Seen) → IsRising reg → HasNoCircle (leads_to reg)
+    → ((e : plain.Entity) → slice_get reg place ≡ Some e → MarksBases reg e.name marks) → SeenAll seen (marked_names marks reg) found → found ≡ answer
+    → SeenOver reg place seen answer
+searched_over reg place found answer marks seen rising none marked all answered = record {
+  names = all.names;
+  has_seen = all.has_seen;
+  over = λ yes e at asked. all.all (answered ∙ yes) asked ∙ marked_over asked reg e.name marks rising none (marked e at);
+}

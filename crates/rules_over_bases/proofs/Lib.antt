@@ -7,6 +7,8 @@ pub mod MarkedNames
 pub mod OverLemmas
 pub mod OwnLemmas
 pub mod SeenLemmas
+pub mod StandingLemmas
+pub mod TrailLemmas
 pub mod TwinLaws
 pub mod TwinsLemmas
 pub mod WholeLemmas

@@ -122,12 +122,18 @@ marks_are_met reg name marks none marked = same_marks (met_marks (interfaces_of 
           λ m. here.1 (contains_met found.0.name (interfaces_of reg name) (bases_are_interfaces reg name found.0.name none (said.0 m))),
         )
 
+-- what is marked declares the names over bases, each as often
+pub marked_over : (asked : List ℕ) (reg : List Entity) (name : List ℕ) (marks : List Bool) → IsRising reg → HasNoCircle (leads_to reg) → MarksBases reg name marks
+    → occurs asked (marked_names marks reg) ≡ occurs asked (names_over reg name)
+marked_over asked reg name marks rising none marked =
+    sym (counted_over asked reg name rising none ∙ ap (λ m. occurs asked (marked_names m reg)) (marks_are_met reg name marks none marked))
+
 -- names over bases differ where the names that are marked do
 pub marked_differ_over : (reg : List Entity) (name : List ℕ) (marks : List Bool) → IsRising reg → HasNoCircle (leads_to reg) → MarksBases reg name marks
     → all_differ (marked_names marks reg) ≡ all_differ (names_over reg name)
 marked_differ_over reg name marks rising none marked =
     same_differ (marked_names marks reg) (names_over reg name)
-    (λ asked. sym (counted_over asked reg name rising none ∙ ap (λ m. occurs asked (marked_names m reg)) (marks_are_met reg name marks none marked)))
+    (λ asked. marked_over asked reg name marks rising none marked)
 
 -- ---- fewer
 

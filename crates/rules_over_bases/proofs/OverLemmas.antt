@@ -11,7 +11,7 @@ use Rattle.uno_entities.specs.declared.entity.Entity.{Entity}
 use Rattle.uno_entities.specs.declared.entity.Member.{Member}
 use Rattle.rules_over_bases.specs.OwnNames.{getter_name, setter_name, accessor_names, names_of_member, own_names, row_if, marked_names}
 use Rattle.rules_over_bases.specs.Occurring.{occurs}
-use Rattle.rules_over_bases.specs.Seen.{HasSeen, Sees, SeesShare}
+use Rattle.rules_over_bases.specs.Seen.{HasSeen, Sees, SeesShare, SeenAll}
 use Rattle.rules_over_bases.specs.declared.seen.Seen.{Seen}
 use Rattle.rules_over_bases.proofs.SeenLemmas.{sees_then, sees_stop, sees_stop_at, sees_end}
 use Rattle.rules_over_bases.proofs.TwinLaws.{occurs_append, same_differ, fewer_differ}
@@ -133,6 +133,13 @@ twice_so_far old new reg first now after are_new before share twice = by_test (a
     by_test false is = refl
     by_test true is = let bad : true ≡ false = sym (fewer_differ names (marked_names first reg) fewer is) ∙ told in absurd cc
 
+-- what was seen with it is some of them
+pub some_so_far : (old new : Seen) (reg : List plain.Entity) (first now after : List Bool) (are_new : Bool) → SeenSoFar old reg first now
+    → SeesShare old new (marked_names now reg) (marked_names after reg) are_new → SeenAll new (marked_names first reg) false
+some_so_far old new reg first now after are_new before share =
+    let some = share.sees.some before.names before.has_seen in
+    record { names = before.names ++ some.0; has_seen = some.1; all = λ yes name. let bad : false ≡ true = yes in absurd cc }
+
 -- without a mark there is no name
 no_names : (name : List ℕ) (count : ℕ) (reg : List plain.Entity) → occurs name (marked_names (replicate count false) reg) ≡ 0
 unfolding marked_names occurs
@@ -144,5 +151,13 @@ no_names name (suc count) (e ∷ es) = no_names name count es
 pub all_so_far : (seen : Seen) (reg : List plain.Entity) (first now : List Bool) (count : ℕ) → SeenSoFar seen reg first now → now ≡ replicate count false
     → true ≡ all_differ (marked_names first reg)
 all_so_far seen reg first now count all none =
-    sym all.has_seen.differ ∙ same_differ all.names (marked_names first reg)
+    sym all.has_seen.sets.differ ∙ same_differ all.names (marked_names first reg)
     (λ name. omega (arith, all.parts name, ap (λ ms. occurs name (marked_names ms reg)) none, no_names name count reg))
+
+pub all_are_seen : (seen : Seen) (reg : List plain.Entity) (first now : List Bool) (count : ℕ) → SeenSoFar seen reg first now → now ≡ replicate count false
+    → SeenAll seen (marked_names first reg) true
+all_are_seen seen reg first now count all none = record {
+  names = all.names;
+  has_seen = all.has_seen;
+  all = λ yes name. omega (arith, all.parts name, ap (λ ms. occurs name (marked_names ms reg)) none, no_names name count reg);
+}

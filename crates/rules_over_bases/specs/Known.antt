@@ -1,7 +1,7 @@
 -- What is known of the entities of a registry, place by place.
-use Rattle.std.specs.Prelude.{◌≡◌, ℕ, Bool, true, false, List, [], length, Option, None, Some, slice_get}
+use Rattle.std.specs.Prelude.{◌≡◌, ℕ, Bool, true, List, [], length, Option, None, Some, slice_get}
 use Rattle.std.specs.List.{flat_map}
-use Rattle.uno_model.specs.Entities.{Entity, Body, interface, struct, exception}
+use Rattle.uno_model.specs.Entities.{Entity}
 use Rattle.uno_model.specs.Functions.{interfaces_of}
 use Rattle.uno_model.specs.Registry.{find_entity}
 use Rattle.uno_model.specs.Sound.{all_differ, has_member}
@@ -22,15 +22,6 @@ names_over reg name = flat_map (λ n. names_at (find_entity n reg)) (interfaces_
 
 abbrev pub differ_over : List Entity → Entity → Bool
 differ_over reg e = all_differ (names_over reg e.name)
-
--- no interface, and with no base
-abbrev pub stands_alone : Body → Bool
-stands_alone (interface bases members) = false
-stands_alone (struct None members) = true
-stands_alone (struct (Some base) members) = false
-stands_alone (exception None members) = true
-stands_alone (exception (Some base) members) = false
-stands_alone _ = true
 
 -- each that is marked passes the test
 pub record KnownToPass (test : Entity → Bool) (reg : List Entity) (known : List Bool) : Type 0 where

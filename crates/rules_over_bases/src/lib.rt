@@ -1,12 +1,16 @@
 //! The rules of a registry that look over bases: of each, the first entity that breaks it.
 #![tactic(auto)]
 
+mod forest;
 mod member;
 mod named;
 mod over;
 mod own;
 mod seen;
+mod standing;
+mod trail;
 mod twins;
+mod walk;
 mod whole;
 
 pub use twins::first_with_twins;

@@ -1,46 +1,23 @@
 //! That the names differ that an entity has over its bases.
-ghost use Rattle.std.specs.Prelude.{◌≡◌, ◌<◌, true, false, map, length, replicate, IfOk, OnOk, slice_get, slice_set};
+ghost use Rattle.std.specs.Prelude.{◌≡◌, ◌<◌, [], true, false, map, length, replicate, IfOk, OnOk, slice_get, slice_set};
 ghost use Rattle.std.specs.List.{flat_map, list_all};
 ghost use Rattle.uno_model.specs.Circles.{HasNoCircle};
 ghost use Rattle.uno_model.specs.Registry.{IsRising, leads_to};
 ghost use Rattle.uno_model.specs.Sound.{all_differ};
 ghost use Rattle.uno_entities.specs.Entities.{entities_of, body_of, member_of, attribute_of};
 ghost use Rattle.uno_entities.specs.Reaching.{Covers};
-ghost use Rattle.rules_over_bases.specs.Known.{KeepsAt, KnownToDiffer, differ_over, stands_alone};
+ghost use Rattle.rules_over_bases.specs.Known.{KeepsAt, KnownToDiffer, differ_over};
 ghost use Rattle.rules_over_bases.specs.OwnNames.{accessor_names, names_of_member, own_names, row_if, marked_names};
-ghost use Rattle.rules_over_bases.specs.Seen.{Sees, SeesShare};
+ghost use Rattle.rules_over_bases.specs.Seen.{HasSeen, Sees, SeesShare, SeenAll};
+ghost use Rattle.rules_over_bases.specs.Trail.{SeenOver};
 
 use crate::named::add_all;
 use crate::seen::Seen;
 use std::alloc::Global;
 use uno_base::NoMemory;
 use uno_entities::{
-    Attribute, Body, Entity, Member, Reach, Search, all_bases, mark_places, nothing_reached,
-    reach_bases, unmark,
+    Attribute, Body, Entity, Member, Reach, Search, mark_places, reach_bases, unmark,
 };
-
-/// Marks entities whose names differ over their bases. What nothing stands on is searched: where its names differ, so do those of all
-/// on which it stands.
-pub(crate) fn known_to_differ(
-    alloc: Global,
-    entities: &[Entity],
-    reach: &mut Reach,
-) -> Result<Vec<bool>, NoMemory>
-    requires rising { IsRising (entities_of entities.now) }
-    requires no_circle { HasNoCircle (leads_to (entities_of entities.now)) }
-    requires clear { reach.old.search.marks.items ≡ replicate (length entities.now) false }
-    ensures known { IfOk result (λ known. KnownToDiffer (entities_of entities.now) known.items) }
-    ensures clear { OnOk result (reach.new.search.marks.items ≡ replicate (length entities.now) false) }
-{
-    let bases = all_bases(alloc, entities)?;
-    let mut known = vec![in alloc; false; entities.len()]?;
-    for place in 0..entities.len() {
-        if !bases[place] {
-            names_differ_over(alloc, entities, place, known.as_mut_slice(), reach)?;
-        }
-    }
-    Ok(known)
-}
 
 /// Whether the names of the entity at a place differ over its bases, searched only where it is not known.
 pub(crate) fn names_differ_over(
@@ -62,50 +39,31 @@ pub(crate) fn names_differ_over(
     if known[place] {
         return Ok(true);
     }
-    if stands_alone(&entities[place].body) {
-        return own_differ(alloc, &entities[place].body);
-    }
-    found_to_differ(alloc, entities, place, known, reach)
-}
-
-/// Whether it is no interface, and has no base.
-fn stands_alone(body: &Body) -> bool
-    ensures { result ≡ stands_alone (body_of body.now) }
-{
-    match body {
-        Body::Interface { .. } => false,
-        Body::Struct { base, .. } | Body::Exception { base, .. } => base.is_none(),
-        _ => true,
-    }
-}
-
-/// Whether the names differ that it declares itself.
-fn own_differ(alloc: Global, body: &Body) -> Result<bool, NoMemory>
-    ensures { IfOk result (λ b. b ≡ all_differ (own_names (body_of body.now))) }
-{
     let mut seen = Seen::new(alloc);
-    add_own(&mut seen, body)
+    search(entities, place, known, &mut seen, reach)
 }
 
-/// Whether a search from a place finds no name twice. Where it does not, so it is known of all that it marks.
-fn found_to_differ(
-    alloc: Global,
-    entities: &[Entity],
+/// Whether a search from a place finds no name twice. Where it does not, so it is known of all that it reaches.
+pub(crate) fn search<'a>(
+    entities: &'a [Entity],
     place: usize,
     known: &mut [bool],
+    seen: &mut Seen<'a>,
     reach: &mut Reach,
 ) -> Result<bool, NoMemory>
     requires rising { IsRising (entities_of entities.now) }
     requires no_circle { HasNoCircle (leads_to (entities_of entities.now)) }
     requires place { place < length entities.now }
     requires before { KnownToDiffer (entities_of entities.now) known.old }
+    requires empty { HasSeen seen.old [] }
     requires clear { reach.old.search.marks.items ≡ replicate (length entities.now) false }
     ensures differ { IfOk result (λ b. KeepsAt (differ_over (entities_of entities.now)) (entities_of entities.now) place b) }
     ensures after { OnOk result (KnownToDiffer (entities_of entities.now) known.new) }
+    ensures seen { IfOk result (λ b. SeenOver (entities_of entities.now) place seen.new b) }
     ensures clear { OnOk result (reach.new.search.marks.items ≡ replicate (length entities.now) false) }
 {
     reach_bases(entities, place, reach)?;
-    let differ = reached_differ(alloc, entities, reach)?;
+    let differ = reached_differ(entities, seen, reach)?;
     unmark(reach);
     if !differ {
         return Ok(false);
@@ -115,18 +73,23 @@ fn found_to_differ(
 }
 
 /// Whether the names differ that the reached entities declare. Marks are taken back as far as names are seen.
-fn reached_differ(alloc: Global, entities: &[Entity], reach: &mut Reach) -> Result<bool, NoMemory>
+fn reached_differ<'a>(
+    entities: &'a [Entity],
+    seen: &mut Seen<'a>,
+    reach: &mut Reach,
+) -> Result<bool, NoMemory>
     requires long { length reach.old.search.marks.items ≡ length entities.now }
     requires covered { Covers reach.old.search.marks.items reach.old.places.items }
+    requires empty { HasSeen seen.old [] }
     ensures differ { IfOk result (λ b. b ≡ all_differ (marked_names reach.old.search.marks.items (entities_of entities.now))) }
+    ensures seen { IfOk result (λ b. SeenAll seen.new (marked_names reach.old.search.marks.items (entities_of entities.now)) b) }
     ensures covered { OnOk result (Covers reach.new.search.marks.items reach.new.places.items) }
     ensures long { OnOk result (length reach.new.search.marks.items ≡ length entities.now) }
     ensures places { OnOk result (reach.new.places.items ≡ reach.old.places.items) }
 {
-    let mut seen = Seen::new(alloc);
     for index in 0..reach.places.len() {
         let place = reach.places[index];
-        if !add_at(&mut seen, entities, place, &mut reach.search)? {
+        if !add_at(seen, entities, place, &mut reach.search)? {
             return Ok(false);
         }
     }
@@ -158,7 +121,7 @@ fn add_if_marked<'a>(seen: &mut Seen<'a>, mark: bool, body: &'a Body) -> Result<
 
 /// Sees the names of the functions of an interface, or of the members of a struct or an exception, its bases left out.
 #[tactic(auto, using(crate::proofs::OwnLemmas::names_through))]
-fn add_own<'a>(seen: &mut Seen<'a>, body: &'a Body) -> Result<bool, NoMemory>
+pub(crate) fn add_own<'a>(seen: &mut Seen<'a>, body: &'a Body) -> Result<bool, NoMemory>
     ensures { IfOk result (λ are_new. Sees seen.old seen.new (own_names (body_of body.now)) are_new) }
 {
     match body {

@@ -9,8 +9,9 @@ ghost use Rattle.registry_text_model.specs.BasesAreOfTheirKind.{bases_are_of_the
 ghost use Rattle.registry_text_model.specs.NamesDiffer.{names_differ};
 ghost use Rattle.rules_over_bases.specs.Known.{KeepsAt, KnownToDiffer};
 
-use crate::over::{known_to_differ, names_differ_over};
+use crate::over::names_differ_over;
 use crate::own::own_names_differ;
+use crate::walk::known_to_differ;
 use std::alloc::Global;
 use uno_base::NoMemory;
 use uno_entities::{Entity, Reach, nothing_reached};

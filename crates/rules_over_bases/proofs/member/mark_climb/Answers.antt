@@ -1,3 +1,4 @@
+use Rattle.uno_model.specs.Sound.{has_member}
 use Rattle.uno_entities.specs.Entities.{entities_of}
 use Rattle.rules_over_bases.proofs.ClimbLemmas.{known_one_more, marks_on}
 use Rattle.rules_over_bases.proofs.member.mark_climb.Goals as goal
@@ -10,5 +11,5 @@ loop-preserved c =
     record {
       within = on.0;
       member = on.1;
-      known = known_one_more (entities_of c.args.entities.now) c.loop.known c.loop.at c.loop.invariant.known c.loop.invariant.member;
+      known = known_one_more (has_member (entities_of c.args.entities.now)) (entities_of c.args.entities.now) c.loop.known c.loop.at c.loop.invariant.known c.loop.invariant.member;
     }

@@ -2,7 +2,7 @@ use Rattle.std.proofs.Common.{refl, sym, ap, subst, length, ◌+◌, ◌∙◌, 
 use Rattle.std.proofs.lemmas.List.{length-set}
 use Rattle.uno_entities.specs.Entities.{entities_of}
 use Rattle.uno_entities.proofs.ReachLemmas.{IsAhead, place_read, ahead_read, ahead_first, ahead_end, still_covered}
-use Rattle.rules_over_bases.proofs.OverLemmas.{SeenSoFar, none_so_far, more_so_far, twice_so_far, all_so_far}
+use Rattle.rules_over_bases.proofs.OverLemmas.{SeenSoFar, none_so_far, more_so_far, twice_so_far, some_so_far, all_so_far, all_are_seen}
 use Rattle.rules_over_bases.proofs.over.reached_differ.Goals as goal
 
 pub loop-index-init : goal.loop-index-init
@@ -10,7 +10,7 @@ loop-index-init c = record {
   long = c.requires.long;
   places = refl;
   ahead = ahead_first _ _ c.requires.covered;
-  names = none_so_far _ _ _ c.new-seen.ensures;
+  names = none_so_far _ _ _ c.requires.empty;
 }
 
 pub add_at-requires-clause-place : goal.add_at-requires-clause-place
@@ -23,6 +23,10 @@ pub returns-then-not-branch-clause-differ : goal.returns-then-not-branch-clause-
 returns-then-not-branch-clause-differ c =
     twice_so_far _ _ (entities_of c.args.entities.now) c.args.reach.now.search.marks.items _ _ _ c.loop-index.invariant.names c.in_ok-add_at.ensures.seen
     c.if-not-branch.true
+
+pub returns-then-not-branch-clause-seen : goal.returns-then-not-branch-clause-seen
+returns-then-not-branch-clause-seen c =
+    some_so_far _ _ (entities_of c.args.entities.now) c.args.reach.now.search.marks.items _ _ _ c.loop-index.invariant.names c.in_ok-add_at.ensures.seen
 
 pub returns-then-not-branch-clause-covered : goal.returns-then-not-branch-clause-covered
 returns-then-not-branch-clause-covered c =
@@ -47,6 +51,12 @@ loop-index-preserved c = record {
 pub returns-clause-differ : goal.returns-clause-differ
 returns-clause-differ c =
     all_so_far _ (entities_of c.args.entities.now) c.args.reach.now.search.marks.items _ (length c.args.entities.now) c.loop-index.invariant.names
+    (ahead_end _ c.args.reach.now.places.items c.loop-index.index _ (omega (arith, c.loop-index-test.false, c.len-index-end.ensures)) c.loop-index.invariant.long
+    c.loop-index.invariant.ahead)
+
+pub returns-clause-seen : goal.returns-clause-seen
+returns-clause-seen c =
+    all_are_seen _ (entities_of c.args.entities.now) c.args.reach.now.search.marks.items _ (length c.args.entities.now) c.loop-index.invariant.names
     (ahead_end _ c.args.reach.now.places.items c.loop-index.index _ (omega (arith, c.loop-index-test.false, c.len-index-end.ensures)) c.loop-index.invariant.long
     c.loop-index.invariant.ahead)
 

@@ -1,5 +1,10 @@
-use Rattle.rules_over_bases.proofs.SeenLemmas.{sees_getter}
+use Rattle.std.proofs.Common.{refl}
+use Rattle.rules_over_bases.proofs.SeenLemmas.{sees_getter, repeats_getter}
 use Rattle.rules_over_bases.proofs.seen.Seen.add_getter.Goals as goal
 
+pub returns-then-not-branch : goal.returns-then-not-branch
+returns-then-not-branch c = repeats_getter c.args.self.now _ c.args.attribute _ c.in_ok-insert.ensures.added c.in_ok-insert.ensures.unchanged refl refl refl c.if-not-branch.true
+
 pub returns : goal.returns
-returns c = sees_getter c.args.self.now _ c.args.attribute _ c.in_ok-is_new.ensures.added c.in_ok-is_new.ensures.updates
+returns c =
+    sees_getter c.args.self.now _ c.args.attribute _ c.in_ok-insert.ensures.added c.in_ok-insert.ensures.updates refl refl c.in_ok-push.ensures.items c.if-not-branch.false
