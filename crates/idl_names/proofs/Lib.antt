@@ -1,0 +1,10 @@
+mod CollectedLemmas
+mod DefLaws
+mod FaultLemmas
+mod FloatLemmas
+mod KeyLaws
+mod PathLaws
+mod PathLookups
+mod RefusedLemmas
+mod UsedLemmas
+mod WayLaws

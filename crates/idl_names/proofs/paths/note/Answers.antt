@@ -1,0 +1,6 @@
+use Rattle.std.proofs.Common.{Some}
+use Rattle.idl_names.proofs.KeyLaws.{noted}
+use Rattle.idl_names.proofs.paths.note.Goals as goal
+
+pub returns-clause-noted : goal.returns-clause-noted
+returns-clause-noted c = noted c.args.numbers.now c.insert.new.self (c.args.outer, c.args.name) (Some c.args.number) c.in_ok-insert.ensures.updates
