@@ -59,7 +59,7 @@ picked_one (body b ∷ fs) is = refl
 picked_one (outgoing o ∷ fs) is = absurd (false≢true is)
 
 -- the first stack whose top is a method is that of its thread
-abbrev FirstPicked : List ℕ → List Stack → Type 0
+abbrev pub FirstPicked : List ℕ → List Stack → Type 0
 FirstPicked tid ss = nth_tid (ready ss) 0 ≡ Some tid → is_picked (picked_in (frames_of tid ss)) ≡ true
 
 same_name : (a b : List ℕ) → ◌≡◌ {A = Option (List ℕ)} (Some a) (Some b) → a ≡ b
@@ -81,7 +81,7 @@ found_by tid z ss apart more true top is =
     ap (λ b. is_picked (picked_in (if b then z.frames else frames_of tid ss))) here ∙ picked_one z.frames top
 found_by tid z ss apart more false top is = found_behind tid z ss apart (bytes_eq tid z.tid) refl (more is)
 
-first_picked : (tid : List ℕ) (ss : List Stack) → AreApart ss → FirstPicked tid ss
+pub first_picked : (tid : List ℕ) (ss : List Stack) → AreApart ss → FirstPicked tid ss
 unfolding AreApart
 first_picked tid [] apart is = absurd (cc)
 first_picked tid (z ∷ ss) apart is = found_by tid z ss apart.0 (first_picked tid ss apart.1) (is_body (first_frame z.frames)) refl is

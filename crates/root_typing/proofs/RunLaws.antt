@@ -27,6 +27,7 @@ use Rattle.bridge_typing.proofs.StepFits.{all_stays}
 use Rattle.root_typing.specs.RootAnswers.{Asking, asked_by, still_asked, asked_behind}
 use Rattle.root_typing.specs.RootStatements.{AreTypedRoots, first_root_types, AreTypedThreads}
 use Rattle.root_typing.proofs.OwedEntries.{asked_push, all_owed}
+use Rattle.root_typing.proofs.OwedSides.{StateFits}
 use Rattle.root_typing.proofs.RootLines.{threads_typed}
 use Rattle.root_typing.proofs.RunTypes.{IsOpen, At, MoveFits, takes_as, state_fits}
 
@@ -200,7 +201,21 @@ module _ (g : Setting) (given : IsGiven g) (typed : AreTypedThreads g.registry g
   run_gives es x r next e gives leads stand root export moves =
       let fits = subst (MoveFits g given r (still_asked r.root es)) moves (moves_fit es x r gives leads (root, export) (run_fits es r stand gives (root, export))) in fits.1
 
+  -- so may what the root of a run begins that is idle, whatever the side is like at which it begins it
+  pub run_begins : (es : List Entry) (x : Told) (r next : Run) (e : Entry) (s : Side) → RootsGive g es → Leads g es x → StandsFor g es r → IsRoot g r.root → is_export_name r.instance ≡ true
+      → state_of r.root x.side.tables.roots ≡ idle → (has_entries s ≡ false → suc s.tables.objects_made < 2 ^ 64) → idle_moves g s r (next_loose r.loose) ≡ moved next (Some e) → MayGive g e
+  run_begins es x r next e s gives leads stand root export free few moves =
+      let fits = run_fits es r stand gives (root, export) in
+      let owed = subst (StateFits g.registry (still_asked r.root es)) free (all_owed g given given.roots r.root root.0 root.1 es x leads gives).state in
+      let move = subst (MoveFits g given r (still_asked r.root es)) moves (state_fits g given s r fits.0 root export few (still_asked r.root es) idle fits.1 owed) in
+      move.1
+
 pub given_by_run : (g : Setting) → IsSound g.registry → HasBuiltIn g.registry → NamesDiffer g.registry → KeepsTheRules g.registry g.plan → length g.tag ≤ 32
     → (es : List Entry) (x : Told) (r next : Run) (e : Entry) → RootsGive g es → Leads g es x → StandsFor g es r → IsRoot g r.root → is_export_name r.instance ≡ true
     → root_moves g x.side r ≡ moved next (Some e) → MayGive g e
 given_by_run g sound built differ keeps short = run_gives g (is_given g sound built differ keeps short) (threads_typed g.registry sound g.plan keeps)
+
+pub begun_by_run : (g : Setting) → IsSound g.registry → HasBuiltIn g.registry → NamesDiffer g.registry → KeepsTheRules g.registry g.plan → length g.tag ≤ 32
+    → (es : List Entry) (x : Told) (r next : Run) (e : Entry) (s : Side) → RootsGive g es → Leads g es x → StandsFor g es r → IsRoot g r.root → is_export_name r.instance ≡ true
+    → state_of r.root x.side.tables.roots ≡ idle → (has_entries s ≡ false → suc s.tables.objects_made < 2 ^ 64) → idle_moves g s r (next_loose r.loose) ≡ moved next (Some e) → MayGive g e
+begun_by_run g sound built differ keeps short = run_begins g (is_given g sound built differ keeps short) (threads_typed g.registry sound g.plan keeps)
