@@ -1,0 +1,11 @@
+mod DefLemmas
+mod ExprLemmas
+mod FlagLemmas
+mod FrontLemmas
+mod Loops
+mod MappedLoops
+mod OtherLoops
+mod Refusals
+mod TableLemmas
+mod TokenLemmas
+mod TypeLemmas
