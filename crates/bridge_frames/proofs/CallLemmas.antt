@@ -1,6 +1,6 @@
 -- Frames that begin.
 use Rattle.std.specs.Prelude.{OnErr, OnOk}
-use Rattle.std.proofs.Common.{◌≡◌, ℕ, Bool, true, false, if◌then◌else◌, List, [], ◌∷◌, Result, Ok, Err, refl, ap, ◌∙◌}
+use Rattle.std.proofs.Common.{◌≡◌, ℕ, Bool, true, false, if◌then◌else◌, List, [], ◌∷◌, Option, None, Some, is_some, Result, Ok, Err, refl, sym, ap, ◌∙◌}
 use Rattle.uno_model.specs.Values.{Plain, Ref, null, own, peer}
 use Rattle.table_model.specs.declared.holder.Holder.{Holder}
 use Rattle.table_model.specs.declared.holder.Holder.TheVariants as holder
@@ -11,9 +11,10 @@ use Rattle.plan_model.specs.Holdings.{first_variables}
 use Rattle.bridge_model.specs.Calls.{Unwound, first_body, params_of, calls_own, serves, calls_peer, counts_frame}
 use Rattle.bridge_model.specs.Objects.{object_named, number_of}
 use Rattle.bridge_model.specs.References.{says, gains, gains_all, releases, takes, takes_all, is_held, lets_go_all, refs_of_values}
-use Rattle.bridge_model.specs.Settings.{Setting}
-use Rattle.bridge_model.specs.Sides.{Tables}
+use Rattle.bridge_model.specs.Settings.{Setting, own_oid}
+use Rattle.bridge_model.specs.Sides.{Object, Tables}
 use Rattle.bridge_model.specs.Stacks.{puts_frames}
+use Rattle.bridge_laws.proofs.IdentityLaws.{named_oid}
 use Rattle.bridge_tables.specs.EndTables.{EndTables, lasting, on_tables, with_tables}
 use Rattle.bridge_tables.proofs.LastingLemmas.{frame_gains, frame_gains_all, frame_lets_go_all, frame_takes_all, frames_stay, objects_stay}
 use Rattle.bridge_frames.specs.Unwinding.{begins, stacks_by, tables_by}
@@ -156,3 +157,13 @@ pub out_counted : (g : Setting) (tid oid face : List ℕ) (function : ℕ) (args
     → after ≡ on_tables counts_frame said → after ≡ tables_by (calls_peer g tid oid face function args fs e.tables) e
 unfolding calls_peer
 out_counted g tid oid face function args fs e said after spoken here = here ∙ ap (on_tables counts_frame) spoken
+
+-- ---- the identity by which an own object is called
+
+is_there : (x : Option Object) → (number_of x ≡ 0 → ⊥) → is_some x ≡ true
+is_there None there = absurd (there refl)
+is_there (Some o) there = refl
+
+-- where it has a number, it is that number's
+pub called_itself : (g : Setting) (oid : List ℕ) (os : List Object) (n : ℕ) → n ≡ number_of (object_named g oid os) → (n ≡ 0 → ⊥) → oid ≡ own_oid g n
+called_itself g oid os n is there = sym (named_oid g oid os (is_there (object_named g oid os) (λ none. there (is ∙ none)))) ∙ ap (own_oid g) (sym is)

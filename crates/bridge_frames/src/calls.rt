@@ -1,5 +1,5 @@
 //! Frames that begin: a method of an own object, and a call that goes out.
-ghost use Rattle.std.specs.Prelude.{◌≡◌, ◌<◌, ◌-◌, ◌^◌, ℕ, Bool, IfOk, OnOk, OnErr, map};
+ghost use Rattle.std.specs.Prelude.{◌≡◌, ◌≢◌, ◌<◌, ◌-◌, ◌^◌, ℕ, Bool, IfOk, OnOk, OnErr, map};
 ghost use Rattle.bridge_model.specs.Calls.{calls_own, serves, calls_peer, first_body};
 ghost use Rattle.bridge_model.specs.References.{gains, gains_all, refs_of_values, says, takes_all};
 ghost use Rattle.bridge_model.specs.Settings.{own_oid};
@@ -133,7 +133,9 @@ fn begin(
         return Err(NoMemory);
     };
     let object = tables.number_of(&call.oid);
-    if let Err(error) = hold_own(alloc, setting, number, object, &call.face, tables) {
+    if let Err(error) = hold_own(
+        alloc, setting, number, object, &call.oid, &call.face, tables,
+    ) {
         return Err(error);
     }
     let Ok(variables) = variables_of(alloc, &setting.registry, &call.face, call.function, args)
@@ -168,25 +170,38 @@ fn next_number(tables: &Tables) -> Result<u64, NoMemory>
     Ok(made)
 }
 
-/// A method holds its own object under the interface that was called.
+/// A method holds its own object, of this number and where there is one of this identity, under the interface that was called.
 fn hold_own(
     alloc: Global,
     setting: &Setting,
     number: u64,
     object: u32,
+    oid: &Text,
     face: &Name,
     tables: &mut Tables,
 ) -> Result<(), NoMemory>
-    requires { IsOf (setting_of setting.now) tables.old }
+    requires of { IsOf (setting_of setting.now) tables.old }
+    requires named { object ≢ 0 → oid.now ≡ own_oid (setting_of setting.now) object }
     ensures held { OnOk result (tables.new ≡ on_tables (gains (holder.Frame number) (own (own_oid (setting_of setting.now) object) face.now)) tables.old) }
     ensures kept { OnErr result (tables.new ≡ tables.old) }
 {
-    let oid = setting.own_oid(alloc, object)?;
+    let oid = identity(alloc, setting, object, oid)?;
     let face = face.copy()?;
     let own = Reference::Local { oid, face };
     let held = tables.gain(setting, Holder::Frame(number), &own);
     drop(own);
     held
+}
+
+/// The identity of the object of a number: this one, but for the number that no object has.
+fn identity(alloc: Global, setting: &Setting, object: u32, oid: &Text) -> Result<Text, NoMemory>
+    requires { object ≢ 0 → oid.now ≡ own_oid (setting_of setting.now) object }
+    ensures { IfOk result (λ own. own ≡ own_oid (setting_of setting.now) object) }
+{
+    if object == 0 {
+        return setting.own_oid(alloc, object);
+    }
+    oid.copy()
 }
 
 /// The variables with which it begins; a function that is not there has no parameters.

@@ -233,7 +233,6 @@ impl State {
         ensures back { HasRoots (setting_of setting.now) self.old.side → rests (undone trace.new self.new.side) ≡ rests (undone trace.old self.old.side) }
         ensures names { self.new ≡ with_side self.new.side self.old }
     {
-        trace.answered.reserve(1)?;
         let (message, used) = match self.incoming.read(&setting.registry, &self.stacks, body) {
             Ok(read) => read,
             Err(ReadError::NoMemory) => return Err(NoMemory),

@@ -35,7 +35,7 @@ use uno_values::Value;
 use urp_message::{Answer, Message};
 
 impl State {
-    /// Receives a message that breaks nothing. There is room in the trace for a root.
+    /// Receives a message that breaks nothing.
     #[tactic(auto, unfolding(bridge_model::specs::Receiving::receives))]
     pub(crate) fn receive(
         &mut self,
@@ -46,7 +46,6 @@ impl State {
         requires of { IsEndOf (setting_of setting.now) self.old }
         requires sound { IsSound setting.now.registry }
         requires stands { stands self.old.side ≡ true }
-        requires room { vec_len trace.old.answered < vec_capacity trace.old.answered }
         ensures received { OnOk result (self.new ≡ on_side (receives (setting_of setting.now) (message_of message)) self.old) }
         ensures counted { OnOk result (trace.new.references ≡ trace.old.references + message_brings (message_of message)) }
         ensures began { trace.new.frames_made ≡ trace.old.frames_made }
@@ -126,7 +125,6 @@ impl State {
         requires of { IsEndOf (setting_of setting.now) self.old }
         requires sound { IsSound setting.now.registry }
         requires stands { stands self.old.side ≡ true }
-        requires room { vec_len trace.old.answered < vec_capacity trace.old.answered }
         ensures received { OnOk result (self.new ≡ on_side (replied (setting_of setting.now) tid.now (answer_of answer)) self.old) }
         ensures counted { OnOk result (trace.new.references ≡ trace.old.references + length (refs_of_answer (answer_of answer))) }
         ensures began { trace.new.frames_made ≡ trace.old.frames_made }
@@ -166,14 +164,16 @@ impl State {
     }
 }
 
-/// A reply is counted with the objects that it refers to.
+/// A reply is counted with the objects that it refers to, and there is room for the root that it may answer.
 fn count_answer(alloc: Global, answer: &Answer, trace: &mut Trace) -> Result<(), NoMemory>
     ensures counted { OnOk result (trace.new.references ≡ trace.old.references + length (refs_of_answer (answer_of answer.now))) }
-    ensures answered { trace.new.answered ≡ trace.old.answered }
+    ensures room { OnOk result (vec_len trace.new.answered < vec_capacity trace.new.answered) }
+    ensures answered { trace.new.answered.items ≡ trace.old.answered.items }
     ensures frames { trace.new.frames_made ≡ trace.old.frames_made }
 {
     let references = refs_of_answer(alloc, answer)?.len();
     trace.count(references)?;
+    trace.answered.reserve(1)?;
     Ok(())
 }
 

@@ -1,10 +1,10 @@
 -- What is counted of namings one after the other.
-use Rattle.std.proofs.Common.{◌≡◌, ℕ, zero, suc, add-one, ◌+◌, ◌≤◌, ◌<◌, true, false, nat_lt, if◌then◌else◌, List, [], ◌∷◌, ◌++◌, length, drop, get_or, min, Option, None, Some, Result, Ok, Err, slice_get, refl, sym, ap, ◌∙◌, arith}
+use Rattle.std.proofs.Common.{◌≡◌, ℕ, zero, suc, add-one, ◌+◌, ◌≤◌, ◌<◌, true, false, nat_lt, ◌==◌, if◌then◌else◌, List, [], ◌∷◌, ◌++◌, length, map, drop, get_or, min, Option, None, Some, Result, Ok, Err, slice_get, refl, sym, ap, ◌∙◌, arith}
 use Rattle.std.proofs.lemmas.Bool.Decides.{nat_tests}
 use Rattle.std.proofs.lemmas.List.{at_drop_more, drop_all}
 use Rattle.std.specs.Borrow.{Bor}
 use Rattle.std.specs.Prelude.{OnOk}
-use Rattle.message_model.specs.Calls.{kinds_on}
+use Rattle.message_model.specs.Calls.{kinds_on, numbered}
 use Rattle.uno_entities.specs.TypeNames.{kind_of}
 use Rattle.uno_entities.specs.declared.entity.Field.{Field}
 use Rattle.uno_model.specs.Entities.{Entity, Param}
@@ -20,7 +20,7 @@ use Rattle.bridge_objects.specs.Kept.{Kept}
 use Rattle.uno_model.specs.Functions.{Function}
 use Rattle.bridge_tables.specs.Counted.{counted, with_stubs, carries, carried_by, one_or_none}
 use Rattle.message_model.specs.MessageNamings.{answer_namings, message_namings}
-use Rattle.message_model.specs.Messages.{Answer, returned, Message, release}
+use Rattle.message_model.specs.Messages.{Answer, returned, Message, release, reply}
 use Rattle.message_model.specs.Sayable.{result_of, outs_of}
 use Rattle.bridge_tables.specs.declared.counting.Phase.TheVariants.{Reply}
 use Rattle.uno_model.specs.Values.{plains}
@@ -156,3 +156,20 @@ pub answer_counted : (reg : List Entity) (o : Option Function) (x : Plain) (outs
     → counted (namings reg x (result_of o) ++ namings_each reg (plains outs) (carried_by Reply o)) now ≡ counted (answer_namings reg o a) now
 answer_counted reg o x outs a now is =
     ap (λ ks. counted (namings reg x (result_of o) ++ namings_each reg (plains outs) ks) now) (carried_out o) ∙ ap (λ b. counted (answer_namings reg o b) now) (sym is)
+
+-- a list of no length has nothing that is seen of it
+pub none_mapped : {A B : Type 0} (f : A → B) (xs : List A) (n : ℕ) → n ≡ length xs → (n == 0) ≡ true → map f xs ≡ []
+none_mapped f [] n long empty = refl
+none_mapped f (x ∷ xs) n long empty = let bad : ⊥ = grind (arith, nat_tests) in absurd bad
+
+-- a result alone that names nothing at any type makes an answer that names nothing
+pub result_alone : (a : Answer) (x : Plain) (outs : List Plain) → a ≡ returned x outs → outs ≡ [] → ((reg : List Entity) (k : Kind) → namings reg x k ≡ []) → (reg : List Entity) (o : Option Function) → answer_namings reg o a ≡ []
+unfolding namings_each
+result_alone a x outs is empty simple reg o = ap (answer_namings reg o) (is ∙ ap (returned x) empty) ∙ ap (λ ns. ns ++ []) (simple reg (result_of o))
+
+-- what names nothing counts nothing
+pub reply_counted : (reg : List Entity) (m : Message) (tid face : List ℕ) (number : ℕ) (a : Answer) (now : Kept) → m ≡ reply tid face number a → ((o : Option Function) → answer_namings reg o a ≡ [])
+    → now ≡ counted (message_namings reg m) now
+unfolding message_namings
+reply_counted reg m tid face number a now is nothing =
+    sym (ap (λ n. counted (message_namings reg n) now) is ∙ ap (λ ns. counted ns now) (nothing (numbered reg face number)) ∙ counted_none now)

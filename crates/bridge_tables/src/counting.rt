@@ -1,12 +1,14 @@
 //! The stubs count each sending of an own object.
-ghost use Rattle.std.specs.Prelude.{◌≡◌, ◌++◌, List, IfOk, OnOk, OnErr, map, option_map};
+ghost use Rattle.std.specs.Prelude.{◌≡◌, ◌++◌, List, [], Option, IfOk, IsTrue, OnOk, OnErr, map, option_map};
 ghost use Rattle.message_model.specs.Calls.{kinds_on, numbered};
 ghost use Rattle.message_model.specs.MessageNamings.{message_namings, answer_namings};
 ghost use Rattle.message_model.specs.Sayable.{result_of};
 ghost use Rattle.type_registry.specs.Functions.{lent_function, lent_param};
 ghost use Rattle.uno_entities.specs.TypeNames.{kind_of};
-ghost use Rattle.uno_model.specs.Entities.{Param};
+ghost use Rattle.uno_model.specs.Entities.{Entity, Param};
 ghost use Rattle.uno_model.specs.Fits.{member_kinds};
+ghost use Rattle.uno_model.specs.Functions.{Function};
+ghost use Rattle.uno_model.specs.Kinds.{Kind};
 ghost use Rattle.uno_model.specs.Sound.{IsSound};
 ghost use Rattle.uno_values.specs.Fitting.{kinds_at};
 ghost use Rattle.uno_values.specs.References.{ref_of};
@@ -59,9 +61,49 @@ pub(crate) fn count_message(
             answer,
             ..
         } => {
+            if is_simple_answer(answer) {
+                return Ok(());
+            }
             let function = function_numbered(registry, face.as_str(), *function);
             count_answer(alloc, registry, objects, &function, answer)
         }
+    }
+}
+
+/// Whether an answer is a result alone that can hold no reference.
+fn is_simple_answer(answer: &Answer) -> bool
+    ensures { IsTrue result → (reg : List Entity) (f : Option Function) → answer_namings reg f (answer_of answer.now) ≡ [] }
+{
+    let Answer::Returned { value, outs } = answer else {
+        return false;
+    };
+    if !outs.is_empty() {
+        return false;
+    }
+    is_simple(value)
+}
+
+/// Whether a value is of a kind that can hold no reference.
+#[tactic(auto, unfolding(urp_model::specs::Namings::namings))]
+fn is_simple(value: &Value) -> bool
+    ensures { IsTrue result → (reg : List Entity) (k : Kind) → namings reg (plain_of value.now) k ≡ [] }
+{
+    match value {
+        Value::Any(_) | Value::Tuple(_, _) | Value::List(_, _) | Value::Ref(_) => false,
+        Value::Void
+        | Value::Char(_)
+        | Value::Boolean(_)
+        | Value::Byte(_)
+        | Value::Short(_)
+        | Value::UnsignedShort(_)
+        | Value::Long(_)
+        | Value::UnsignedLong(_)
+        | Value::Hyper(_)
+        | Value::UnsignedHyper(_)
+        | Value::Str(_)
+        | Value::Kind(_)
+        | Value::Enum(_, _)
+        | Value::Bytes(_) => true,
     }
 }
 

@@ -4,8 +4,13 @@ use Rattle.uno_values.specs.Values.{plain_of}
 use Rattle.plan_types.specs.Frames.{variables_of}
 use Rattle.bridge_model.specs.Settings.{own_oid}
 use Rattle.bridge_setting.specs.Settings.{setting_of}
-use Rattle.bridge_frames.proofs.CallLemmas.{first_pushed, lasting_gained}
+use Rattle.bridge_frames.proofs.CallLemmas.{called_itself, first_pushed, lasting_gained}
 use Rattle.bridge_frames.proofs.calls.begin.Goals as goal
+
+pub hold_own-requires-clause-named : goal.hold_own-requires-clause-named
+hold_own-requires-clause-named c =
+    called_itself (setting_of c.args.setting.now) c.args.call.oid c.args.tables.now.tables.objects c.number_of-object.result
+    (c.number_of-object.ensures (setting_of c.args.setting.now) c.requires.of)
 
 pub returns-in_default-variables_of-clause-lost : goal.returns-in_default-variables_of-clause-lost
 returns-in_default-variables_of-clause-lost c =

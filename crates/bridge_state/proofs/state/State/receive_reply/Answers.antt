@@ -38,13 +38,13 @@ returns-clause-back c rooted =
     let here : HasRoots g (side_by s.tables s.stacks s.incoming s.outgoing s.entries s.cause) = subst (λ e. HasRoots g e.side) (sym c.self.view_is) rooted in
     let done = map answered_root c.args.trace.now.answered.items in
     noted_rests done _ (option_map answered_root c.in_ok-answered.answered) s.tables c.hand_from_peer.new.tables s.stacks c.hand_from_peer.new.stacks s.incoming s.outgoing s.entries s.cause c.args.self.now c.self.view_is
-    (c.note.ensures.noted ∙ ap (λ t. map answered_root t.items ++ option_to_list (option_map answered_root c.in_ok-answered.answered)) c.count_answer.ensures.answered)
+    (c.note.ensures.noted ∙ ap (λ xs. map answered_root xs ++ option_to_list (option_map answered_root c.in_ok-answered.answered)) c.count_answer.ensures.answered)
     (c.in_ok-answered.ensures.back (reply_gets g tid a (side_by s.tables s.stacks s.incoming s.outgoing s.entries s.cause) (frames_of tid c.pop.new.self) here
     (below_here tid s.stacks c.pop.new.self c.pop.ensures.below) (λ root gs is. sym (c.may_get.ensures root gs is) ∙ c.if-not-may_get.false)))
 
 pub returns-in_err-answered-clause-back : goal.returns-in_err-answered-clause-back
 returns-in_err-answered-clause-back c rooted =
     let s = c.self.inside in
-    ap (λ t. rests (on_tables (takes_roots_back (map answered_root t.items)) (side_by c.hand_from_peer.new.tables c.hand_from_peer.new.stacks s.incoming s.outgoing s.entries s.cause))) c.count_answer.ensures.answered
+    ap (λ xs. rests (on_tables (takes_roots_back (map answered_root xs)) (side_by c.hand_from_peer.new.tables c.hand_from_peer.new.stacks s.incoming s.outgoing s.entries s.cause))) c.count_answer.ensures.answered
     ∙ undone_so (map answered_root c.args.trace.now.answered.items) (side_by c.hand_from_peer.new.tables c.hand_from_peer.new.stacks s.incoming s.outgoing s.entries s.cause) c.args.self.now.side
     (lasting_so s.tables c.hand_from_peer.new.tables s.stacks c.hand_from_peer.new.stacks s.incoming s.outgoing s.entries s.cause c.args.self.now c.self.view_is c.in_err-answered.ensures.lost)
