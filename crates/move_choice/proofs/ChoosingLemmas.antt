@@ -1,4 +1,4 @@
--- The deed at a place among all of an end: those that stand in front of it are as many as are counted.
+-- The deed at a place among all of an end: those that stand in front of it are as many as are counted. And how many there are.
 use Rattle.std.proofs.Common.{◌≡◌, refl, sym, subst, ℕ, zero, suc, ◌+◌, ◌-◌, ◌<◌, ◌≤◌, ◌^◌, Bool, true, false, List, [], ◌∷◌, ◌++◌, length, map, slice_get, Option, None, Some, is_some, arith}
 use Rattle.bridge_laws.specs.Counting.{one_if}
 use Rattle.plan_model.specs.Frames.{Stack, nth_tid}
@@ -136,3 +136,49 @@ module _ (g h : Setting) (one other : Told) (rs : List Run) (c : Choices) (are :
       → slice_get (plain.one_if (may_carry other one) carries ++ plain.one_if (may_close h other one) closes) n4 ≡ Some d
   at_bytes_in n n1 n2 n3 n4 small most rest more left past after out then_on at =
       past_bytes_out n3 n4 out then_on (at_bytes_out n n1 n2 n3 small most rest more left past after at)
+
+-- ---- how many there are
+
+all_append : {X : Type 0} (xs ys : List X) → length (xs ++ ys) ≡ length xs + length ys
+all_append [] ys = omega arith
+all_append (x ∷ xs) ys = let tail : length (xs ++ ys) ≡ length xs + length ys = all_append xs ys in omega arith
+
+reaped_once : (o : Option ℕ) → length (reaping o) ≡ one_if (is_some o)
+reaped_once None = refl
+reaped_once (Some n) = refl
+
+once : (b : Bool) (x : Deed) → length (plain.one_if b x) ≡ one_if b
+once false x = refl
+once true x = refl
+
+module _ (g h : Setting) (one other : Told) (rs : List Run) where
+  abbrev inwards : List Deed
+  inwards = plain.one_if (may_carry other one) carries ++ plain.one_if (may_close h other one) closes
+
+  abbrev outwards : List Deed
+  outwards = plain.one_if (bytes_wait g one.side) drains ++ inwards
+
+  abbrev of_objects : List Deed
+  of_objects = reaping (may_reap g one.side) ++ outwards
+
+  abbrev of_roots : List Deed
+  of_roots = stepping g one.side 0 rs ++ of_objects
+
+  -- so many as each kind has
+  pub how_many : length (deeds g h one other rs)
+      ≡ length (applying one.side) + (length (stepping g one.side 0 rs) + (one_if (is_some (may_reap g one.side))
+      + (one_if (bytes_wait g one.side) + (one_if (may_carry other one) + one_if (may_close h other one)))))
+  unfolding deeds
+  how_many =
+      let all : length (applying one.side ++ of_roots) ≡ length (applying one.side) + length of_roots = all_append (applying one.side) of_roots in
+      let roots : length of_roots ≡ length (stepping g one.side 0 rs) + length of_objects = all_append (stepping g one.side 0 rs) of_objects in
+      let objects : length of_objects ≡ length (reaping (may_reap g one.side)) + length outwards = all_append (reaping (may_reap g one.side)) outwards in
+      let out : length outwards ≡ length (plain.one_if (bytes_wait g one.side) drains) + length inwards =
+      all_append (plain.one_if (bytes_wait g one.side) drains) inwards in
+      let ins : length inwards ≡ length (plain.one_if (may_carry other one) carries) + length (plain.one_if (may_close h other one) closes) =
+      all_append (plain.one_if (may_carry other one) carries) (plain.one_if (may_close h other one) closes) in
+      let object : length (reaping (may_reap g one.side)) ≡ one_if (is_some (may_reap g one.side)) = reaped_once (may_reap g one.side) in
+      let drain : length (plain.one_if (bytes_wait g one.side) drains) ≡ one_if (bytes_wait g one.side) = once (bytes_wait g one.side) drains in
+      let carry : length (plain.one_if (may_carry other one) carries) ≡ one_if (may_carry other one) = once (may_carry other one) carries in
+      let close : length (plain.one_if (may_close h other one) closes) ≡ one_if (may_close h other one) = once (may_close h other one) closes in
+      omega arith

@@ -1,6 +1,5 @@
 -- What may be done at an end, as code counts and names it.
-use Rattle.std.specs.Prelude.{◌≡◌, ℕ, ◌+◌, ◌-◌, ◌^◌, min, is_some, List, length, Some, slice_get}
-use Rattle.bridge_laws.specs.Counting.{one_if}
+use Rattle.std.specs.Prelude.{◌≡◌, ℕ, ◌-◌, ◌^◌, min, is_some, List, length, Some, slice_get}
 use Rattle.plan_model.specs.Roots.{Run}
 use Rattle.bridge_model.specs.Answers.{bytes_wait, may_reap, ready_at}
 use Rattle.bridge_model.specs.Histories.{Told}
@@ -23,10 +22,6 @@ pub record AreChoices (g h : Setting) (one other : Told) (rs : List Run) (c : Ch
   pub drains : c.drains ≡ bytes_wait g one.side
   pub carries : c.carries ≡ may_carry other one
   pub closes : c.closes ≡ may_close h other one
-
--- how much there is of all kinds
-abbrev pub all_of : Choices → ℕ
-all_of c = c.ready + (c.moving + (one_if c.reaps + (one_if c.drains + (one_if c.carries + one_if c.closes))))
 
 -- a deed as code names it: a thread by its place among those that are ready, and a root by its place among those that move
 abbrev pub IsDeed : Setting → Told → List Run → plain.Deed → Deed → Type 0

@@ -1,12 +1,12 @@
 //! What may be done at an end, in its order.
-ghost use Rattle.std.specs.Prelude.{◌≡◌, ◌-◌, ◌<◌, ◌^◌, List, Some, slice_get};
+ghost use Rattle.std.specs.Prelude.{◌≡◌, ◌-◌, ◌<◌, ◌^◌, List, Some, length, slice_get};
 ghost use Rattle.bridge_laws.specs.Counting.{one_if};
 ghost use Rattle.bridge_model.specs.Histories.{Told};
 ghost use Rattle.bridge_model.specs.Settings.{Setting};
 ghost use Rattle.pairing_model.specs.Moves as plain;
 ghost use Rattle.pairing_model.specs.Moves.{deeds};
 ghost use Rattle.plan_model.specs.Roots.{Run};
-ghost use Rattle.move_choice.specs.Choosing.{AreChoices, IsDeed, all_of, counted};
+ghost use Rattle.move_choice.specs.Choosing.{AreChoices, IsDeed, counted};
 
 /// One thing that may be done at an end.
 #[derive(Clone, Copy)]
@@ -39,7 +39,7 @@ pub struct Choices {
 impl Choices {
     /// How many deeds there are.
     pub fn count(&self) -> u32
-        ensures { result ≡ counted (all_of self.now) }
+        ensures { (g h : Setting) (one other : Told) (rs : List Run) → AreChoices g h one other rs self.now → result ≡ counted (length (deeds g h one other rs)) }
     {
         self.ready
             .saturating_add(self.moving)
