@@ -1,3 +1,4 @@
+pub mod CheckLemmas
 pub mod Different
 pub mod FindLemmas
 pub mod FunctionLemmas

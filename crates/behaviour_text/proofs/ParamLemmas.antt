@@ -14,7 +14,10 @@ use Rattle.plan_lines.specs.Terms.{term_of}
 use Rattle.plan_lines.specs.declared.term.Term.{Term}
 use Rattle.plan_types.specs.Expressions as rust
 use Rattle.plan_types.specs.declared.expression.Argument as given
-use Rattle.behaviour_text.specs.Typed.{told_list}
+use Rattle.behaviour_text.proofs.CheckLemmas.{misfit_so}
+use Rattle.behaviour_text.specs.Checks.{MisfitBy}
+use Rattle.behaviour_text.specs.Typed.{behind_list}
+use Rattle.behaviour_text.specs.declared.line_error.LineError.{LineError}
 
 -- parameters from a place on
 params_at : (ps : List Param) (i : ℕ) (p : Param) → i < length ps → p ≡ get_or ps i p → map param_of (drop i ps) ≡ param_of p ∷ map param_of (drop (i + 1) ps)
@@ -44,14 +47,11 @@ param_end ps i old target past so_far =
 
 -- ---- arguments
 
-abbrev pub prepend : List e.Argument → Option (List e.Argument) → Option (List e.Argument)
-prepend xs others = option_map (λ rest. xs ++ rest) others
-
 abbrev views : List given.Argument → List e.Argument
 views xs = map rust.argument_of xs
 
 one_more : (xs ys : List e.Argument) (x : e.Argument) (found : Option e.Argument) (others : Option (List e.Argument)) → found ≡ Some x → ys ≡ xs ++ x ∷ []
-    → prepend ys others ≡ prepend xs (both_values found others (λ a rest. Some (a ∷ rest)))
+    → behind_list ys others ≡ behind_list xs (both_values found others (λ a rest. Some (a ∷ rest)))
 one_more xs ys x found None is pushed = rw is refl
 one_more xs ys x found (Some rest) is pushed = rw is (ap Some (ap (λ zs. zs ++ rest) pushed ∙ append_assoc xs (x ∷ []) rest))
 
@@ -64,34 +64,48 @@ module _ (reg : List plain.Entity) (c : Context) where
   unfolding arguments_of
   none_of p ps = refl
 
-  done_of : (ts : List Term) (xs : List e.Argument) (is : Bool) → is ≡ (length ts == 0) → told_list is xs ≡ prepend xs (arguments_of reg c [] (map term_of ts))
+  done_of : (xs : List e.Argument) → behind_list xs (arguments_of reg c [] []) ≡ Some xs
   unfolding arguments_of
-  done_of [] xs is e = rw e (ap Some (sym (append-nil xs)))
-  done_of (t ∷ ts) xs is e = let some : (length (t ∷ ts) == 0) ≡ false = grind arith in rw (e, some) refl
+  done_of xs = ap Some (append-nil xs)
+
+  over_of : (t : line.Term) (ts : List line.Term) (xs : List e.Argument) → behind_list xs (arguments_of reg c [] (t ∷ ts)) ≡ None
+  unfolding arguments_of
+  over_of t ts xs = refl
 
   module _ (ps : List Param) (i : ℕ) (rest : List Term) (target : Option (List e.Argument)) where
     pub argument_lacks : (p : Param) (xs : List e.Argument) → i < length ps → p ≡ get_or ps i p → rest ≡ []
-        → prepend xs (arguments_of reg c (map param_of (drop i ps)) (map term_of rest)) ≡ target → None ≡ target
-    argument_lacks p xs within is lacks so_far = sym (rw (params_at ps i p within is, lacks, none_of (param_of p) (map param_of (drop (i + 1) ps))) refl) ∙ so_far
+        → behind_list xs (arguments_of reg c (map param_of (drop i ps)) (map term_of rest)) ≡ target → target ≡ None
+    argument_lacks p xs within is lacks so_far = sym so_far ∙ rw (params_at ps i p within is, lacks, none_of (param_of p) (map param_of (drop (i + 1) ps))) refl
 
-    pub argument_stops : (p : Param) (t : Term) (behind : List Term) (found : Option given.Argument) (xs : List e.Argument) → i < length ps → p ≡ get_or ps i p → rest ≡ t ∷ behind
-        → option_map rust.argument_of found ≡ argument_of reg c (param_of p) (term_of t) → found ≡ None
-        → prepend xs (arguments_of reg c (map param_of (drop i ps)) (map term_of rest)) ≡ target → None ≡ target
-    argument_stops p t behind found xs within is cut fits lacks so_far =
-        let lost : argument_of reg c (param_of p) (term_of t) ≡ None = sym fits ∙ ap (option_map rust.argument_of) lacks in
-        sym (rw (params_at ps i p within is, cut, more_of (param_of p) (map param_of (drop (i + 1) ps)) (term_of t) (map term_of behind), lost) refl) ∙ so_far
+    pub argument_stops : (p : Param) (t : Term) (behind : List Term) (error : LineError) (xs : List e.Argument) → i < length ps → p ≡ get_or ps i p → rest ≡ t ∷ behind
+        → MisfitBy error (argument_of reg c (param_of p) (term_of t))
+        → behind_list xs (arguments_of reg c (map param_of (drop i ps)) (map term_of rest)) ≡ target → MisfitBy error target
+    argument_stops p t behind error xs within is cut misfit so_far =
+        misfit_so error (argument_of reg c (param_of p) (term_of t)) target
+        (λ lost. sym so_far ∙ rw (params_at ps i p within is, cut, more_of (param_of p) (map param_of (drop (i + 1) ps)) (term_of t) (map term_of behind), lost) refl) misfit
 
-    pub argument_goes : (p : Param) (t : Term) (behind : List Term) (found : Option given.Argument) (a : given.Argument) (xs ys : List given.Argument) → i < length ps → p ≡ get_or ps i p
-        → rest ≡ t ∷ behind → option_map rust.argument_of found ≡ argument_of reg c (param_of p) (term_of t) → found ≡ Some a → ys ≡ xs ++ a ∷ []
-        → prepend (views xs) (arguments_of reg c (map param_of (drop i ps)) (map term_of rest)) ≡ target
-        → prepend (views ys) (arguments_of reg c (map param_of (drop (i + 1) ps)) (map term_of behind)) ≡ target
-    argument_goes p t behind found a xs ys within is cut fits some pushed so_far =
-        let one : argument_of reg c (param_of p) (term_of t) ≡ Some (rust.argument_of a) = sym fits ∙ ap (option_map rust.argument_of) some in
+    pub argument_goes : (p : Param) (t : Term) (behind : List Term) (a : given.Argument) (xs ys : List given.Argument) → i < length ps → p ≡ get_or ps i p
+        → rest ≡ t ∷ behind → argument_of reg c (param_of p) (term_of t) ≡ Some (rust.argument_of a) → ys ≡ xs ++ a ∷ []
+        → behind_list (views xs) (arguments_of reg c (map param_of (drop i ps)) (map term_of rest)) ≡ target
+        → behind_list (views ys) (arguments_of reg c (map param_of (drop (i + 1) ps)) (map term_of behind)) ≡ target
+    argument_goes p t behind a xs ys within is cut one pushed so_far =
         one_more (views xs) (views ys) (rust.argument_of a) (argument_of reg c (param_of p) (term_of t)) (arguments_of reg c (map param_of (drop (i + 1) ps)) (map term_of behind)) one
         (ap views pushed ∙ map-append rust.argument_of xs (a ∷ []))
-        ∙ ap (prepend (views xs)) (sym (more_of (param_of p) (map param_of (drop (i + 1) ps)) (term_of t) (map term_of behind)))
+        ∙ ap (behind_list (views xs)) (sym (more_of (param_of p) (map param_of (drop (i + 1) ps)) (term_of t) (map term_of behind)))
         ∙ (rw (params_at ps i p within is, cut) at so_far)
 
-    pub argument_ends : (xs : List e.Argument) (is : Bool) → length ps ≤ i → is ≡ (length rest == 0)
-        → prepend xs (arguments_of reg c (map param_of (drop i ps)) (map term_of rest)) ≡ target → told_list is xs ≡ target
-    argument_ends xs is past e so_far = done_of rest xs is e ∙ (rw (drop_all i ps past) at so_far)
+    pub argument_left : (xs : List e.Argument) → length ps ≤ i → (length rest == 0) ≡ false
+        → behind_list xs (arguments_of reg c (map param_of (drop i ps)) (map term_of rest)) ≡ target → target ≡ None
+    argument_left xs past some so_far = by rest some (rw (drop_all i ps past) at so_far)
+      where
+        by : (ts : List Term) → (length ts == 0) ≡ false → behind_list xs (arguments_of reg c [] (map term_of ts)) ≡ target → target ≡ None
+        by [] left is = absurd cc
+        by (t ∷ ts) left is = sym is ∙ over_of (term_of t) (map term_of ts) xs
+
+    pub argument_ends : (xs : List e.Argument) → length ps ≤ i → (length rest == 0) ≡ true
+        → behind_list xs (arguments_of reg c (map param_of (drop i ps)) (map term_of rest)) ≡ target → target ≡ Some xs
+    argument_ends xs past all_read so_far = by rest all_read (rw (drop_all i ps past) at so_far)
+      where
+        by : (ts : List Term) → (length ts == 0) ≡ true → behind_list xs (arguments_of reg c [] (map term_of ts)) ≡ target → target ≡ Some xs
+        by [] read is = sym is ∙ done_of xs
+        by (t ∷ ts) read is = let some : (length (t ∷ ts) == 0) ≡ false = grind arith in absurd cc

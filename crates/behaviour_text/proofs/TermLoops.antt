@@ -26,6 +26,9 @@ pub record Tests (one : plain.Term → Bool) (all : plain.Terms → Bool) : Type
   pub cons : (t : plain.Term) (ts : plain.Terms) → all (more t ts) ≡ (one t && all ts)
 
 module _ {one : plain.Term → Bool} {all : plain.Terms → Bool} (tests : Tests one all) where
+  pub fails_at : (ts : List Term) (i : ℕ) (t : Term) → i < length ts → t ≡ get_or ts i t → one (term_of t) ≡ false → all (terms_of (drop i ts)) ≡ false
+  fails_at ts i t within is fails = rw (terms_at ts i t within is, tests.cons (term_of t) (terms_of (drop (i + 1) ts)), fails) refl
+
   pub stops : (ts : List Term) (i : ℕ) (t : Term) → i < length ts → t ≡ get_or ts i t → false ≡ one (term_of t) → false ≡ all (terms_of (drop i ts))
   stops ts i t within is fails = rw (terms_at ts i t within is, tests.cons (term_of t) (terms_of (drop (i + 1) ts)), ← fails) refl
 

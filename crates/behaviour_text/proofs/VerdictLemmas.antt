@@ -1,14 +1,22 @@
 -- What comes of a text by its front: its size, and its first line.
-use Rattle.std.proofs.Common.{◌≡◌, ◌≢◌, ℕ, ◌+◌, ◌<◌, ◌≤◌, suc, nat_lt, Bool, true, false, List, [], ◌∷◌, length, refl, sym, ap, ◌∙◌, arith}
-use Rattle.std.specs.Prelude.{Result, Err}
+use Rattle.std.proofs.Common.{◌≡◌, ◌≢◌, ℕ, ◌+◌, ◌<◌, ◌≤◌, suc, nat_lt, Bool, true, false, List, [], ◌∷◌, length, refl, sym, ap, subst, ◌∙◌, arith}
+use Rattle.std.specs.Prelude.{Result, Ok, Err, IfOk}
 use Rattle.std.specs.Str.{bytes_eq}
 use Rattle.plan_model.specs.Contexts.{opening}
-use Rattle.plan_model.specs.Keeps.{is_too_large, Wrong}
+use Rattle.plan_model.specs.Keeps.{is_too_large, IsTextOf, IsVerdict, Wrong}
 use Rattle.plan_model.specs.Plans.{Plan}
 use Rattle.plan_model.specs.PlanText.{behind_blanks, first_line, lines_of, said_from}
+use Rattle.plan_model.specs.declared.line_reason.LineReason.{LineReason}
 use Rattle.plan_model.specs.declared.line_reason.LineReason.TheVariants.{Form}
+use Rattle.plan_reading_model.proofs.TextVerdicts.{read_verdict}
 use Rattle.plan_reading_model.specs.TextReading.{comes, verdict, verdict_by}
+use Rattle.plan_types.specs.Plans.{plan_of}
+use Rattle.plan_types.specs.declared.plan.Plan as rust
 use Rattle.uno_model.specs.Entities.{Entity}
+use Rattle.uno_model.specs.Sound.{IsSound}
+use Rattle.behaviour_text.specs.Reading.{Reads}
+use Rattle.behaviour_text.specs.declared.error.PlanError.{PlanError}
+use Rattle.behaviour_text.specs.declared.error.PlanError.TheVariants as error
 
 -- a text within the limit is not too large
 small : (bytes : List ℕ) → length bytes ≤ 4194304 → is_too_large bytes ≡ false
@@ -56,3 +64,16 @@ rest_within [] first rest within less none begins = no_front first (none refl) b
 rest_within (c ∷ cs) first rest within less none begins =
     let fewer : length rest < length (c ∷ cs) = less (λ e. absurd (cc)) in
     omega (arith, within, fewer)
+
+-- ---- what is read is what the rules say of the text
+
+module _ (reg : List Entity) (text : List ℕ) (r : Result rust.Plan PlanError) (sound : IsSound reg) (reads : Reads r (verdict reg text)) where
+  pub plan_read : IfOk r (λ p. IsTextOf reg text (plan_of p))
+  plan_read = of r reads
+    where
+      of : (answer : Result rust.Plan PlanError) → Reads answer (verdict reg text) → IfOk answer (λ p. IsTextOf reg text (plan_of p))
+      of (Ok p) is = read_verdict reg text (Ok (plan_of p)) sound.named is
+      of (Err e) is = tt
+
+  pub refusal_read : (n : ℕ) (why : LineReason) → r ≡ Err (error.BadLine n why) → IsVerdict reg text (Err (record { line = n; reason = why }))
+  refusal_read n why is = read_verdict reg text (Err (record { line = n; reason = why })) sound.named (subst (λ answer. Reads answer (verdict reg text)) is reads)

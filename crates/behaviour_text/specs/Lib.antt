@@ -1,3 +1,4 @@
+pub mod Checks
 pub mod Constructors
 pub mod Contexts
 pub mod Indexes

@@ -1,7 +1,7 @@
 -- What terms are at types, as it is found one after the other.
-use Rattle.std.specs.Prelude.{Bool, true, false, List, [], ◌∷◌, Option, None, Some}
+use Rattle.std.specs.Prelude.{List, [], ◌∷◌, ◌++◌, Option}
 use Rattle.std.specs.Option.{option_map}
-use Rattle.plan_model.specs.Expressions.{Expression, Expressions, more, expressions}
+use Rattle.plan_model.specs.Expressions.{Expression, Expressions, more}
 use Rattle.plan_model.specs.Expressions as e
 use Rattle.uno_model.specs.Kinds.{Kind}
 use Rattle.uno_model.specs.Kinds as kd
@@ -19,11 +19,5 @@ in_front (x ∷ xs) rest = more x (in_front xs rest)
 abbrev pub behind_all : List Expression → Option Expressions → Option Expressions
 behind_all xs rest = option_map (in_front xs) rest
 
--- the expressions, where all fit
-abbrev pub told : Bool → List Expression → Option Expressions
-told true xs = Some (expressions xs)
-told false xs = None
-
-abbrev pub told_list : {X : Type 0} → Bool → List X → Option (List X)
-told_list true xs = Some xs
-told_list false xs = None
+abbrev pub behind_list : {X : Type 0} → List X → Option (List X) → Option (List X)
+behind_list xs rest = option_map (λ ys. xs ++ ys) rest

@@ -20,8 +20,8 @@ ghost use Rattle.behaviour_text.specs.Variables.{scoped_of};
 use crate::context::{Block, Context, OpenBehaviour, OpenMethod};
 use crate::fields::Fields;
 use crate::functions::declared_function;
+use crate::kinds::type_named;
 use crate::scope::{Scope, Scoped};
-use crate::statements::declared_field;
 use plan_lines::Declared;
 use plan_types::{Behaviour, Method, Offer, RootStatement};
 use std::alloc::Global;
@@ -49,19 +49,14 @@ pub(crate) fn open_behaviour(
 fn behaviour_of(alloc: Global, name: &Name, faces: &[Name]) -> Result<OpenBehaviour, NoMemory>
     ensures { IfOk result (λ b. open_of b ≡ record { name = name.now; faces = faces.now; fields = []; methods = [] }) }
 {
+    let name = name.copy()?;
     let faces = copy_names(alloc, faces)?;
-    match name.copy() {
-        Ok(name) => Ok(OpenBehaviour {
-            name,
-            faces,
-            fields: Fields::new(alloc),
-            methods: Vec::new(alloc),
-        }),
-        Err(error) => {
-            drop(faces);
-            Err(error)
-        }
-    }
+    Ok(OpenBehaviour {
+        name,
+        faces,
+        fields: Fields::new(alloc),
+        methods: Vec::new(alloc),
+    })
 }
 
 /// A field more of the open behaviour.
@@ -74,8 +69,9 @@ pub(crate) fn add_field(
     requires { IsSound registry.now }
     ensures { OnOk result (context_of context.new ≡ with_field (context_of context.old).block declared.now.name (type_of_text registry.now declared.now.kind) (context_of context.old)) }
 {
-    match declared_field(alloc, registry, declared)? {
-        Some(field) => push_field(alloc, &mut context.block, field),
+    let name = declared.name.copy()?;
+    match type_named(alloc, registry, &declared.kind)? {
+        Some(kind) => push_field(alloc, &mut context.block, Field { name, kind }),
         None => Ok(()),
     }
 }
@@ -117,22 +113,10 @@ fn open_with(
 ) -> Result<(), NoMemory>
     ensures { OnOk result (context_of context.new ≡ opens_method (context_of context.old).block face.now name.now (Some (function_of function)) (context_of context.old)) }
 {
-    match parameters(alloc, &function.params) {
-        Ok(variables) => match method_of(alloc, face, name, function) {
-            Ok(opened) => {
-                enter(context, opened, variables);
-                Ok(())
-            }
-            Err(error) => {
-                drop(variables);
-                Err(error)
-            }
-        },
-        Err(error) => {
-            drop(function);
-            Err(error)
-        }
-    }
+    let method = method_of(alloc, face, name)?;
+    let variables = parameters(alloc, &function.params)?;
+    enter(context, OpenMethod { method, function }, variables);
+    Ok(())
 }
 
 /// The parameters of a function as variables.
@@ -151,17 +135,12 @@ fn parameter(alloc: Global, param: &Param) -> Result<Scoped, NoMemory>
     ensures { IfOk result (λ x. scoped_of x ∷ [] ≡ parameters (param_of param.now ∷ [])) }
 {
     let name = param.name.copy()?;
-    match param.kind.copy(alloc) {
-        Ok(kind) => Ok(Scoped {
-            name,
-            kind,
-            comes_out: comes(param.way),
-        }),
-        Err(error) => {
-            drop(name);
-            Err(error)
-        }
-    }
+    let kind = param.kind.copy(alloc)?;
+    Ok(Scoped {
+        name,
+        kind,
+        comes_out: comes(param.way),
+    })
 }
 
 /// Whether the value of a parameter comes out.
@@ -175,39 +154,16 @@ fn comes(way: Way) -> bool
 }
 
 /// A method of which no statement is read.
-fn method_of(
-    alloc: Global,
-    face: &Name,
-    name: &Name,
-    function: Function,
-) -> Result<OpenMethod, NoMemory>
-    ensures method { IfOk result (λ opened. method_of opened.method ≡ record { face = face.now; function = name.now; body = [] }) }
-    ensures function { IfOk result (λ opened. function_of opened.function ≡ function_of function) }
-{
-    match empty_method(alloc, face, name) {
-        Ok(method) => Ok(OpenMethod { method, function }),
-        Err(error) => {
-            drop(function);
-            Err(error)
-        }
-    }
-}
-
-fn empty_method(alloc: Global, face: &Name, name: &Name) -> Result<Method, NoMemory>
+fn method_of(alloc: Global, face: &Name, name: &Name) -> Result<Method, NoMemory>
     ensures { IfOk result (λ method. method_of method ≡ record { face = face.now; function = name.now; body = [] }) }
 {
     let face = face.copy()?;
-    match name.copy() {
-        Ok(function) => Ok(Method {
-            face,
-            function,
-            body: Vec::new(alloc),
-        }),
-        Err(error) => {
-            drop(face);
-            Err(error)
-        }
-    }
+    let function = name.copy()?;
+    Ok(Method {
+        face,
+        function,
+        body: Vec::new(alloc),
+    })
 }
 
 /// The block of the method in the open behaviour, with the variables that it begins with.

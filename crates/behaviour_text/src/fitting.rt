@@ -9,59 +9,47 @@ ghost use Rattle.plan_model.specs.TypedStatements.{supports_named};
 ghost use Rattle.uno_model.specs.Codes.{same_kind};
 ghost use Rattle.uno_model.specs.Kinds as kd;
 ghost use Rattle.uno_model.specs.Registry.{find_entity};
-ghost use Rattle.uno_model.specs.Sound.{IsSound};
 ghost use Rattle.uno_entities.specs.Entities.{body_of, constructor_of, entity_of, field_of};
 ghost use Rattle.uno_entities.specs.TypeNames.{kind_of};
-ghost use Rattle.behaviour_text.specs.Contexts.{block_of, context_of};
+ghost use Rattle.behaviour_text.specs.Checks.{before};
 ghost use Rattle.behaviour_text.specs.Constructors.{is_among};
 ghost use Rattle.behaviour_text.specs.LentBehaviours.{lent_behaviour};
 
 use crate::behaviours::{BehaviourRef, behaviour_named};
-use crate::context::{Block, Context};
+use crate::checker::Checker;
+use crate::context::Block;
 use crate::kinds::same_kind;
-use crate::statements::{supports, supports_named};
 use uno_types::{Body, Constructor, Entity, Field, Name, Registry, Service, Singleton, TypeName};
 
-/// A method is of a behaviour that supports the interface.
-pub(crate) fn method_fits(registry: &Registry, block: &Block, face: &Name) -> bool
-    requires { IsSound registry.now }
-    ensures { result ≡ method_fits registry.now (block_of block.now) face.now }
-{
-    let Block::Behaviour(behaviour) = block else {
-        return false;
-    };
-    supports(registry, &behaviour.faces, face.as_str())
-}
-
-/// A singleton's behaviour supports its interface.
-pub(crate) fn singleton_fits(
-    registry: &Registry,
-    context: &Context,
-    name: &Name,
-    behaviour: &Name,
-) -> bool
-    requires { IsSound registry.now }
-    ensures { result ≡ supports_named registry.now (plain.behaviour_named (context_of context.now) behaviour.now) (base_of (find_entity name.now registry.now)) }
-{
-    let base = base_of(registry, name);
-    supports_named(registry, behaviour_named(context, behaviour.as_str()), base)
-}
-
-/// A service's behaviour supports its interface, and has a field for each parameter of its constructors.
-pub(crate) fn service_fits(
-    registry: &Registry,
-    context: &Context,
-    name: &Name,
-    behaviour: &Name,
-) -> bool
-    requires { IsSound registry.now }
-    ensures { result ≡ service_fits registry.now (plain.behaviour_named (context_of context.now) behaviour.now) (find_entity name.now registry.now) }
-{
-    let behaviour = behaviour_named(context, behaviour.as_str());
-    if !supports_named(registry, behaviour, base_of(registry, name)) {
-        return false;
+impl Checker<'_> {
+    /// A method is of a behaviour that supports the interface.
+    pub(crate) fn method_fits(&self, face: &Name) -> bool
+        ensures { result ≡ method_fits self.now.registry.now (before self.now).block face.now }
+    {
+        let Block::Behaviour(behaviour) = &self.context.block else {
+            return false;
+        };
+        self.supports(&behaviour.faces, face.as_str())
     }
-    serves_all(behaviour, constructors_of(registry, name))
+
+    /// A singleton's behaviour supports its interface.
+    pub(crate) fn singleton_fits(&self, name: &Name, behaviour: &Name) -> bool
+        ensures { result ≡ supports_named self.now.registry.now (plain.behaviour_named (before self.now) behaviour.now) (base_of (find_entity name.now self.now.registry.now)) }
+    {
+        let behaviour = behaviour_named(self.context, behaviour.as_str());
+        self.supports_named(behaviour, base_of(self.registry, name))
+    }
+
+    /// A service's behaviour supports its interface, and has a field for each parameter of its constructors.
+    pub(crate) fn service_fits(&self, name: &Name, behaviour: &Name) -> bool
+        ensures { result ≡ service_fits self.now.registry.now (plain.behaviour_named (before self.now) behaviour.now) (find_entity name.now self.now.registry.now) }
+    {
+        let behaviour = behaviour_named(self.context, behaviour.as_str());
+        if !self.supports_named(behaviour, base_of(self.registry, name)) {
+            return false;
+        }
+        serves_all(behaviour, constructors_of(self.registry, name))
+    }
 }
 
 /// The name of the interface of a service or a singleton of the new form; that of what is neither is empty.

@@ -1,14 +1,17 @@
 //! Functions by their names.
-ghost use Rattle.std.specs.Prelude.{◌≡◌, ℕ, List, ◌++◌, ◌∷◌, [], ◌<◌, None, drop, length, map, option_map, slice_get, IfOk, IfSome, MatchOption};
+ghost use Rattle.std.specs.Prelude.{◌≡◌, ℕ, List, ◌++◌, ◌∷◌, [], ◌<◌, None, drop, length, map, option_map, slice_get, IfOk, IfSome, MatchOption, is_some};
 ghost use Rattle.std.specs.List.{find, flat_map};
 ghost use Rattle.std.specs.Str.{bytes_eq};
 ghost use Rattle.plan_model.specs.Contexts.{declared_function, called_function};
 ghost use Rattle.uno_model.specs.Functions.{accessors_of, calls_of, declared_in, functions_of, setter};
-ghost use Rattle.uno_model.specs.Sound.{IsSound};
 ghost use Rattle.type_registry.specs.Functions.{function_of, functions_at, lent_function};
 ghost use Rattle.uno_entities.specs.Entities.{attribute_of, body_of, member_of};
+ghost use Rattle.plan_model.specs.declared.line_reason.LineReason.TheVariants.{Unknown};
+ghost use Rattle.behaviour_text.specs.Checks.{Gives, Passes};
 
-use std::alloc::Global;
+use crate::checker::Checker;
+use crate::line_error::LineError;
+use plan_types::LineReason;
 use type_registry::{Function, FunctionRef, TableError, function_table};
 use uno_base::NoMemory;
 use uno_types::{Attribute, Body, Entity, Member, Name, Registry};
@@ -126,33 +129,40 @@ fn behind_prefix<'a>(prefix: &str, text: &'a str) -> Option<&'a str>
     text.strip_prefix(prefix)
 }
 
-/// The function of this name that a call of an interface may name.
-#[tactic(auto, unfolding(plan_model::specs::Contexts::called_function))]
-pub(crate) fn called_function(
-    alloc: Global,
-    registry: &Registry,
-    face: &str,
-    name: &str,
-) -> Result<Option<Function>, NoMemory>
-    requires { IsSound registry.now }
-    ensures { IfOk result (λ found. option_map function_of found ≡ called_function registry.now face.now name.now) }
-{
-    let mut table = functions_of(alloc, registry, face)?;
-    let Some(place) = place_of(&table, name) else {
-        return Ok(None);
-    };
-    Ok(Some(table.swap_remove(place)))
-}
+impl Checker<'_> {
+    /// The function of this name that a call of an interface may name.
+    #[tactic(auto, unfolding(plan_model::specs::Contexts::called_function))]
+    pub(crate) fn called_function(&self, face: &str, name: &str) -> Result<Function, LineError>
+        ensures { Gives function_of result (called_function self.now.registry.now face.now name.now) }
+    {
+        let mut table = self.functions_of(face)?;
+        let Some(place) = place_of(&table, name) else {
+            return Err(LineError::Wrong(LineReason::Misfit));
+        };
+        Ok(table.swap_remove(place))
+    }
 
-/// The functions of an interface; what is none has none.
-fn functions_of(alloc: Global, registry: &Registry, face: &str) -> Result<Vec<Function>, NoMemory>
-    requires { IsSound registry.now }
-    ensures { IfOk result (λ table. functions_at table.items ≡ functions_of registry.now face.now) }
-{
-    match function_table(alloc, registry, face) {
-        Ok(table) => Ok(table),
-        Err(TableError::NoMemory) => Err(NoMemory),
-        Err(TableError::NotInterface) => Ok(Vec::new(alloc)),
+    /// Refuses a name that no function has which a call of the interface may name.
+    #[tactic(auto, unfolding(plan_model::specs::Contexts::called_function))]
+    pub(crate) fn knows_function(&self, face: &str, name: &str) -> Result<(), LineError>
+        ensures { Passes Unknown result (is_some (called_function self.now.registry.now face.now name.now)) }
+    {
+        let table = self.functions_of(face)?;
+        match place_of(&table, name) {
+            Some(_) => Ok(()),
+            None => Err(LineError::Wrong(LineReason::Unknown)),
+        }
+    }
+
+    /// The functions of an interface; what is none has none.
+    fn functions_of(&self, face: &str) -> Result<Vec<Function>, NoMemory>
+        ensures { IfOk result (λ table. functions_at table.items ≡ functions_of self.now.registry.now face.now) }
+    {
+        match function_table(self.alloc, self.registry, face) {
+            Ok(table) => Ok(table),
+            Err(TableError::NoMemory) => Err(NoMemory),
+            Err(TableError::NotInterface) => Ok(Vec::new(self.alloc)),
+        }
     }
 }
 

@@ -11,8 +11,13 @@ ghost use Rattle.uno_model.specs.NamedTypes.{type_of_text};
 ghost use Rattle.uno_model.specs.Reaches.{is_base_of};
 ghost use Rattle.uno_model.specs.Sound.{IsSound};
 ghost use Rattle.uno_entities.specs.TypeNames.{kind_of};
+ghost use Rattle.plan_model.specs.declared.line_reason.LineReason.TheVariants.{Unknown};
+ghost use Rattle.behaviour_text.specs.Checks.{Gives, Passes};
 ghost use Rattle.behaviour_text.specs.Lent.{lent_kind};
 
+use crate::checker::Checker;
+use crate::line_error::LineError;
+use plan_types::LineReason;
 use std::alloc::Global;
 use uno_base::NoMemory;
 use uno_types::{Name, Registry, TypeName};
@@ -58,40 +63,109 @@ pub(crate) fn type_named(
     registry.type_named(alloc, text.as_str())
 }
 
-/// Whether a type has this name.
-pub(crate) fn is_type_known(
-    alloc: Global,
-    registry: &Registry,
-    text: &Name,
-) -> Result<bool, NoMemory>
-    requires { IsSound registry.now }
-    ensures { IfOk result (λ is. is ≡ is_type_known registry.now text.now) }
-{
-    let kind = type_named(alloc, registry, text)?;
-    Ok(kind.is_some())
-}
-
-/// The name of the interface that has this name as a type.
-pub(crate) fn face_named(
-    alloc: Global,
-    registry: &Registry,
-    text: &Name,
-) -> Result<Option<Name>, NoMemory>
-    requires { IsSound registry.now }
-    ensures { IfOk result (λ found. found ≡ face_of_text registry.now text.now) }
-{
-    match type_named(alloc, registry, text)? {
-        Some(kind) => Ok(kind.into_interface()),
-        None => Ok(None),
+impl Checker<'_> {
+    /// The type of this name.
+    pub(crate) fn type_named(&self, text: &Name) -> Result<TypeName, LineError>
+        ensures { Gives kind_of result (type_of_text self.now.registry.now text.now) }
+    {
+        match type_named(self.alloc, self.registry, text)? {
+            Some(kind) => Ok(kind),
+            None => Err(LineError::Wrong(LineReason::Misfit)),
+        }
     }
-}
 
-/// Whether the one interface is the other, or a base of it.
-pub(crate) fn is_base_of(registry: &Registry, base: &str, name: &str) -> bool
-    requires { IsSound registry.now }
-    ensures { result ≡ is_base_of registry.now base.now name.now }
-{
-    registry.has_base(base, name)
+    /// Refuses a name that no type has.
+    pub(crate) fn knows_type(&self, text: &Name) -> Result<(), LineError>
+        ensures { Passes Unknown result (is_type_known self.now.registry.now text.now) }
+    {
+        match type_named(self.alloc, self.registry, text)? {
+            Some(kind) => {
+                drop(kind);
+                Ok(())
+            }
+            None => Err(LineError::Wrong(LineReason::Unknown)),
+        }
+    }
+
+    /// The name of the interface that has this name as a type.
+    pub(crate) fn face_named(&self, text: &Name) -> Result<Name, LineError>
+        ensures { Gives (λ name. name) result (face_of_text self.now.registry.now text.now) }
+    {
+        let kind = self.type_named(text)?;
+        match kind.into_interface() {
+            Some(name) => Ok(name),
+            None => Err(LineError::Wrong(LineReason::Misfit)),
+        }
+    }
+
+    /// Whether the one interface is the other, or a base of it.
+    pub(crate) fn is_base_of(&self, base: &str, name: &str) -> bool
+        ensures { result ≡ is_base_of self.now.registry.now base.now name.now }
+    {
+        self.registry.has_base(base, name)
+    }
+
+    /// Whether a value of the one type fits a place of the wanted one.
+    pub(crate) fn kind_fits(&self, wanted: &TypeName, from: LentKind<'_>) -> bool
+        ensures { result ≡ kind_fits self.now.registry.now (kind_of wanted.now) (lent_kind from.entry) }
+    {
+        match wanted {
+            TypeName::Interface(wanted) => self.interface_fits(wanted, from),
+            TypeName::Void
+            | TypeName::Char
+            | TypeName::Boolean
+            | TypeName::Byte
+            | TypeName::Short
+            | TypeName::UnsignedShort
+            | TypeName::Long
+            | TypeName::UnsignedLong
+            | TypeName::Hyper
+            | TypeName::UnsignedHyper
+            | TypeName::Str
+            | TypeName::Kind
+            | TypeName::Any
+            | TypeName::Enum(_)
+            | TypeName::Struct(_)
+            | TypeName::Exception(_)
+            | TypeName::Sequence(_) => is_same(wanted, from),
+        }
+    }
+
+    /// Whether a value of a type fits an interface.
+    fn interface_fits(&self, wanted: &Name, from: LentKind<'_>) -> bool
+        ensures { result ≡ kind_fits self.now.registry.now (kd.interface wanted.now) (lent_kind from.entry) }
+    {
+        match from {
+            LentKind::Interface(name) => self.is_base_of(wanted.as_str(), name.as_str()),
+            LentKind::Whole(kind) => self.whole_fits(wanted, kind),
+        }
+    }
+
+    #[tactic(auto, unfolding(uno_model::specs::Codes::same_kind))]
+    fn whole_fits(&self, wanted: &Name, from: &TypeName) -> bool
+        ensures { result ≡ kind_fits self.now.registry.now (kd.interface wanted.now) (kind_of from.now) }
+    {
+        match from {
+            TypeName::Interface(name) => self.is_base_of(wanted.as_str(), name.as_str()),
+            TypeName::Void
+            | TypeName::Char
+            | TypeName::Boolean
+            | TypeName::Byte
+            | TypeName::Short
+            | TypeName::UnsignedShort
+            | TypeName::Long
+            | TypeName::UnsignedLong
+            | TypeName::Hyper
+            | TypeName::UnsignedHyper
+            | TypeName::Str
+            | TypeName::Kind
+            | TypeName::Any
+            | TypeName::Enum(_)
+            | TypeName::Struct(_)
+            | TypeName::Exception(_)
+            | TypeName::Sequence(_) => false,
+        }
+    }
 }
 
 /// Whether two types are one.
@@ -99,71 +173,6 @@ pub(crate) fn same_kind(one: &TypeName, other: &TypeName) -> bool
     ensures { result ≡ same_kind (kind_of one.now) (kind_of other.now) }
 {
     one.is(other)
-}
-
-/// Whether a value of the one type fits a place of the wanted one.
-pub(crate) fn kind_fits(registry: &Registry, wanted: &TypeName, from: LentKind<'_>) -> bool
-    requires { IsSound registry.now }
-    ensures { result ≡ kind_fits registry.now (kind_of wanted.now) (lent_kind from.entry) }
-{
-    match wanted {
-        TypeName::Interface(wanted) => interface_fits(registry, wanted, from),
-        TypeName::Void
-        | TypeName::Char
-        | TypeName::Boolean
-        | TypeName::Byte
-        | TypeName::Short
-        | TypeName::UnsignedShort
-        | TypeName::Long
-        | TypeName::UnsignedLong
-        | TypeName::Hyper
-        | TypeName::UnsignedHyper
-        | TypeName::Str
-        | TypeName::Kind
-        | TypeName::Any
-        | TypeName::Enum(_)
-        | TypeName::Struct(_)
-        | TypeName::Exception(_)
-        | TypeName::Sequence(_) => is_same(wanted, from),
-    }
-}
-
-/// Whether a value of a type fits an interface.
-fn interface_fits(registry: &Registry, wanted: &Name, from: LentKind<'_>) -> bool
-    requires { IsSound registry.now }
-    ensures { result ≡ kind_fits registry.now (kd.interface wanted.now) (lent_kind from.entry) }
-{
-    match from {
-        LentKind::Interface(name) => is_base_of(registry, wanted.as_str(), name.as_str()),
-        LentKind::Whole(kind) => whole_fits(registry, wanted, kind),
-    }
-}
-
-#[tactic(auto, unfolding(uno_model::specs::Codes::same_kind))]
-fn whole_fits(registry: &Registry, wanted: &Name, from: &TypeName) -> bool
-    requires { IsSound registry.now }
-    ensures { result ≡ kind_fits registry.now (kd.interface wanted.now) (kind_of from.now) }
-{
-    match from {
-        TypeName::Interface(name) => is_base_of(registry, wanted.as_str(), name.as_str()),
-        TypeName::Void
-        | TypeName::Char
-        | TypeName::Boolean
-        | TypeName::Byte
-        | TypeName::Short
-        | TypeName::UnsignedShort
-        | TypeName::Long
-        | TypeName::UnsignedLong
-        | TypeName::Hyper
-        | TypeName::UnsignedHyper
-        | TypeName::Str
-        | TypeName::Kind
-        | TypeName::Any
-        | TypeName::Enum(_)
-        | TypeName::Struct(_)
-        | TypeName::Exception(_)
-        | TypeName::Sequence(_) => false,
-    }
 }
 
 fn is_same(wanted: &TypeName, from: LentKind<'_>) -> bool

@@ -4,6 +4,7 @@
 mod arguments;
 mod behaviours;
 mod building;
+mod checker;
 mod context;
 mod error;
 mod fields;
@@ -12,6 +13,7 @@ mod functions;
 mod kinds;
 mod known;
 mod limits;
+mod line_error;
 mod new_names;
 mod offers;
 mod places;

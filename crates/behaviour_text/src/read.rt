@@ -3,7 +3,7 @@ ghost use Rattle.std.specs.Prelude.{◌≡◌, ℕ, suc, ◌+◌, ◌<◌, ◌�
 ghost use Rattle.plan_model.specs.Contexts.{opening};
 ghost use Rattle.plan_model.specs.Building.{behind};
 ghost use Rattle.plan_model.specs.Forms.{is_line};
-ghost use Rattle.plan_model.specs.Keeps.{at_end, reason_of, Wrong};
+ghost use Rattle.plan_model.specs.Keeps.{at_end, reason_of, IsTextOf, IsVerdict, Wrong};
 ghost use Rattle.plan_lines.specs.Lines.{line_of};
 ghost use Rattle.plan_model.specs.PlanText.{Numbered, said_from, lines_of, lines_behind, begins_plan};
 ghost use Rattle.plan_model.specs.declared.line_reason.LineReason.{LineReason};
@@ -17,6 +17,7 @@ mod text;
 
 use crate::PlanError;
 use crate::context::{Block, Context};
+use crate::line_error::LineError;
 use crate::scope::Scope;
 use crate::step::step;
 use plan_lines::{Line, Words, read_line};
@@ -26,14 +27,13 @@ use text::{begins_plan, behind_blanks, is_skipped, next_line, split_line};
 use uno_types::Registry;
 
 /// How many bytes a plan may have.
-const MOST_BYTES: usize = 4194304;
+const MOST_BYTES: usize = 4_194_304;
 
 /// The plan that a text says, or the first line of it that is wrong.
-#[tactic(auto, unfolding(plan_reading_model::specs::TextReading::verdict, plan_model::specs::Keeps::is_too_large))]
 pub fn read_plan(alloc: Global, registry: &Registry, bytes: &[u8]) -> Result<Plan, PlanError>
     requires { IsSound registry.now }
-    ensures found { IfOk result (λ p. verdict registry.now bytes.now ≡ Ok (plan_of p)) }
-    ensures wrong { (n : ℕ) (why : LineReason) → result ≡ Err (PlanError.BadLine n why) → verdict registry.now bytes.now ≡ Err (record { line = n; reason = why }) }
+    ensures text { IfOk result (λ p. IsTextOf registry.now bytes.now (plan_of p)) }
+    ensures refused { (n : ℕ) (why : LineReason) → result ≡ Err (PlanError.BadLine n why) → IsVerdict registry.now bytes.now (Err (record { line = n; reason = why })) }
 {
     read_text(alloc, registry, bytes)
 }
@@ -150,7 +150,7 @@ fn read_text_line(
     let Some(line) = found else {
         return Err(PlanError::BadLine(number, LineReason::Form));
     };
-    match read_one(alloc, registry, context, number, line) {
+    match read_one(alloc, registry, context, number, &line) {
         Ok(()) => Ok(()),
         Err(error) => Err(error),
     }
@@ -162,26 +162,17 @@ fn read_one(
     registry: &Registry,
     context: &mut Context,
     number: u32,
-    line: Line,
+    line: &Line,
 ) -> Result<(), PlanError>
     requires sound { IsSound registry.now }
-    requires formed { IsTrue (is_line registry.now (line_of line)) }
-    ensures right { OnOk result (reason_of registry.now (context_of context.old) (line_of line) ≡ None) }
-    ensures behind { OnOk result (context_of context.new ≡ behind registry.now (line_of line) (context_of context.old)) }
-    ensures wrong { IfErr result (λ e. StopsAt number e (reason_of registry.now (context_of context.old) (line_of line))) }
+    requires formed { IsTrue (is_line registry.now (line_of line.now)) }
+    ensures right { OnOk result (reason_of registry.now (context_of context.old) (line_of line.now) ≡ None) }
+    ensures behind { OnOk result (context_of context.new ≡ behind registry.now (line_of line.now) (context_of context.old)) }
+    ensures wrong { IfErr result (λ e. StopsAt number e (reason_of registry.now (context_of context.old) (line_of line.now))) }
 {
-    match step(alloc, registry, context, &line) {
-        Ok(None) => {
-            drop(line);
-            Ok(())
-        }
-        Ok(Some(why)) => {
-            drop(line);
-            Err(PlanError::BadLine(number, why))
-        }
-        Err(error) => {
-            drop(line);
-            Err(PlanError::from(error))
-        }
+    match step(alloc, registry, context, line) {
+        Ok(()) => Ok(()),
+        Err(LineError::NoMemory) => Err(PlanError::NoMemory),
+        Err(LineError::Wrong(why)) => Err(PlanError::BadLine(number, why)),
     }
 }

@@ -1,7 +1,6 @@
 //! A line behind those before it: the reason for which it is wrong, or what stands behind it.
-ghost use Rattle.std.specs.Prelude.{◌≡◌, false, true, is_some, None, Some, IsTrue, IfOk, OnOk};
-ghost use Rattle.plan_model.specs.Building.{behind, with_line};
-ghost use Rattle.plan_model.specs.Contexts as plain;
+ghost use Rattle.std.specs.Prelude.{◌≡◌, false, true, is_some, Some, IsTrue, IfOk, OnOk};
+ghost use Rattle.plan_model.specs.Building.{behind};
 ghost use Rattle.plan_model.specs.Fitting.{all_fits};
 ghost use Rattle.plan_model.specs.Forms.{is_line};
 ghost use Rattle.plan_model.specs.Keeps.{reason_of};
@@ -9,18 +8,18 @@ ghost use Rattle.plan_model.specs.TypedStatements as typed;
 ghost use Rattle.uno_model.specs.Sound.{IsSound};
 ghost use Rattle.plan_types.specs.Statements.{statement_of, root_statement_of};
 ghost use Rattle.plan_lines.specs.Lines.{line_of};
+ghost use Rattle.behaviour_text.specs.Checks.{Clears, before};
 ghost use Rattle.behaviour_text.specs.Contexts.{block_of, context_of};
 ghost use Rattle.behaviour_text.specs.Steps.{early_reason, late_reason, is_statement, is_thread, by_found, with_method_statement, with_thread_statement};
 
 use crate::building::{add_field, close, open_behaviour, open_method, open_thread};
+use crate::checker::Checker;
 use crate::context::{Block, Context};
-use crate::fitting::{method_fits, service_fits, singleton_fits};
-use crate::known::names_are_known;
 use crate::limits::keeps_limits;
+use crate::line_error::LineError;
 use crate::new_names::names_are_new;
 use crate::offers::{add_export, add_service, add_singleton};
 use crate::places::may_stand;
-use crate::statements::{root_statement_of, statement_of};
 use crate::variables::{scope_behind, scope_behind_root};
 use plan_lines::Line;
 use plan_types::{LineReason, RootStatement, Statement};
@@ -28,45 +27,46 @@ use std::alloc::Global;
 use uno_base::NoMemory;
 use uno_types::Registry;
 
-/// The reason for which the line is wrong; where there is none, the context is that behind it.
+/// Goes on behind a line, unless that is wrong.
 #[tactic(auto, unfolding(plan_model::specs::Keeps::reason_of, plan_model::specs::Keeps::has_form))]
 pub(crate) fn step(
     alloc: Global,
     registry: &Registry,
     context: &mut Context,
     line: &Line,
-) -> Result<Option<LineReason>, NoMemory>
+) -> Result<(), LineError>
     requires sound { IsSound registry.now }
     requires formed { IsTrue (is_line registry.now (line_of line.now)) }
-    ensures reason { IfOk result (λ why. why ≡ reason_of registry.now (context_of context.old) (line_of line.now)) }
-    ensures behind { IfOk result (λ why. why ≡ None → context_of context.new ≡ behind registry.now (line_of line.now) (context_of context.old)) }
+    ensures reason { Clears result (reason_of registry.now (context_of context.old) (line_of line.now)) }
+    ensures behind { OnOk result (context_of context.new ≡ behind registry.now (line_of line.now) (context_of context.old)) }
 {
-    match early_reason(alloc, registry, context, line)? {
-        Some(why) => Ok(Some(why)),
-        None => late_step(alloc, registry, context, line),
-    }
+    check_names(alloc, registry, context, line)?;
+    late_step(alloc, registry, context, line)
 }
 
-/// The first of the reasons that come before the fitting of values.
-fn early_reason(
+/// Refuses a line that may not stand there, or of which a name is not known or not new.
+fn check_names(
     alloc: Global,
     registry: &Registry,
     context: &Context,
     line: &Line,
-) -> Result<Option<LineReason>, NoMemory>
+) -> Result<(), LineError>
     requires { IsSound registry.now }
-    ensures { IfOk result (λ why. why ≡ early_reason registry.now (context_of context.now) (line_of line.now)) }
+    ensures { Clears result (early_reason registry.now (context_of context.now) (line_of line.now)) }
 {
     if !may_stand(&context.block, line) {
-        return Ok(Some(LineReason::Form));
+        return Err(LineError::Wrong(LineReason::Form));
     }
-    if !names_are_known(alloc, registry, context, line)? {
-        return Ok(Some(LineReason::Unknown));
-    }
+    let checker = Checker {
+        alloc,
+        registry,
+        context,
+    };
+    checker.knows_names(line)?;
     if !names_are_new(alloc, context, line)? {
-        return Ok(Some(LineReason::Twice));
+        return Err(LineError::Wrong(LineReason::Twice));
     }
-    Ok(None)
+    Ok(())
 }
 
 /// The other reasons, and what stands behind.
@@ -76,22 +76,22 @@ fn late_step(
     registry: &Registry,
     context: &mut Context,
     line: &Line,
-) -> Result<Option<LineReason>, NoMemory>
+) -> Result<(), LineError>
     requires { IsSound registry.now }
-    ensures reason { IfOk result (λ why. why ≡ late_reason registry.now (context_of context.old) (line_of line.now)) }
-    ensures behind { IfOk result (λ why. why ≡ None → context_of context.new ≡ behind registry.now (line_of line.now) (context_of context.old)) }
+    ensures reason { Clears result (late_reason registry.now (context_of context.old) (line_of line.now)) }
+    ensures behind { OnOk result (context_of context.new ≡ behind registry.now (line_of line.now) (context_of context.old)) }
 {
     if is_statement(line) {
         return statement_step(alloc, registry, context, line);
     }
-    if !line_fits(registry, context, line) {
-        return Ok(Some(LineReason::Misfit));
+    if !line_fits(alloc, registry, context, line) {
+        return Err(LineError::Wrong(LineReason::Misfit));
     }
     if !keeps_limits(context, line) {
-        return Ok(Some(LineReason::Limit));
+        return Err(LineError::Wrong(LineReason::Limit));
     }
     go_behind(alloc, registry, context, line)?;
-    Ok(None)
+    Ok(())
 }
 
 /// Whether the line is a statement, of a method or of a root.
@@ -113,15 +113,20 @@ fn is_statement(line: &Line) -> bool
 
 /// Whether the behaviour that a line names fits its place, where the line is no statement.
 #[tactic(auto, unfolding(plan_model::specs::Fitting::all_fits))]
-fn line_fits(registry: &Registry, context: &Context, line: &Line) -> bool
+fn line_fits(alloc: Global, registry: &Registry, context: &Context, line: &Line) -> bool
     requires sound { IsSound registry.now }
     requires other { is_statement (line_of line.now) ≡ false }
     ensures { result ≡ all_fits registry.now (context_of context.now) (line_of line.now) }
 {
+    let checker = Checker {
+        alloc,
+        registry,
+        context,
+    };
     match line {
-        Line::Method { face, function: _ } => method_fits(registry, &context.block, face),
-        Line::Service { name, behaviour } => service_fits(registry, context, name, behaviour),
-        Line::Singleton { name, behaviour } => singleton_fits(registry, context, name, behaviour),
+        Line::Method { face, function: _ } => checker.method_fits(face),
+        Line::Service { name, behaviour } => checker.service_fits(name, behaviour),
+        Line::Singleton { name, behaviour } => checker.singleton_fits(name, behaviour),
         _ => true,
     }
 }
@@ -160,28 +165,23 @@ fn statement_step(
     registry: &Registry,
     context: &mut Context,
     line: &Line,
-) -> Result<Option<LineReason>, NoMemory>
+) -> Result<(), LineError>
     requires sound { IsSound registry.now }
     requires is { is_statement (line_of line.now) ≡ true }
-    ensures reason { IfOk result (λ why. why ≡ late_reason registry.now (context_of context.old) (line_of line.now)) }
-    ensures behind { IfOk result (λ why. why ≡ None → context_of context.new ≡ behind registry.now (line_of line.now) (context_of context.old)) }
+    ensures reason { Clears result (late_reason registry.now (context_of context.old) (line_of line.now)) }
+    ensures behind { OnOk result (context_of context.new ≡ behind registry.now (line_of line.now) (context_of context.old)) }
 {
     if is_thread(&context.block) {
-        let found = thread_step(alloc, registry, context, line)?;
-        return Ok(found);
+        return thread_step(alloc, registry, context, line);
     }
-    let why = method_step(alloc, registry, context, line)?;
-    Ok(why)
+    method_step(alloc, registry, context, line)
 }
 
 /// Whether the block is that of a root.
 fn is_thread(block: &Block) -> bool
     ensures { result ≡ is_thread (block_of block.now) }
 {
-    match block {
-        Block::Thread(_) => true,
-        Block::Top | Block::Behaviour(_) | Block::Method(_, _) => false,
-    }
+    matches!(block, Block::Thread(_))
 }
 
 fn method_step(
@@ -189,20 +189,37 @@ fn method_step(
     registry: &Registry,
     context: &mut Context,
     line: &Line,
-) -> Result<Option<LineReason>, NoMemory>
+) -> Result<(), LineError>
     requires sound { IsSound registry.now }
-    ensures reason { IfOk result (λ why. why ≡ by_found (is_some (typed.statement_of registry.now (context_of context.old) (line_of line.now))) (context_of context.old) (line_of line.now)) }
-    ensures behind { IfOk result (λ why. why ≡ None → context_of context.new ≡ with_method_statement (typed.statement_of registry.now (context_of context.old) (line_of line.now)) (context_of context.old)) }
+    ensures reason { Clears result (by_found (is_some (typed.statement_of registry.now (context_of context.old) (line_of line.now))) (context_of context.old) (line_of line.now)) }
+    ensures behind { OnOk result (context_of context.new ≡ with_method_statement (typed.statement_of registry.now (context_of context.old) (line_of line.now)) (context_of context.old)) }
 {
-    let Some(statement) = statement_of(alloc, registry, context, line)? else {
-        return Ok(Some(LineReason::Misfit));
-    };
-    if !keeps_limits(context, line) {
-        drop(statement);
-        return Ok(Some(LineReason::Limit));
-    }
+    let statement = method_statement(alloc, registry, context, line)?;
     push_statement(alloc, context, statement)?;
-    Ok(None)
+    Ok(())
+}
+
+/// The statement of a method that a line is, where that fits and there is room for it.
+fn method_statement(
+    alloc: Global,
+    registry: &Registry,
+    context: &Context,
+    line: &Line,
+) -> Result<Statement, LineError>
+    requires { IsSound registry.now }
+    ensures reason { Clears result (by_found (is_some (typed.statement_of registry.now (context_of context.now) (line_of line.now))) (context_of context.now) (line_of line.now)) }
+    ensures statement { IfOk result (λ s. typed.statement_of registry.now (context_of context.now) (line_of line.now) ≡ Some (statement_of s)) }
+{
+    let checker = Checker {
+        alloc,
+        registry,
+        context,
+    };
+    let statement = checker.statement_of(line)?;
+    if !keeps_limits(context, line) {
+        return Err(LineError::Wrong(LineReason::Limit));
+    }
+    Ok(statement)
 }
 
 /// A statement more of the open method, and the variables behind it.
@@ -215,21 +232,11 @@ fn push_statement(
 {
     match &mut context.block {
         Block::Method(_, opened) => {
-            match scope_behind(alloc, &mut context.variables, &statement) {
-                Ok(()) => {
-                    opened.method.body.push(statement)?;
-                    Ok(())
-                }
-                Err(error) => {
-                    drop(statement);
-                    Err(error)
-                }
-            }
-        }
-        _ => {
-            drop(statement);
+            scope_behind(alloc, &mut context.variables, &statement)?;
+            opened.method.body.push(statement)?;
             Ok(())
         }
+        _ => Ok(()),
     }
 }
 
@@ -238,20 +245,37 @@ fn thread_step(
     registry: &Registry,
     context: &mut Context,
     line: &Line,
-) -> Result<Option<LineReason>, NoMemory>
+) -> Result<(), LineError>
     requires sound { IsSound registry.now }
-    ensures reason { IfOk result (λ why. why ≡ by_found (is_some (typed.root_statement_of registry.now (context_of context.old) (line_of line.now))) (context_of context.old) (line_of line.now)) }
-    ensures behind { IfOk result (λ why. why ≡ None → context_of context.new ≡ with_thread_statement (typed.root_statement_of registry.now (context_of context.old) (line_of line.now)) (context_of context.old)) }
+    ensures reason { Clears result (by_found (is_some (typed.root_statement_of registry.now (context_of context.old) (line_of line.now))) (context_of context.old) (line_of line.now)) }
+    ensures behind { OnOk result (context_of context.new ≡ with_thread_statement (typed.root_statement_of registry.now (context_of context.old) (line_of line.now)) (context_of context.old)) }
 {
-    let Some(statement) = root_statement_of(alloc, registry, context, line)? else {
-        return Ok(Some(LineReason::Misfit));
-    };
-    if !keeps_limits(context, line) {
-        drop(statement);
-        return Ok(Some(LineReason::Limit));
-    }
+    let statement = thread_statement(alloc, registry, context, line)?;
     push_root_statement(alloc, context, statement)?;
-    Ok(None)
+    Ok(())
+}
+
+/// The statement of a root that a line is, where that fits and there is room for it.
+fn thread_statement(
+    alloc: Global,
+    registry: &Registry,
+    context: &Context,
+    line: &Line,
+) -> Result<RootStatement, LineError>
+    requires { IsSound registry.now }
+    ensures reason { Clears result (by_found (is_some (typed.root_statement_of registry.now (context_of context.now) (line_of line.now))) (context_of context.now) (line_of line.now)) }
+    ensures statement { IfOk result (λ s. typed.root_statement_of registry.now (context_of context.now) (line_of line.now) ≡ Some (root_statement_of s)) }
+{
+    let checker = Checker {
+        alloc,
+        registry,
+        context,
+    };
+    let statement = checker.root_statement_of(line)?;
+    if !keeps_limits(context, line) {
+        return Err(LineError::Wrong(LineReason::Limit));
+    }
+    Ok(statement)
 }
 
 /// A statement more of the open root, and the variables behind it.
@@ -264,20 +288,10 @@ fn push_root_statement(
 {
     match &mut context.block {
         Block::Thread(statements) => {
-            match scope_behind_root(alloc, &mut context.variables, &statement) {
-                Ok(()) => {
-                    statements.push(statement)?;
-                    Ok(())
-                }
-                Err(error) => {
-                    drop(statement);
-                    Err(error)
-                }
-            }
-        }
-        _ => {
-            drop(statement);
+            scope_behind_root(alloc, &mut context.variables, &statement)?;
+            statements.push(statement)?;
             Ok(())
         }
+        _ => Ok(()),
     }
 }

@@ -90,15 +90,10 @@ fn add_interface(variables: &mut Scope, name: &Name, face: &Name) -> Result<(), 
 fn add_kind(variables: &mut Scope, name: &Name, kind: TypeName) -> Result<(), NoMemory>
     ensures { OnOk result (variables.new ≡ scoped_more name.now (kind_of kind) variables.old) }
 {
-    match name.copy() {
-        Ok(name) => variables.push(Scoped {
-            name,
-            kind,
-            comes_out: false,
-        }),
-        Err(error) => {
-            drop(kind);
-            Err(error)
-        }
-    }
+    let name = name.copy()?;
+    variables.push(Scoped {
+        name,
+        kind,
+        comes_out: false,
+    })
 }

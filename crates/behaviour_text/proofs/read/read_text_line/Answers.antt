@@ -18,7 +18,7 @@ returns-in-Ok-clause-on c =
     λ last ns. reads_right c.args.registry.now last c.args.number c.args.text.now (context_of c.args.context.now) ns _ _
     (at_registry _ _ _ _ _ c.in_ok-found.ensures c.requires.same (ap (option_map line_of) c.in-Some.is)) c.in-Ok.ensures.right c.in-Ok.ensures.behind
 
-pub returns-in-Err-clause-wrong : goal.returns-in-Err-clause-wrong
-returns-in-Err-clause-wrong c =
+pub returns-clause-wrong : goal.returns-clause-wrong
+returns-clause-wrong c =
     λ last ns. stops_there c.args.registry.now last c.args.number c.args.text.now (context_of c.args.context.now) ns _ _
     (at_registry _ _ _ _ _ c.in_ok-found.ensures c.requires.same (ap (option_map line_of) c.in-Some.is)) c.in-Err.ensures.wrong

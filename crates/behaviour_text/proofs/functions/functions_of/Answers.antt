@@ -1,7 +1,0 @@
-use Rattle.std.proofs.Common.{ap, sym, rules, ◌∙◌}
-use Rattle.type_registry.specs.Functions.{functions_at}
-use Rattle.uno_model.proofs.FunctionLaws.{no_functions}
-use Rattle.behaviour_text.proofs.functions.functions_of.Goals as goal
-
-pub returns-in-Err-NotInterface : goal.returns-in-Err-NotInterface
-returns-in-Err-NotInterface c = ap functions_at c.new.ensures.items ∙ sym (no_functions c.args.registry.now c.args.face.now c.requires (c.in-Err-NotInterface.ensures.refused.0 (search rules)))
