@@ -19,7 +19,7 @@ use Rattle.answering.specs.Doing.{First, of_method, of_root, of_object, of_bytes
 use Rattle.answering.specs.Ends.{Applies, Moves, Drains, DrainsFirst, Did, DoesFirst}
 use Rattle.answering.specs.declared.stopped.Halted.{Halted}
 use Rattle.answering.specs.declared.stopped.Halted.TheVariants as halted
-use Rattle.answering.proofs.RootLaws.{DoesNotMove, entry_is_plain, move_is_fine, others_drain}
+use Rattle.answering.proofs.RootLaws.{DoesNotMove, entry_is_plain, move_is_plain, others_drain}
 use Rattle.answering.proofs.RowLaws.{moves_at, same_at, none_at}
 
 -- ---- roots
@@ -104,7 +104,7 @@ root_drains : (e : Endpoint) (runs next : List Run) (x : Option Entry) (out : Op
     → Appends out out (bytes_with x)
 root_drains e runs next None out moves = Appends-nil out
 root_drains e runs next (Some y) out moves =
-    subst (Appends out out) (sym (others_drain y (entry_is_plain y (move_is_fine (setting_at e) (side_at e) runs _ moves).plain))) (Appends-nil out)
+    subst (Appends out out) (sym (others_drain y (entry_is_plain y (move_is_plain (setting_at e) (side_at e) runs _ moves)))) (Appends-nil out)
 
 -- no method is ready, and nothing has changed
 pub did_root : (e l f : Endpoint) (runs next : List Run) (out : Option (List ℕ)) → (ready_at (side_at e) 0 ≡ None) × (l ≡ e) → Moves l f runs next

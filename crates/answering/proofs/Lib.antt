@@ -6,6 +6,7 @@ pub mod JobLaws
 pub mod PieceLaws
 pub mod RootLaws
 pub mod RowLaws
+pub mod RunningLaws
 pub mod ServingLaws
 pub mod StoppedLaws
 pub mod TurnLaws

@@ -17,10 +17,9 @@ use Rattle.answer_laws.specs.Working.{AllIsDone}
 use Rattle.answering.specs.Doing.{Feeds, Closes}
 use Rattle.answering.specs.Ends.{GoesOn, HaltsAt, IsSettled, IsFed, IsAnswered, IsClosing, SettlesSo, ClosesSo}
 use Rattle.answering.specs.Serving.{Holds, HoldsFront, IsOver, IsAllIn, IsCutOrNot}
-use Rattle.answering.specs.Turning.{AreRoots, Answers, HaltsIn, Halts, Turns}
+use Rattle.answering.specs.Turning.{Answers, HaltsIn, Halts, Turns}
 use Rattle.answering.specs.declared.stopped.Halted.{Halted}
 use Rattle.answering.proofs.EndLaws.{IsLed, told_side, is_told}
-use Rattle.answering.proofs.RootLaws.{first_roots}
 use Rattle.answering.proofs.ServingLaws.{holds_first, holds_piece, holds_on, holds_none, piece_on, halted, halted_in, all_in}
 use Rattle.answering.proofs.TurnLaws.{HasClosed, has_closed, closes, closing_takes, closing_halts, fed_on, fed_halts}
 
@@ -76,9 +75,6 @@ holds_begin e runs input out none is =
     (sym (begins_told e none))
     (subst (λ rs. Holds (setting_at e) input input out out (nothing_told (setting_at e)) rs []) (sym is) (holds_first (setting_at e) input out))
 
-pub roots_begin : (g : Setting) (runs : List Run) → runs ≡ first_runs 1 g.plan.threads → AreRoots g runs
-roots_begin g runs is = subst (AreRoots g) (sym is) (first_roots g)
-
 -- ---- on the way
 
 pub holds_further : (g : Setting) (i j o p q : Option (List ℕ)) (e f : Endpoint) (runs next : List Run) (left : List ℕ) → setting_at e ≡ g → Holds g i j o p (told_at e) runs left
@@ -115,10 +111,6 @@ pub piece_over : (g : Setting) (i j o p q : Option (List ℕ)) (e f : Endpoint) 
 piece_over g i j o p q e f runs next piece why cause setting is answered because =
     is_over g i j o q f next answered.left cause (answered.setting ∙ setting)
     (piece_further g i j o p q e f runs next piece why setting is answered) answered.settled (answered.ended ∙ because)
-
-pub answered_roots : {e f : Endpoint} {runs next : List Run} {piece : List ℕ} {old new : Option (List ℕ)} {why : Option Cause}
-    → IsAnswered e f runs next piece old new why → AreRoots (setting_at e) runs → AreRoots (setting_at f) next
-answered_roots {e} {f} {runs} {next} answered roots = subst (λ z. AreRoots z next) (sym answered.setting) (answered.answers.roots roots)
 
 -- ---- what is read
 

@@ -16,9 +16,9 @@ use Rattle.answer_laws.specs.Working.{AllIsDone, IsInOrder}
 use Rattle.answer_laws.proofs.FeedingLaws.{feeding_keeps, end_keeps}
 use Rattle.answer_laws.proofs.OrderLaws.{method_keeps, root_keeps, quiet_root_keeps, object_keeps, bytes_keep, full_keeps}
 use Rattle.answering.specs.Doing.{First, of_method, of_root, of_object, of_bytes, bytes_with, Feeds, Closes}
-use Rattle.answering.specs.Turning.{AreRoots, IsClosed, Turns, Halts, Answers, HaltsIn}
+use Rattle.answering.specs.Turning.{IsClosed, Turns, Halts, Answers, HaltsIn}
 use Rattle.answering.proofs.ClosingLaws.{is_lack, drained_by, stays_ended, closed_on, closed_by_end}
-use Rattle.answering.proofs.RootLaws.{move_is_fine, entry_is_plain, lack_is_other}
+use Rattle.answering.proofs.RootLaws.{move_is_plain, entry_is_plain, lack_is_other}
 
 -- ---- what was taken
 
@@ -48,7 +48,6 @@ no_turn g t runs out =
       order = λ b rest is. is;
       ended = λ gone. gone;
       closed = λ is. (is, refl);
-      roots = λ is. is;
       out = [];
       more = sym (append-nil t.bytes_out);
       taken = Appends-nil out;
@@ -61,7 +60,6 @@ turns_on {g} {t} {u} {v} {runs} {next} {later} {old} {mid} {new} first second =
       order = λ b rest is. second.order b rest (first.order b rest is);
       ended = λ gone. second.ended (first.ended gone);
       closed = λ is. ((second.closed (first.closed is).0).0, (second.closed (first.closed is).0).1 ∙ (first.closed is).1);
-      roots = λ is. second.roots (first.roots is);
       out = first.out ++ second.out;
       more = out_behind t.bytes_out u.bytes_out v.bytes_out first.out second.out first.more second.more;
       taken = Appends-trans old mid new first.out second.out first.taken second.taken;
@@ -103,12 +101,11 @@ record IsKept (g : Setting) (t u : Told) (runs next : List Run) : Type 0 where
   pub order : (b rest : List ℕ) → IsInOrder g b t runs rest → IsInOrder g b u next rest
   pub ended : stands t.side ≡ false → stands u.side ≡ false
   pub closed : IsClosed g t → IsClosed g u × (u.bytes_out ≡ t.bytes_out)
-  pub roots : AreRoots g runs → AreRoots g next
 
 -- nothing is told
 quiet_kept : (g : Setting) (t u : Told) (runs next : List Run) → u ≡ t → ((b rest : List ℕ) → IsInOrder g b t runs rest → IsInOrder g b t next rest)
-    → (AreRoots g runs → AreRoots g next) → IsKept g t u runs next
-quiet_kept g t u runs next same order roots = subst (λ z. IsKept g t z runs next) (sym same) (record { order = order; ended = λ gone. gone; closed = λ is. (is, refl); roots = roots })
+    → IsKept g t u runs next
+quiet_kept g t u runs next same order = subst (λ z. IsKept g t z runs next) (sym same) (record { order = order; ended = λ gone. gone; closed = λ is. (is, refl) })
 
 full_plain : (b : Bool) (tid : List ℕ) → is_lack (if b then full else applied tid) ≡ false
 full_plain true tid = refl
@@ -120,28 +117,28 @@ out_with g t u (Some e) told = drained_by g t u e told
 
 module _ (g : Setting) (es fs : List Entry) (t u : Told) (before : Leads g es t) (after : Leads g fs u) where
   entry_kept : (runs next : List Run) (e : Entry) → tells g t e ≡ Some u → is_lack e ≡ false
-      → ((b rest : List ℕ) → IsInOrder g b t runs rest → IsInOrder g b u next rest) → (AreRoots g runs → AreRoots g next) → IsKept g t u runs next
-  entry_kept runs next e to plain order roots =
-      record { order = order; ended = stays_ended g es t u e before to; closed = closed_on g es fs t u e before after to plain; roots = roots }
+      → ((b rest : List ℕ) → IsInOrder g b t runs rest → IsInOrder g b u next rest) → IsKept g t u runs next
+  entry_kept runs next e to plain order =
+      record { order = order; ended = stays_ended g es t u e before to; closed = closed_on g es fs t u e before after to plain }
 
   first_kept : {runs next : List Run} {x : Option Entry} → First g t.side runs next x → IsTold g t u x → IsKept g t u runs next
   first_kept {runs} (of_method tid ready) told =
-      entry_kept runs runs (or_full t.side (applied tid)) told (full_plain (has_entries t.side) tid) (λ b rest is. method_keeps g b t u runs rest is tid ready told) (λ is. is)
+      entry_kept runs runs (or_full t.side (applied tid)) told (full_plain (has_entries t.side) tid) (λ b rest is. method_keeps g b t u runs rest is tid ready told)
   first_kept {runs} (of_root ready next None moves) told =
-      quiet_kept g t u runs next told (λ b rest is. quiet_root_keeps g b t runs next rest is ready moves) (move_is_fine g t.side runs _ moves).roots
+      quiet_kept g t u runs next told (λ b rest is. quiet_root_keeps g b t runs next rest is ready moves)
   first_kept {runs} (of_root ready next (Some e) moves) told =
-      entry_kept runs next e told (lack_is_other e (entry_is_plain e (move_is_fine g t.side runs _ moves).plain)) (λ b rest is. root_keeps g b t u runs next rest is ready e moves told) (move_is_fine g t.side runs _ moves).roots
+      entry_kept runs next e told (lack_is_other e (entry_is_plain e (move_is_plain g t.side runs _ moves))) (λ b rest is. root_keeps g b t u runs next rest is ready e moves told)
   first_kept {runs} (of_object ready still n goes) told =
-      entry_kept runs runs (reaped n) told refl (λ b rest is. object_keeps g b t u runs rest is ready still n goes told) (λ is. is)
+      entry_kept runs runs (reaped n) told refl (λ b rest is. object_keeps g b t u runs rest is ready still n goes told)
   first_kept {runs} (of_bytes ready still kept c more waits) told =
-      entry_kept runs runs (drained (c ∷ more)) told refl (λ b rest is. bytes_keep g b t u runs rest is ready still kept c more waits told) (λ is. is)
+      entry_kept runs runs (drained (c ∷ more)) told refl (λ b rest is. bytes_keep g b t u runs rest is ready still kept c more waits told)
 
   -- it is a turn, where what goes out with it is taken
   pub first_turns : {runs next : List Run} {x : Option Entry} {old new : Option (List ℕ)} → First g t.side runs next x → IsTold g t u x → Appends old new (bytes_with x)
       → Turns g t u runs next old new
   first_turns {runs} {next} {x} first told taken =
       let kept = first_kept first told in
-      record { order = kept.order; ended = kept.ended; closed = kept.closed; roots = kept.roots; out = bytes_with x; more = out_with g t u x told; taken = taken }
+      record { order = kept.order; ended = kept.ended; closed = kept.closed; out = bytes_with x; more = out_with g t u x told; taken = taken }
 
   -- or a front of it
   pub first_halts : {runs next : List Run} {x : Option Entry} {old new : Option (List ℕ)} → First g t.side runs next x → IsTold g t u x → AppendsFront old new (bytes_with x)
@@ -173,14 +170,13 @@ full_feeds g t u b piece up limit told =
 -- ---- a piece
 
 pub whole_piece : (g : Setting) (t : Told) (runs : List Run) (piece : List ℕ) (out : Option (List ℕ)) → Answers g t t runs runs piece piece out out
-whole_piece g t runs piece out = record { order = λ b more is. is; roots = λ is. is; out = []; more = sym (append-nil t.bytes_out); taken = Appends-nil out }
+whole_piece g t runs piece out = record { order = λ b more is. is; out = []; more = sym (append-nil t.bytes_out); taken = Appends-nil out }
 
 pub fed_on : {g : Setting} {t u v w : Told} {runs next later : List Run} {piece rest left : List ℕ} {old mid new : Option (List ℕ)} → Answers g t u runs next piece rest old mid
     → AllIsDone g u.side next → Feeds g u v rest left → Turns g v w next later mid new → Answers g t w runs later piece left old new
 fed_on {g} {t} {u} {v} {w} {runs} {next} {later} {piece} {rest} {left} {old} {mid} {new} so done feeds turns =
     record {
       order = λ b more is. turns.order b (left ++ more) (feeds.order b more next done (so.order b more is));
-      roots = λ is. turns.roots (so.roots is);
       out = so.out ++ turns.out;
       more = out_behind t.bytes_out v.bytes_out w.bytes_out so.out turns.out (feeds.out ∙ so.more) turns.more;
       taken = Appends-trans old mid new so.out turns.out so.taken turns.taken;

@@ -13,6 +13,7 @@ use Rattle.bridge_endpoint.specs.Journals.{Endpoint, setting_at, side_at, told_a
 use Rattle.bridge_roots.specs.Moving.{with_any}
 use Rattle.answer_laws.specs.Working.{AllIsDone}
 use Rattle.answering.specs.Doing.{First, bytes_with, Feeds, Closes}
+use Rattle.answering.specs.Running.{AreRoots}
 use Rattle.answering.specs.Turning.{Turns, Halts, Answers, HaltsIn}
 use Rattle.answering.specs.declared.stopped.Halted.{Halted}
 use Rattle.answering.specs.declared.stopped.Halted.TheVariants as halted
@@ -74,6 +75,7 @@ DoesFirst e f runs next old new (Err halted.NoMemory) = new ≡ old
 pub record GoesOn (e f : Endpoint) (runs next : List Run) (old new : Option (List ℕ)) : Type 0 where
   pub setting : setting_at f ≡ setting_at e
   pub turns : Turns (setting_at e) (told_at e) (told_at f) runs next old new
+  pub roots : AreRoots e runs → AreRoots f next
 
 -- nothing can be done but feeding
 abbrev pub IsSettled : Endpoint → List Run → Type 0
@@ -115,6 +117,7 @@ pub record IsAnswered (e f : Endpoint) (runs next : List Run) (piece : List ℕ)
   pub settled : IsSettled f next
   pub ended : (told_at f).side.cause ≡ why
   pub all : why ≡ None → left ≡ []
+  pub roots : AreRoots f next
 
 abbrev pub AnswersSo : Endpoint → Endpoint → List Run → List Run → List ℕ → (old new : Option (List ℕ)) → Result (Option Cause) Halted → Type 0
 AnswersSo e f runs next piece old new (Ok why) = IsAnswered e f runs next piece old new why

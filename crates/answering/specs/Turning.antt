@@ -1,20 +1,14 @@
 -- What turns of `answer` lead to, from one moment of an end to a later one.
-use Rattle.std.specs.Prelude.{◌≡◌, ℕ, true, false, List, [], ◌++◌, Option, Some}
+use Rattle.std.specs.Prelude.{◌≡◌, ℕ, false, List, [], ◌++◌, Option, Some}
 use Rattle.std.specs.Io.KnownBytes.{Appends}
-use Rattle.std.specs.List.{AllByRecursion}
 use Rattle.message_model.specs.Said.{spell}
 use Rattle.plan_model.specs.Roots.{Run}
 use Rattle.uno_io.specs.Fronts.{AppendsFront}
 use Rattle.bridge_model.specs.Histories.{Told}
 use Rattle.bridge_model.specs.Settings.{Setting}
 use Rattle.bridge_model.specs.Sides.{stands}
-use Rattle.bridge_model.specs.Steps.{is_root}
 use Rattle.bridge_model.specs.declared.cause.Cause.TheVariants as cause
 use Rattle.answer_laws.specs.Working.{IsInOrder}
-
--- these are roots of the plan
-abbrev pub AreRoots : Setting → List Run → Type 0
-AreRoots g runs = AllByRecursion (λ r. is_root g r.root ≡ true) runs
 
 -- the bridge ended with its input, and all that was said went out
 pub record IsClosed (g : Setting) (t : Told) : Type 0 where
@@ -27,7 +21,6 @@ pub record Turns (g : Setting) (t u : Told) (runs next : List Run) (old new : Op
   pub order : (bytes rest : List ℕ) → IsInOrder g bytes t runs rest → IsInOrder g bytes u next rest
   pub ended : stands t.side ≡ false → stands u.side ≡ false
   pub closed : IsClosed g t → IsClosed g u × (u.bytes_out ≡ t.bytes_out)
-  pub roots : AreRoots g runs → AreRoots g next
   pub out : List ℕ
   pub more : u.bytes_out ≡ t.bytes_out ++ out
   pub taken : Appends old new out
@@ -45,7 +38,6 @@ pub record Halts (g : Setting) (t : Told) (runs : List Run) (old new : Option (L
 -- the same with a piece, of which so much is left
 pub record Answers (g : Setting) (t u : Told) (runs next : List Run) (piece left : List ℕ) (old new : Option (List ℕ)) : Type 0 where
   pub order : (bytes more : List ℕ) → IsInOrder g bytes t runs (piece ++ more) → IsInOrder g bytes u next (left ++ more)
-  pub roots : AreRoots g runs → AreRoots g next
   pub out : List ℕ
   pub more : u.bytes_out ≡ t.bytes_out ++ out
   pub taken : Appends old new out

@@ -1,15 +1,15 @@
 //! The first thing that can be done, but for feeding.
-ghost use Rattle.std.specs.Prelude.{◌≡◌, None, IfOk, IfErr, IfSome, IfNone, map};
+ghost use Rattle.std.specs.Prelude.{◌≡◌, None, Some, IfOk, IfErr, IfSome, IfNone, map};
 ghost use Rattle.plan_model.specs.Effects.{effect};
 ghost use Rattle.plan_types.specs.Frames.{job_of};
 ghost use Rattle.behaviour.specs.Effects.{effect_of};
 ghost use Rattle.behaviour.specs.Roots.{run_of};
-ghost use Rattle.bridge_endpoint.specs.Journals.{setting_at, side_at, told_at};
-ghost use Rattle.bridge_model.specs.Answers.{ready_at};
-ghost use Rattle.bridge_model.specs.Histories.{Leads};
+ghost use Rattle.bridge_endpoint.specs.Journals.{setting_at, side_at};
+ghost use Rattle.bridge_model.specs.Answers.{pick, ready_at};
+ghost use Rattle.bridge_roots.specs.Standing.{IsHistory};
 ghost use Rattle.answering.specs.Ends.{AppliesFirst, DoesFirst, DrainsFirst, MovesFirst};
+ghost use Rattle.answering.specs.Running.{AreRoots};
 ghost use Rattle.answering.specs.Serving.{Writes};
-ghost use Rattle.answering.specs.Turning.{AreRoots};
 
 use crate::stopped::Halted;
 use behaviour::{Done, RootRun, next};
@@ -21,9 +21,9 @@ use uno_io::{Sink, write_all};
 /// The most bytes that are drained at once.
 const MOST_DRAINED: u32 = 65_536;
 
-/// What is known of each endpoint: its journal leads to what was told. It does nothing.
+/// What is known of each endpoint. It does nothing.
 pub(crate) fn know(end: &Endpoint)
-    ensures { Leads (setting_at end.now) end.now.entries (told_at end.now) }
+    ensures { IsHistory end.now }
 {
     end.journal();
 }
@@ -43,7 +43,7 @@ pub(crate) fn do_first<O: Sink>(
     runs: &mut Vec<RootRun>,
     output: &mut O,
 ) -> Result<bool, Halted>
-    requires { AreRoots (setting_at end.old) (map run_of runs.old.items) }
+    requires { AreRoots end.old (map run_of runs.old.items) }
     ensures does { DoesFirst end.old end.new (map run_of runs.old.items) (map run_of runs.new.items) (O.taken output.old) (O.taken output.new) result }
     ensures writes { Writes (O.faults output.old) (O.faults output.new) result }
     ensures stays { O.closed output.new ≡ O.closed output.old }
@@ -60,7 +60,7 @@ pub(crate) fn do_first<O: Sink>(
     drain_first(end, output)
 }
 
-/// Carries out the next statement of the oldest method that is ready. Another job than the one that was picked is never there.
+/// Carries out the next statement of the oldest method that is ready.
 fn apply_first(end: &mut Endpoint) -> Result<bool, Halted>
     ensures { AppliesFirst end.old end.new result }
 {
@@ -71,7 +71,8 @@ fn apply_first(end: &mut Endpoint) -> Result<bool, Halted>
     };
     match end.apply(done) {
         Ok(()) | Err(ApplyError::Full) => Ok(true),
-        Err(ApplyError::Stale(_)) | Err(ApplyError::NoMemory) => Err(lacks_memory(end)),
+        Err(ApplyError::Stale(_)) => unreachable!(),
+        Err(ApplyError::NoMemory) => Err(lacks_memory(end)),
     }
 }
 
@@ -79,13 +80,15 @@ fn apply_first(end: &mut Endpoint) -> Result<bool, Halted>
 fn asked_first(end: &Endpoint) -> Result<Option<Done>, NoMemory>
     ensures none { IfOk result (λ d. IfNone d (ready_at (side_at end.now) 0 ≡ None)) }
     ensures ready { IfOk result (λ d. IfSome d (λ done. ready_at (side_at end.now) 0 ≡ Some done.job.tid)) }
+    ensures current { IfOk result (λ d. IfSome d (λ done. pick (setting_at end.now) done.job.tid (side_at end.now) ≡ Some (job_of done.job))) }
     ensures asks { IfOk result (λ d. IfSome d (λ done. effect_of done.effect ≡ effect (setting_at end.now).plan (setting_at end.now).registry (job_of done.job))) }
 {
+    know(end);
     let Some(tid) = end.ready(0) else {
         return Ok(None);
     };
     let Some(job) = end.pick(tid)? else {
-        return Err(NoMemory);
+        unreachable!()
     };
     let registry = end.registry();
     Ok(Some(next(registry.allocator(), end.plan(), registry, job)?))
@@ -93,7 +96,7 @@ fn asked_first(end: &Endpoint) -> Result<Option<Done>, NoMemory>
 
 /// Moves the lowest root that moves.
 fn move_first(end: &mut Endpoint, runs: &mut Vec<RootRun>) -> Result<bool, Halted>
-    requires { AreRoots (setting_at end.old) (map run_of runs.old.items) }
+    requires { AreRoots end.old (map run_of runs.old.items) }
     ensures { MovesFirst end.old end.new (map run_of runs.old.items) (map run_of runs.new.items) result }
 {
     for place in 0..runs.len() {

@@ -1,11 +1,12 @@
 //! Pieces that were read.
-ghost use Rattle.std.specs.Prelude.{◌≡◌, ◌<◌, true, IfOk, IfErr, length, map};
+ghost use Rattle.std.specs.Prelude.{◌≡◌, ◌<◌, List, true, IfOk, IfErr, OnOk, length, map};
 ghost use Rattle.behaviour.specs.Roots.{run_of};
 ghost use Rattle.bridge_endpoint.specs.Journals.{setting_at, told_at};
 ghost use Rattle.bridge_model.specs.Sides.{stands};
+ghost use Rattle.plan_model.specs.Roots.{Run};
 ghost use Rattle.answering.specs.Ends.{AnswersSo, IsFed, IsSettled};
+ghost use Rattle.answering.specs.Running.{AreRoots};
 ghost use Rattle.answering.specs.Serving.{Writes};
-ghost use Rattle.answering.specs.Turning.{AreRoots};
 ghost use Rattle.answering.specs.declared.stopped.Halted.TheVariants as halted;
 
 use crate::doing::{know, lacks_memory};
@@ -23,7 +24,7 @@ pub(crate) fn answer_piece<O: Sink>(
     output: &mut O,
     piece: &[u8],
 ) -> Result<Option<Cause>, Halted>
-    requires roots { AreRoots (setting_at end.old) (map run_of runs.old.items) }
+    requires roots { AreRoots end.old (map run_of runs.old.items) }
     requires settled { IsSettled end.old (map run_of runs.old.items) }
     requires up { stands (told_at end.old).side ≡ true }
     ensures answers { AnswersSo end.old end.new (map run_of runs.old.items) (map run_of runs.new.items) piece.now (O.taken output.old) (O.taken output.new) result }
@@ -45,6 +46,7 @@ fn feed<'a>(end: &mut Endpoint, piece: &'a [u8]) -> Result<&'a [u8], Halted>
     requires up { stands (told_at end.old).side ≡ true }
     requires some { 0 < length piece.now }
     ensures fed { IfOk result (λ rest. IsFed end.old end.new piece.entry.now rest.now) }
+    ensures roots { OnOk result ((runs : List Run) → AreRoots end.old runs → AreRoots end.new runs) }
     ensures memory { IfErr result (λ why. why ≡ halted.NoMemory) }
 {
     know(end);

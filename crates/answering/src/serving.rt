@@ -10,8 +10,8 @@ ghost use Rattle.bridge_model.specs.declared.cause.Cause.{Cause as Why};
 ghost use Rattle.bridge_model.specs.declared.cause.Cause.TheVariants as cause;
 ghost use Rattle.answering.specs.Answering.{AnsweredPart, AnsweredWhole, GoesOnTelling, InputEnded, WasRead};
 ghost use Rattle.answering.specs.Ends.{ClosesSo, IsSettled};
+ghost use Rattle.answering.specs.Running.{AreRoots};
 ghost use Rattle.answering.specs.Serving.{Reads, Serves, Writes};
-ghost use Rattle.answering.specs.Turning.{AreRoots};
 
 use crate::Stopped;
 use crate::doing::{know, lacks_memory};
@@ -100,7 +100,7 @@ fn serve<I: Source, O: Sink>(
 
 /// The input has ended: does all that can be done then.
 fn close<O: Sink>(end: &mut Endpoint, runs: &mut Vec<RootRun>, output: &mut O) -> Result<(), Halted>
-    requires roots { AreRoots (setting_at end.old) (map run_of runs.old.items) }
+    requires roots { AreRoots end.old (map run_of runs.old.items) }
     requires settled { IsSettled end.old (map run_of runs.old.items) }
     requires up { stands (told_at end.old).side ≡ true }
     ensures closes { ClosesSo end.old end.new (map run_of runs.old.items) (map run_of runs.new.items) (O.taken output.old) (O.taken output.new) result }

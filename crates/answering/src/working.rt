@@ -3,8 +3,8 @@ ghost use Rattle.std.specs.Prelude.{◌≡◌, map};
 ghost use Rattle.behaviour.specs.Roots.{run_of};
 ghost use Rattle.bridge_endpoint.specs.Journals.{setting_at};
 ghost use Rattle.answering.specs.Ends.{SettlesSo, TurnsSo, WorksSo};
+ghost use Rattle.answering.specs.Running.{AreRoots};
 ghost use Rattle.answering.specs.Serving.{Writes};
-ghost use Rattle.answering.specs.Turning.{AreRoots};
 
 use crate::doing::{do_first, know, lacks_memory};
 use crate::stopped::Halted;
@@ -19,7 +19,7 @@ pub(crate) fn work<O: Sink>(
     runs: &mut Vec<RootRun>,
     output: &mut O,
 ) -> Result<Option<Cause>, Halted>
-    requires { AreRoots (setting_at end.old) (map run_of runs.old.items) }
+    requires { AreRoots end.old (map run_of runs.old.items) }
     ensures works { WorksSo end.old end.new (map run_of runs.old.items) (map run_of runs.new.items) (O.taken output.old) (O.taken output.new) result }
     ensures writes { Writes (O.faults output.old) (O.faults output.new) result }
     ensures stays { O.closed output.new ≡ O.closed output.old }
@@ -34,7 +34,7 @@ pub(crate) fn settle<O: Sink>(
     runs: &mut Vec<RootRun>,
     output: &mut O,
 ) -> Result<(), Halted>
-    requires { AreRoots (setting_at end.old) (map run_of runs.old.items) }
+    requires { AreRoots end.old (map run_of runs.old.items) }
     ensures settles { SettlesSo end.old end.new (map run_of runs.old.items) (map run_of runs.new.items) (O.taken output.old) (O.taken output.new) result }
     ensures writes { Writes (O.faults output.old) (O.faults output.new) result }
     ensures stays { O.closed output.new ≡ O.closed output.old }
@@ -53,7 +53,7 @@ fn turn<O: Sink>(
     runs: &mut Vec<RootRun>,
     output: &mut O,
 ) -> Result<bool, Halted>
-    requires { AreRoots (setting_at end.old) (map run_of runs.old.items) }
+    requires { AreRoots end.old (map run_of runs.old.items) }
     ensures turns { TurnsSo end.old end.new (map run_of runs.old.items) (map run_of runs.new.items) (O.taken output.old) (O.taken output.new) result }
     ensures writes { Writes (O.faults output.old) (O.faults output.new) result }
     ensures stays { O.closed output.new ≡ O.closed output.old }

@@ -1,11 +1,10 @@
 //! The calls of an endpoint, of each end that a value has.
-ghost use Rattle.std.specs.Prelude.{◌≡◌, ◌≢◌, ◌↔◌, ◌≤◌, Bool, suc, true, false, IfOk, IfSome, IfNone, OnErr, OnOk, length, map, option_map};
+ghost use Rattle.std.specs.Prelude.{◌≡◌, ◌≢◌, ◌↔◌, ◌≤◌, ℕ, Bool, List, suc, true, false, IfOk, IfSome, IfNone, OnErr, OnOk, length, map, option_map};
 ghost use Rattle.bridge_journal.specs.Logs.{entry_of};
 ghost use Rattle.bridge_model.specs.Answers as answers;
 ghost use Rattle.bridge_model.specs.Answers.{begun, drained_next, feed_answer, next_cut, no_room, pick};
 ghost use Rattle.bridge_model.specs.Entries as plain;
 ghost use Rattle.bridge_model.specs.Histories.{Leads};
-ghost use Rattle.bridge_model.specs.RootRuns.{StandsFor};
 ghost use Rattle.bridge_model.specs.Roots.{holds_pair, outcome_in};
 ghost use Rattle.bridge_model.specs.Settings.{own_oid};
 ghost use Rattle.bridge_model.specs.Sides.{stands, state_of};
@@ -16,6 +15,7 @@ ghost use Rattle.bridge_typing.specs.Giving.{MayGive, RootsGive};
 ghost use Rattle.plan_model.specs.Effects as effects;
 ghost use Rattle.plan_types.specs.Frames.{job_of};
 ghost use Rattle.plan_types.specs.Plans.{plan_of};
+ghost use Rattle.uno_entities.specs.Tag.{IsTag};
 ghost use Rattle.uno_model.specs.BuiltIn.{HasBuiltIn};
 ghost use Rattle.uno_model.specs.Sound.{IsSound};
 ghost use Rattle.uno_values.specs.Values.{plain_of};
@@ -24,8 +24,9 @@ ghost use Rattle.behaviour.specs.Roots.{run_of};
 ghost use Rattle.bridge_endpoint.specs.Answering.{AppliedSo, IsMadeOid, begun_told, fed_told, made_answer, made_told};
 ghost use Rattle.bridge_endpoint.specs.Entering.{applied_by, begun_by, draining, fed_by, how_ended, made_by, out_of_memory};
 ghost use Rattle.bridge_endpoint.specs.Journals as journals;
-ghost use Rattle.bridge_endpoint.specs.Journals.{setting_at, side_at, told_at, with_entry};
+ghost use Rattle.bridge_endpoint.specs.Journals.{IsSetUp, setting_at, side_at, told_at, with_entry};
 ghost use Rattle.bridge_roots.specs.Moving.{StepsSo};
+ghost use Rattle.bridge_roots.specs.Standing.{IsRunAt};
 ghost use Rattle.bridge_core.specs.Sides.{is_a};
 ghost use Rattle.bridge_core.specs.declared.side.Side.{Side};
 
@@ -49,14 +50,22 @@ pub trait Ends {
     /// Which sides there are.
     ghost has: { Self → Side → Bool };
 
+    /// Which pieces may be fed at a side: any, but where the other end is known, which must have said them next.
+    ghost may_feed: { Self → Side → List ℕ → Type 0 };
+
+    /// What an end entered stands behind all that was entered before, where there is another end.
+    ghost grows: { Side → Self → Self → Type 0 };
+
     /// Bytes come in: the front of a piece is taken, at most to the end of a block and as much as the limit of fed bytes leaves, and the messages of a block that is
     /// whole are received.
     fn feed(&mut self, side: Side, piece: &[u8]) -> Fed
-        requires { has self.old side ≡ true }
+        requires side { has self.old side ≡ true }
+        requires piece { may_feed self.old side piece.now }
         ensures answer { fed_told result ≢ no_room → fed_told result ≡ feed_answer (setting_at (end_at self.old side)) (side_at (end_at self.old side)) piece.now }
         ensures entered { end_at self.new side ≡ fed_by result (next_cut (side_at (end_at self.old side)) piece.now) (end_at self.old side) }
         ensures others { (other : Side) → has self.old other ≡ true → other ≢ side → end_at self.new other ≡ end_at self.old other }
-        ensures sides { (other : Side) → has self.new other ≡ has self.old other };
+        ensures sides { (other : Side) → has self.new other ≡ has self.old other }
+        ensures history { grows side self.old self.new };
 
     /// No more bytes come, or they cannot be read or written. Where the bridge has ended nothing happens.
     fn end_input(&mut self, side: Side, how: InputEnd)
@@ -64,7 +73,8 @@ pub trait Ends {
         ensures ended { stands (side_at (end_at self.old side)) ≡ true → end_at self.new side ≡ with_entry (how_ended how) (end_at self.old side) }
         ensures kept { stands (side_at (end_at self.old side)) ≡ false → end_at self.new side ≡ end_at self.old side }
         ensures others { (other : Side) → has self.old other ≡ true → other ≢ side → end_at self.new other ≡ end_at self.old other }
-        ensures sides { (other : Side) → has self.new other ≡ has self.old other };
+        ensures sides { (other : Side) → has self.new other ≡ has self.old other }
+        ensures history { grows side self.old self.new };
 
     /// A root asks the peer for the object of an exported name, under the wanted interface.
     fn ask(&mut self, side: Side, root: u32, name: &Text, wanted: &Name) -> Begun
@@ -74,7 +84,8 @@ pub trait Ends {
         ensures answer { begun_told result ≢ answers.no_room_left → begun_told result ≡ begun (setting_at (end_at self.old side)) (side_at (end_at self.old side)) (plain.asked root name.now wanted.now) }
         ensures entered { end_at self.new side ≡ begun_by result (plain.asked root name.now wanted.now) (end_at self.old side) }
         ensures others { (other : Side) → has self.old other ≡ true → other ≢ side → end_at self.new other ≡ end_at self.old other }
-        ensures sides { (other : Side) → has self.new other ≡ has self.old other };
+        ensures sides { (other : Side) → has self.new other ≡ has self.old other }
+        ensures history { grows side self.old self.new };
 
     /// A root calls a function of an object that it holds.
     fn call(
@@ -92,7 +103,8 @@ pub trait Ends {
         ensures answer { begun_told result ≢ answers.no_room_left → begun_told result ≡ begun (setting_at (end_at self.old side)) (side_at (end_at self.old side)) (plain.called root oid.now face.now function (map plain_of args.items)) }
         ensures entered { end_at self.new side ≡ begun_by result (plain.called root oid.now face.now function (map plain_of args.items)) (end_at self.old side) }
         ensures others { (other : Side) → has self.old other ≡ true → other ≢ side → end_at self.new other ≡ end_at self.old other }
-        ensures sides { (other : Side) → has self.new other ≡ has self.old other };
+        ensures sides { (other : Side) → has self.new other ≡ has self.old other }
+        ensures history { grows side self.old self.new };
 
     /// A root asks an object that it holds for another interface.
     fn query(&mut self, side: Side, root: u32, oid: &Text, face: &Name, wanted: &Name) -> Begun
@@ -102,7 +114,8 @@ pub trait Ends {
         ensures answer { begun_told result ≢ answers.no_room_left → begun_told result ≡ begun (setting_at (end_at self.old side)) (side_at (end_at self.old side)) (plain.queried root oid.now face.now wanted.now) }
         ensures entered { end_at self.new side ≡ begun_by result (plain.queried root oid.now face.now wanted.now) (end_at self.old side) }
         ensures others { (other : Side) → has self.old other ≡ true → other ≢ side → end_at self.new other ≡ end_at self.old other }
-        ensures sides { (other : Side) → has self.new other ≡ has self.old other };
+        ensures sides { (other : Side) → has self.new other ≡ has self.old other }
+        ensures history { grows side self.old self.new };
 
     /// A root makes an object of a behaviour, which it holds under the wanted interface.
     fn make(&mut self, side: Side, root: u32, behaviour: u32, wanted: &Name) -> Made
@@ -113,7 +126,8 @@ pub trait Ends {
         ensures identity { IsMadeOid result (own_oid (setting_at (end_at self.old side)) (suc (side_at (end_at self.old side)).tables.objects_made)) }
         ensures entered { end_at self.new side ≡ made_by result (plain.made root behaviour wanted.now) (end_at self.old side) }
         ensures others { (other : Side) → has self.old other ≡ true → other ≢ side → end_at self.new other ≡ end_at self.old other }
-        ensures sides { (other : Side) → has self.new other ≡ has self.old other };
+        ensures sides { (other : Side) → has self.new other ≡ has self.old other }
+        ensures history { grows side self.old self.new };
 
     /// What a root does.
     fn root_state(&self, side: Side, root: u32) -> RootState
@@ -127,7 +141,8 @@ pub trait Ends {
         ensures entered { IfSome result (λ o. end_at self.new side ≡ with_entry (plain.took root) (end_at self.old side)) }
         ensures kept { IfNone result (end_at self.new side ≡ (end_at self.old side)) }
         ensures others { (other : Side) → has self.old other ≡ true → other ≢ side → end_at self.new other ≡ end_at self.old other }
-        ensures sides { (other : Side) → has self.new other ≡ has self.old other };
+        ensures sides { (other : Side) → has self.new other ≡ has self.old other }
+        ensures history { grows side self.old self.new };
 
     /// A root lets an occurrence go. It takes no memory.
     fn drop_ref(&mut self, side: Side, root: u32, oid: Text, face: Name) -> Result<(), NotHeld>
@@ -137,7 +152,8 @@ pub trait Ends {
         ensures entered { OnOk result (end_at self.new side ≡ with_entry (plain.dropped root oid face) (end_at self.old side)) }
         ensures kept { OnErr result (end_at self.new side ≡ (end_at self.old side)) }
         ensures others { (other : Side) → has self.old other ≡ true → other ≢ side → end_at self.new other ≡ end_at self.old other }
-        ensures sides { (other : Side) → has self.new other ≡ has self.old other };
+        ensures sides { (other : Side) → has self.new other ≡ has self.old other }
+        ensures history { grows side self.old self.new };
 
     /// The thread at a place, from 0, among those whose top is a method, oldest first.
     fn ready(&self, side: Side, nth: u32) -> Option<&Tid>
@@ -156,7 +172,8 @@ pub trait Ends {
         ensures answer { AppliedSo (setting_at (end_at self.old side)) (side_at (end_at self.old side)) (job_of done.job) result }
         ensures entered { end_at self.new side ≡ applied_by result done.job.tid (end_at self.old side) }
         ensures others { (other : Side) → has self.old other ≡ true → other ≢ side → end_at self.new other ≡ end_at self.old other }
-        ensures sides { (other : Side) → has self.new other ≡ has self.old other };
+        ensures sides { (other : Side) → has self.new other ≡ has self.old other }
+        ensures history { grows side self.old self.new };
 
     /// Takes out the lowest object that may go, and lets its fields go.
     fn reap(&mut self, side: Side) -> Option<u32>
@@ -165,7 +182,8 @@ pub trait Ends {
         ensures entered { IfSome result (λ n. end_at self.new side ≡ with_entry (plain.reaped n) (end_at self.old side)) }
         ensures kept { IfNone result (end_at self.new side ≡ (end_at self.old side)) }
         ensures others { (other : Side) → has self.old other ≡ true → other ≢ side → end_at self.new other ≡ end_at self.old other }
-        ensures sides { (other : Side) → has self.new other ≡ has self.old other };
+        ensures sides { (other : Side) → has self.new other ≡ has self.old other }
+        ensures history { grows side self.old self.new };
 
     /// The next bytes to be written: so many, or all where fewer wait. Messages are spelled as they are wanted.
     fn drain(&mut self, side: Side, max: u32) -> Result<Vec<u8>, NoMemory>
@@ -175,7 +193,8 @@ pub trait Ends {
         ensures entered { IfOk result (λ bytes. end_at self.new side ≡ draining bytes.items (end_at self.old side)) }
         ensures lost { OnErr result (end_at self.new side ≡ out_of_memory (end_at self.old side)) }
         ensures others { (other : Side) → has self.old other ≡ true → other ≢ side → end_at self.new other ≡ end_at self.old other }
-        ensures sides { (other : Side) → has self.new other ≡ has self.old other };
+        ensures sides { (other : Side) → has self.new other ≡ has self.old other }
+        ensures history { grows side self.old self.new };
 
     /// Memory was wanting in what stands above: the bridge ends for that, and nothing is drained any more.
     fn run_out(&mut self, side: Side)
@@ -183,7 +202,8 @@ pub trait Ends {
         ensures entered { is_no_memory (side_at (end_at self.old side)).cause ≡ false → end_at self.new side ≡ with_entry plain.no_memory (end_at self.old side) }
         ensures kept { is_no_memory (side_at (end_at self.old side)).cause ≡ true → end_at self.new side ≡ end_at self.old side }
         ensures others { (other : Side) → has self.old other ≡ true → other ≢ side → end_at self.new other ≡ end_at self.old other }
-        ensures sides { (other : Side) → has self.new other ≡ has self.old other };
+        ensures sides { (other : Side) → has self.new other ≡ has self.old other }
+        ensures history { grows side self.old self.new };
 
     fn plan(&self, side: Side) -> &Plan
         requires { has self.now side ≡ true }
@@ -202,19 +222,23 @@ pub trait Ends {
         ensures disposed { stands (side_at (end_at self.old side)) ≡ true → end_at self.new side ≡ with_entry plain.disposed (end_at self.old side) }
         ensures kept { stands (side_at (end_at self.old side)) ≡ false → end_at self.new side ≡ end_at self.old side }
         ensures others { (other : Side) → has self.old other ≡ true → other ≢ side → end_at self.new other ≡ end_at self.old other }
-        ensures sides { (other : Side) → has self.new other ≡ has self.old other };
+        ensures sides { (other : Side) → has self.new other ≡ has self.old other }
+        ensures history { grows side self.old self.new };
 
     /// Why the bridge has ended, where it has.
     fn end(&self, side: Side) -> Option<Cause>
         requires { has self.now side ≡ true }
         ensures { result ≡ (side_at (end_at self.now side)).cause };
 
-    /// The entries, oldest first. They are a history of the definition, so that all its laws hold of it.
+    /// The entries, oldest first. They are a history of the definition, and the setting is as its laws ask for, so that all of them hold of it.
     fn journal(&self, side: Side) -> &[Entry]
         requires { has self.now side ≡ true }
         ensures entries { map entry_of result.now ≡ (end_at self.now side).entries }
         ensures leads { Leads (setting_at (end_at self.now side)) (end_at self.now side).entries (told_at (end_at self.now side)) }
-        ensures gives { RootsGive (setting_at (end_at self.now side)) (end_at self.now side).entries };
+        ensures gives { RootsGive (setting_at (end_at self.now side)) (end_at self.now side).entries }
+        ensures set_up { IsSetUp (setting_at (end_at self.now side)) }
+        ensures built_in { HasBuiltIn (setting_at (end_at self.now side)).registry }
+        ensures tag { IsTag (setting_at (end_at self.now side)).tag };
 
     /// How many stubs, living proxies and objects there are.
     fn counts(&self, side: Side) -> Counts
@@ -244,12 +268,13 @@ pub trait Ends {
     /// Does what a root does next, where it does not wait.
     fn root_step(&mut self, side: Side, run: &mut RootRun) -> RootMoved
         requires side { has self.old side ≡ true }
-        requires root { is_root (setting_at (end_at self.old side)) run.old.root ≡ true }
+        requires run { IsRunAt (end_at self.old side) (run_of run.old) }
         ensures step { StepsSo (end_at self.old side) (end_at self.new side) (run_of run.old) (run_of run.new) result }
         ensures waits { (result ≡ RootMoved.Waiting) ↔ (state_told (state_of run.old.root (side_at (end_at self.old side)).tables.roots) ≡ RootState.Waits) }
-        ensures stands { StandsFor (setting_at (end_at self.old side)) (end_at self.old side).entries (run_of run.old) → StandsFor (setting_at (end_at self.new side)) (end_at self.new side).entries (run_of run.new) }
+        ensures stands { IsRunAt (end_at self.new side) (run_of run.new) }
         ensures others { (other : Side) → has self.old other ≡ true → other ≢ side → end_at self.new other ≡ end_at self.old other }
-        ensures sides { (other : Side) → has self.new other ≡ has self.old other };
+        ensures sides { (other : Side) → has self.new other ≡ has self.old other }
+        ensures history { grows side self.old self.new };
 }
 
 /// An endpoint is side A.
@@ -257,6 +282,10 @@ impl Ends for Endpoint {
     ghost end_at = { λ e side. e };
 
     ghost has = { λ e side. is_a side };
+
+    ghost may_feed = { λ e side piece. Unit };
+
+    ghost grows = { λ side e f. Unit };
 
     fn feed(&mut self, side: Side, piece: &[u8]) -> Fed {
         Endpoint::feed(self, piece)

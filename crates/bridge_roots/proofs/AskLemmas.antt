@@ -1,15 +1,16 @@
 -- Statements that ask something, and moves of a root that is idle.
-use Rattle.std.proofs.Common.{arith, ◌≡◌, refl, sym, ap, subst, ◌∙◌, ◌++◌, ◌==◌, Bool, true, false, List, [], ◌∷◌, length, map, Option, None, Some, IfOk, Result, Ok, Err, is_err}
-use Rattle.std.proofs.lemmas.Bool.{eqb-true, false≢true, true≢false}
+use Rattle.std.proofs.Common.{arith, ◌≡◌, refl, sym, ap, subst, ◌∙◌, ◌++◌, ◌==◌, Bool, true, false, List, [], ◌∷◌, length, map, Option, None, Some, IfOk, Result, Ok, Err}
+use Rattle.std.proofs.lemmas.Bool.{eqb-true, true≢false}
 use Rattle.std.specs.Option.{is_some}
 use Rattle.uno_model.specs.Values.{Ref}
 use Rattle.uno_values.specs.References.{ref_of}
 use Rattle.uno_values.specs.declared.reference.Reference.{Reference}
 use Rattle.plan_model.specs.Calling.{object_of}
 use Rattle.plan_model.specs.Evaluation.{value_of_word}
+use Rattle.plan_model.specs.Frames.{Variable}
 use Rattle.plan_model.specs.Roots.{Run, next_loose}
 use Rattle.plan_model.specs.Statements.{RootStatement, Call, root_call}
-use Rattle.bridge_model.specs.RootRuns.{Moved, begins_statement, calls_on, idle_moves, lets_loose, next_statement, root_moves, scene_of, state_moves, statement_at, waiting}
+use Rattle.bridge_model.specs.RootRuns.{Moved, begins_statement, calls_on, idle_moves, is_skipped, lets_loose, next_statement, root_moves, scene_of, state_moves, statement_at, waiting}
 use Rattle.bridge_model.specs.Settings.{Setting}
 use Rattle.bridge_model.specs.Sides.{RootState, Side, idle, waits_call, waits_query, answered, state_of, stands_by}
 use Rattle.bridge_model.specs.declared.cause.Cause.{Cause}
@@ -17,7 +18,7 @@ use Rattle.bridge_state.specs.Telling.{state_told}
 use Rattle.bridge_state.specs.declared.telling.RootState.TheVariants as told
 use Rattle.bridge_endpoint.specs.Journals.{Endpoint, setting_at, side_at}
 use Rattle.bridge_roots.specs.Asking.{asks}
-use Rattle.bridge_roots.specs.Moving.{Does, DoesAny, DoesOr, IsLeft, next_move}
+use Rattle.bridge_roots.specs.Moving.{Does, DoesAny, DoesOr, next_move}
 use Rattle.bridge_roots.specs.declared.asking.Asked.{Asked}
 use Rattle.bridge_roots.proofs.StateLemmas.{goes_on, idle_does}
 
@@ -49,6 +50,13 @@ asks_so e f r after at s m done there begins does is =
     some_same : Some at ≡ Some s → at ≡ s
     some_same both = cc
 
+-- the statement that is there is not skipped
+pub goes_so : (xs : List Variable) (there s : RootStatement) (o : Option RootStatement) (b : Bool) → Some there ≡ o → b ≡ is_skipped xs there → b ≡ false → o ≡ Some s → is_skipped xs s ≡ false
+goes_so xs there s o b at is stays other = ap (is_skipped xs) (sym (some_same (at ∙ other))) ∙ (sym is ∙ stays)
+  where
+    some_same : Some there ≡ Some s → there ≡ s
+    some_same both = cc
+
 -- ---- moves of a root that is idle
 
 -- it has nothing to let go, and begins its next statement
@@ -68,6 +76,10 @@ pub first_loose : {P : Type 0} (rs : List Reference) (more : List Ref) → (leng
 first_loose [] more some then = absurd (true≢false some)
 first_loose (x ∷ rs) more some then = then (ref_of x) refl
 
+pub none_loose : (rs : List Reference) (more : List Ref) → (rs ≡ [] → ⊥) → None ≡ next_loose (map ref_of rs ++ more) → ⊥
+none_loose [] more some none = some refl
+none_loose (x ∷ rs) more some none = let bad : ⊥ = cc in bad
+
 -- it lets the first one go
 pub lets_go_so : (e f : Endpoint) (r mid after : Run) (x : Ref) → mid ≡ r → state_of r.root (side_at e).tables.roots ≡ idle → next_loose mid.loose ≡ Some x
     → Does (lets_loose mid x) e f after → Does (next_move e r) e f after
@@ -75,11 +87,6 @@ lets_go_so e f r mid after x same free next does =
     let first : next_loose r.loose ≡ Some x = subst (λ q. next_loose q.loose ≡ Some x) same next in
     let moves : next_move e r ≡ lets_loose r x = idle_does (setting_at e) (side_at e) r free ∙ ap (idle_moves (setting_at e) (side_at e) r) first in
     subst (λ m. Does m e f after) (sym moves) (subst (λ q. Does (lets_loose q x) e f after) same does)
-
--- or nothing is changed
-pub left_so : {X : Type 0} (m : Moved) (e f : Endpoint) (r mid after : Run) (done : Result Bool X) → is_err done ≡ true → mid ≡ r → IsLeft e f mid after → DoesAny m e f r after done
-left_so m e f r mid after (Err x) is same left = subst (λ q. IsLeft e f q after) same left
-left_so m e f r mid after (Ok b) is same left = absurd (false≢true is)
 
 -- ---- a root that waits
 

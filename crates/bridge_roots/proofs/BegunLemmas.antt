@@ -15,7 +15,7 @@ use Rattle.bridge_endpoint.specs.Entering.{begun_by}
 use Rattle.bridge_endpoint.specs.Journals.{Endpoint, setting_at, side_at, with_entry}
 use Rattle.bridge_endpoint.specs.declared.answers.Begun.{Begun}
 use Rattle.bridge_endpoint.specs.declared.answers.Begun.TheVariants as variant
-use Rattle.bridge_roots.specs.Beginning.{began_run, has_begun}
+use Rattle.bridge_roots.specs.Beginning.{IsBegun, began_run, has_begun}
 use Rattle.bridge_roots.specs.Moving.{Does, DoesOr}
 use Rattle.bridge_roots.proofs.MoveLemmas.{entered}
 
@@ -43,6 +43,39 @@ standing_open g s x is = by_may (may g s x) (by_outcome _) (outcome_open _) is
 pub full_told : (fill : Bool) (a : answers.Begun) → a ≢ answers.at_limit_too → (if fill then answers.at_limit_too else a) ≡ answers.at_limit_too → fill ≡ true
 full_told true a other is = refl
 full_told false a other is = absurd (other is)
+
+-- nor is it answered that what it gives is not held
+some_outcome : (o : Option Outcome) → by_outcome o ≢ answers.not_held
+some_outcome None is = let bad : ⊥ = cc in bad
+some_outcome (Some o) is = let bad : ⊥ = cc in bad
+
+held_told : (g : Setting) (s : Side) (x : Entry) (fill : Bool) → has_entries s ≡ fill → (has_entries s ≡ false → may g s x ≡ true)
+    → (if fill then answers.at_limit_too else begun_standing g s x) ≡ answers.not_held → ⊥
+held_told g s x true had can is = let bad : ⊥ = cc in bad
+held_told g s x false had can is = by_may (may g s x) (can had) (by_outcome _) (some_outcome _) is
+  where
+    by_may : (b : Bool) → b ≡ true → (a : answers.Begun) → a ≢ answers.not_held → (if b then a else answers.not_held) ≢ answers.not_held
+    by_may true sure a other same = other same
+    by_may false sure a other same = absurd (false≢true sure)
+
+pub is_begun : (g : Setting) (s : Side) (x : Entry) (b : Begun) → stands s ≡ true → (has_entries s ≡ false → may g s x ≡ true) → (begun_told b ≢ answers.no_room_left → begun_told b ≡ begun g s x) → IsBegun b
+unfolding begun
+is_begun g s x variant.Started up can is = tt
+is_begun g s x variant.Answered up can is = tt
+is_begun g s x variant.Full up can is = tt
+is_begun g s x variant.NoMemory up can is = tt
+is_begun g s x variant.NotHeld up can is =
+    held_told g s x (has_entries s) refl can (sym (at_no_end s.cause _ up) ∙ sym (is (λ a. let bad : ⊥ = cc in bad)))
+is_begun g s x variant.Gone up can is = by_limit (has_entries s) (sym (at_no_end s.cause _ up) ∙ sym (is (λ a. let bad : ⊥ = cc in bad)))
+  where
+    by_standing : (b : Bool) (o : Option Outcome) → (if b then by_outcome o else answers.not_held) ≡ answers.gone_already → ⊥
+    by_standing false o same = let bad : ⊥ = cc in bad
+    by_standing true None same = let bad : ⊥ = cc in bad
+    by_standing true (Some o) same = let bad : ⊥ = cc in bad
+
+    by_limit : (fill : Bool) → (if fill then answers.at_limit_too else begun_standing g s x) ≡ answers.gone_already → ⊥
+    by_limit true same = let bad : ⊥ = cc in bad
+    by_limit false same = by_standing (may g s x) _ same
 
 begins_where : (s : Side) (r : Run) (x : Entry) (up fill : Bool) → stands s ≡ up → has_entries s ≡ fill
     → begins s r x ≡ (if not up then without_entry (over_with (codes "gone") r) else (if fill then moved (over_with (codes "full") r) (Some full) else moved r (Some x)))

@@ -1,5 +1,5 @@
 -- What becomes of a statement that makes an object, by what was answered.
-use Rattle.std.proofs.Common.{◌≡◌, ◌≢◌, refl, sym, ap, ◌∙◌, ◌++◌, suc, true, false, inl, inr, Some, List, ℕ, Result, Ok, Err, is_ok, codes, if◌then◌else◌}
+use Rattle.std.proofs.Common.{◌≡◌, ◌≢◌, refl, sym, ap, ◌∙◌, ◌++◌, suc, true, false, inl, inr, Some, List, ℕ, Bool, Result, Ok, Err, is_ok, codes, if◌then◌else◌}
 use Rattle.std.proofs.lemmas.Bool.{true≢false, false≢true}
 use Rattle.literal_model.specs.Literals.{print}
 use Rattle.uno_model.specs.Values.{Ref, Plain, own}
@@ -17,7 +17,7 @@ use Rattle.bridge_endpoint.specs.Entering.{made_by}
 use Rattle.bridge_endpoint.specs.Journals.{Endpoint, setting_at, side_at}
 use Rattle.bridge_endpoint.specs.declared.answers.Made.{Made}
 use Rattle.bridge_endpoint.specs.declared.answers.Made.TheVariants as variant
-use Rattle.bridge_roots.specs.Making.{made_run, has_made}
+use Rattle.bridge_roots.specs.Making.{IsMade, made_run, has_made}
 use Rattle.bridge_roots.specs.Moving.{DoesOr}
 use Rattle.bridge_roots.proofs.BegunLemmas.{at_no_end, open_told, full_told}
 use Rattle.bridge_roots.proofs.MoveLemmas.{entered}
@@ -35,6 +35,17 @@ makes_full g s r m stood had = rw (stood, had) refl
 
 pub makes_gone : (g : Setting) (s : Side) (r : Run) (m : Making) → stands s ≡ false → makes_new g s r m ≡ without_entry (over_with (codes "gone") r)
 makes_gone g s r m stood = rw (stood) refl
+
+-- where the bridge stands it is not answered that it has ended
+pub is_made : (s : Side) (x : Made) → stands s ≡ true → (made_told x ≢ answers.no_room_left → made_told x ≡ made_answer s) → IsMade x
+is_made s (variant.Made oid) up is = tt
+is_made s variant.Full up is = tt
+is_made s variant.NoMemory up is = tt
+is_made s variant.Gone up is = by_limit (has_entries s) (sym (at_no_end s.cause _ up) ∙ sym (is (λ a. let bad : ⊥ = cc in bad)))
+  where
+    by_limit : (fill : Bool) → (if fill then answers.at_limit_too else answers.started) ≡ answers.gone_already → ⊥
+    by_limit true same = let bad : ⊥ = cc in bad
+    by_limit false same = let bad : ⊥ = cc in bad
 
 module _ (e f : Endpoint) (r after : Run) (m : Making) (up : stands (side_at e) ≡ true) where
   told : (x : Made) → made_told x ≡ made_answer (side_at e) → (if has_entries (side_at e) then answers.at_limit_too else answers.started) ≡ made_told x

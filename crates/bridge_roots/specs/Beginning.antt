@@ -16,3 +16,9 @@ has_begun begun.Started = true
 has_begun begun.Answered = true
 has_begun begun.Full = true
 has_begun b = false
+
+-- it is not that the bridge has ended, or that the root lacks what it gives
+abbrev pub IsBegun : Begun → Type 0
+IsBegun begun.NotHeld = ⊥
+IsBegun begun.Gone = ⊥
+IsBegun b = Unit

@@ -4,4 +4,5 @@ pub mod Giving
 pub mod Letting
 pub mod Making
 pub mod Moving
+pub mod Standing
 pub mod Taking

@@ -27,3 +27,8 @@ abbrev pub has_made : Made → Bool
 has_made (made.Made oid) = true
 has_made made.Full = true
 has_made m = false
+
+-- it is not that the bridge has ended
+abbrev pub IsMade : Made → Type 0
+IsMade made.Gone = ⊥
+IsMade m = Unit

@@ -1,5 +1,5 @@
 //! What a statement asks of the endpoint.
-ghost use Rattle.std.specs.Prelude.{◌≡◌, ℕ, IfOk, [], map};
+ghost use Rattle.std.specs.Prelude.{◌≡◌, ◌<◌, ◌^◌, ℕ, IfOk, [], map};
 ghost use Rattle.std.specs.Option.{unwrap_or};
 ghost use Rattle.bridge_model.specs.Entries.{asked, called};
 ghost use Rattle.bridge_model.specs.RootRuns.{begins_statement, calls_on, queries_on};
@@ -9,12 +9,12 @@ ghost use Rattle.plan_model.specs.Calling.{given_values, number_in, object_of};
 ghost use Rattle.plan_model.specs.Evaluation.{value_of_word};
 ghost use Rattle.plan_types.specs.Expressions.{argument_of, word_of};
 ghost use Rattle.plan_types.specs.Frames.{variables_of};
-ghost use Rattle.plan_types.specs.Statements.{call_of, query_of, root_statement_of};
+ghost use Rattle.plan_types.specs.Statements.{call_of, callee_of, query_of, root_statement_of};
 ghost use Rattle.uno_model.specs.Sound.{IsSound};
 ghost use Rattle.uno_values.specs.Values.{plain_of};
 ghost use Rattle.behaviour.specs.Roots.{run_of};
 ghost use Rattle.behaviour.specs.Running.{root_scene};
-ghost use Rattle.bridge_roots.specs.Asking.{asks, entry_of, IsAsking};
+ghost use Rattle.bridge_roots.specs.Asking.{HasSmallNumber, IsAsking, IsSmallNumber, asks, entry_of};
 
 use behaviour::{RootRun, Target, number_in, root_target, root_values};
 use plan_types::{Call, Query, RootStatement, Variable};
@@ -53,6 +53,7 @@ pub(crate) fn asked_by(
 ) -> Result<Option<Asked>, NoMemory>
     requires sound { IsSound registry.now }
     requires asking { IsAsking (root_statement_of statement.now) }
+    requires small { HasSmallNumber registry.now (run_of run.now) (root_statement_of statement.now) }
     ensures { (g : Setting) (s : Side) → g.registry ≡ registry.now → IfOk result (λ a. begins_statement g s (run_of run.now) (root_statement_of statement.now) ≡ asks s (run_of run.now) a) }
 {
     match statement {
@@ -66,7 +67,10 @@ pub(crate) fn asked_by(
         }
         RootStatement::Call(call) => asks_call(alloc, registry, run, call),
         RootStatement::Query(query) => asks_query(run, query),
-        _ => Err(NoMemory),
+        RootStatement::Make(_) => unreachable!(),
+        RootStatement::Drop(_) => unreachable!(),
+        RootStatement::Same(_, _) => unreachable!(),
+        RootStatement::Dispose => unreachable!(),
     }
 }
 
@@ -86,14 +90,28 @@ fn asks_call(
     run: &RootRun,
     call: &Call,
 ) -> Result<Option<Asked>, NoMemory>
-    requires { IsSound registry.now }
+    requires sound { IsSound registry.now }
+    requires small { IsSmallNumber registry.now (call_of call.now) (object_of (value_of_word (root_scene (variables_of run.now.variables.items)) (word_of call.now.target))) }
     ensures { (s : Side) → IfOk result (λ a. calls_on registry.now s (run_of run.now) (call_of call.now) (object_of (value_of_word (root_scene (variables_of run.now.variables.items)) (word_of call.now.target))) ≡ asks s (run_of run.now) a) }
 {
     match root_target(&run.variables, &call.target) {
         Target::Null => Ok(None),
-        Target::Local { oid, face } | Target::Remote { oid, face } => {
-            Ok(Some(calls(alloc, registry, &run.variables, call, oid, face)?))
-        }
+        Target::Local { oid, face } => Ok(Some(calls(
+            alloc,
+            registry,
+            &run.variables,
+            call,
+            oid,
+            face,
+        )?)),
+        Target::Remote { oid, face } => Ok(Some(calls(
+            alloc,
+            registry,
+            &run.variables,
+            call,
+            oid,
+            face,
+        )?)),
     }
 }
 
@@ -106,17 +124,15 @@ fn calls(
     oid: &Text,
     face: &Name,
 ) -> Result<Asked, NoMemory>
-    requires { IsSound registry.now }
+    requires sound { IsSound registry.now }
+    requires small { number_in registry.now face.now (callee_of call.now.callee) < 2 ^ 16 }
     ensures { IfOk result (λ a. (root : ℕ) → entry_of root a ≡ called root oid.now face.now (number_in registry.now face.now (call_of call.now).callee) (unwrap_or (given_values (root_scene (variables_of variables.now)) (call_of call.now).arguments) [])) }
 {
     let number = number_in(alloc, registry, face.as_str(), &call.callee)?;
-    let Ok(function) = u16::try_from(number) else {
-        return Err(NoMemory);
-    };
     Ok(Asked::Call {
         oid: oid.copy()?,
         face: face.copy()?,
-        function,
+        function: number as u16,
         args: values(alloc, variables, call)?,
     })
 }

@@ -1,14 +1,12 @@
 //! What the next statement of a root begins.
-ghost use Rattle.std.specs.Prelude.{◌≡◌, ◌≢◌, ◌-◌, ◌<◌, ◌^◌, true, Some, OnErr, OnOk, codes, is_ok};
+ghost use Rattle.std.specs.Prelude.{◌≡◌, ◌≢◌, ◌-◌, ◌<◌, ◌^◌, [], true, false, Some, IsSome, OnErr, OnOk, codes, is_ok};
 ghost use Rattle.std.specs.Vec.{vec_capacity, vec_len};
 ghost use Rattle.bridge_model.specs.Answers as answers;
 ghost use Rattle.bridge_model.specs.Answers.{begun};
-ghost use Rattle.bridge_model.specs.RootRuns.{begins, begins_statement, disposes, drops, goes_over, line_of, next_statement, same_text, statement_at};
-ghost use Rattle.bridge_model.specs.Settings.{root_tid};
-ghost use Rattle.bridge_model.specs.Sides.{idle, state_of};
-ghost use Rattle.bridge_model.specs.Steps.{is_root, may_begin};
+ghost use Rattle.bridge_model.specs.RootRuns.{begins, begins_statement, disposes, drops, goes_over, is_skipped, line_of, next_statement, same_text, statement_at};
+ghost use Rattle.bridge_model.specs.Sides.{idle, stands, state_of};
+ghost use Rattle.bridge_model.specs.Steps.{has_entries, is_root, may, may_begin};
 ghost use Rattle.bridge_typing.specs.Giving.{MayGive};
-ghost use Rattle.message_model.specs.Sayable.{IsThread};
 ghost use Rattle.plan_model.specs.Evaluation.{same_value, value_under};
 ghost use Rattle.plan_model.specs.Statements.{RootStatement as Statement};
 ghost use Rattle.plan_types.specs.Frames.{variables_of};
@@ -17,14 +15,14 @@ ghost use Rattle.bridge_endpoint.specs.Answering.{begun_told};
 ghost use Rattle.bridge_endpoint.specs.Entering.{begun_by};
 ghost use Rattle.bridge_endpoint.specs.Journals.{setting_at, side_at};
 ghost use Rattle.bridge_roots.specs.Asking.{entry_of};
-ghost use Rattle.bridge_roots.specs.Beginning.{began_run, has_begun};
+ghost use Rattle.bridge_roots.specs.Beginning.{IsBegun, began_run, has_begun};
 ghost use Rattle.bridge_roots.specs.Moving.{DoesAny, DoesOr};
+ghost use Rattle.bridge_roots.specs.Standing.{IsRunAt};
 
 use crate::asking::{Asked, asked_by};
-use crate::giving::may_give;
 use crate::making::make;
 use crate::saying::{line_for, says};
-use crate::stepping::statement_at;
+use crate::stepping::{know_history, statement_at};
 use behaviour::{RootRun, same_value, value_under};
 use bridge_endpoint::{Begun, Endpoint};
 use plan_types::{RootStatement, Variable};
@@ -35,8 +33,9 @@ use uno_values::Value;
 
 /// Begins the next statement, unless a variable that it names has no value.
 pub(crate) fn begin(end: &mut Endpoint, run: &mut RootRun) -> Result<bool, NoMemory>
-    requires root { is_root (setting_at end.old) run.old.root ≡ true }
+    requires run { IsRunAt end.old (run_of run.old) }
     requires idle { state_of run.old.root (side_at end.old).tables.roots ≡ idle }
+    requires none { (run_of run.old).loose ≡ [] }
     ensures { DoesAny (next_statement (setting_at end.old) (side_at end.old) (run_of run.old) (statement_at (setting_at end.old) (run_of run.old))) end.old end.new (run_of run.old) (run_of run.new) result }
 {
     let Some(statement) = statement_at(end, run) else {
@@ -53,13 +52,17 @@ pub(crate) fn begin(end: &mut Endpoint, run: &mut RootRun) -> Result<bool, NoMem
 /// Begins the next statement, which is there.
 #[tactic(auto, unfolding(bridge_model::specs::RootRuns::begins_statement))]
 fn begin_statement(end: &mut Endpoint, run: &mut RootRun) -> Result<(), NoMemory>
-    requires root { is_root (setting_at end.old) run.old.root ≡ true }
+    requires run { IsRunAt end.old (run_of run.old) }
     requires idle { state_of run.old.root (side_at end.old).tables.roots ≡ idle }
+    requires none { (run_of run.old).loose ≡ [] }
+    requires there { IsSome (statement_at (setting_at end.old) (run_of run.old)) }
+    requires goes { (s : Statement) → statement_at (setting_at end.old) (run_of run.old) ≡ Some s → is_skipped (run_of run.old).variables s ≡ false }
     ensures { (s : Statement) → statement_at (setting_at end.old) (run_of run.old) ≡ Some s → DoesOr (begins_statement (setting_at end.old) (side_at end.old) (run_of run.old) s) end.old end.new (run_of run.old) (run_of run.new) result }
 {
+    know_history(end);
     let alloc = end.registry().allocator();
     let Some(statement) = statement_at(end, run) else {
-        return Err(NoMemory);
+        unreachable!()
     };
     match statement {
         RootStatement::Make(making) => {
@@ -93,6 +96,8 @@ fn begin_statement(end: &mut Endpoint, run: &mut RootRun) -> Result<(), NoMemory
 fn ask(end: &mut Endpoint, run: &mut RootRun, asked: Asked) -> Result<(), NoMemory>
     requires root { is_root (setting_at end.old) run.old.root ≡ true }
     requires idle { state_of run.old.root (side_at end.old).tables.roots ≡ idle }
+    requires gives { MayGive (setting_at end.old) (entry_of run.old.root asked) }
+    requires holds { stands (side_at end.old) ≡ true → has_entries (side_at end.old) ≡ false → may (setting_at end.old) (side_at end.old) (entry_of run.old.root asked) ≡ true }
     ensures { DoesOr (begins (side_at end.old) (run_of run.old) (entry_of run.old.root asked)) end.old end.new (run_of run.old) (run_of run.new) result }
 {
     let alloc = end.registry().allocator();
@@ -100,11 +105,6 @@ fn ask(end: &mut Endpoint, run: &mut RootRun, asked: Asked) -> Result<(), NoMemo
     if end.end().is_some() {
         drop(asked);
         return says(alloc, run, "gone");
-    }
-    know_thread(end, root);
-    if !may_give(end.registry(), &asked) {
-        drop(asked);
-        return Err(NoMemory);
     }
     match line_for(alloc, run, "full") {
         Ok(full) => {
@@ -116,13 +116,6 @@ fn ask(end: &mut Endpoint, run: &mut RootRun, asked: Asked) -> Result<(), NoMemo
             Err(NoMemory)
         }
     }
-}
-
-/// What is known of the thread of each root. It does nothing.
-fn know_thread(end: &Endpoint, root: u32)
-    ensures { IsThread (root_tid (setting_at end.now) root) }
-{
-    end.registry();
 }
 
 fn ask_it(end: &mut Endpoint, root: u32, asked: Asked) -> Begun
@@ -148,6 +141,7 @@ fn began(run: &mut RootRun, full: Text, begun: Begun) -> Result<(), NoMemory>
     requires line { full ≡ line_of (run_of run.old) (codes "full") }
     requires place { run.old.place < 2 ^ 32 - 1 }
     requires room { vec_len run.old.lines < vec_capacity run.old.lines }
+    requires begun { IsBegun begun }
     ensures run { run_of run.new ≡ began_run begun (run_of run.old) }
     ensures moved { is_ok result ≡ has_begun begun }
 {
@@ -160,7 +154,9 @@ fn began(run: &mut RootRun, full: Text, begun: Begun) -> Result<(), NoMemory>
             over_with(run, full);
             Ok(())
         }
-        Begun::NotHeld | Begun::Gone | Begun::NoMemory => {
+        Begun::NotHeld => unreachable!(),
+        Begun::Gone => unreachable!(),
+        Begun::NoMemory => {
             drop(full);
             Err(NoMemory)
         }

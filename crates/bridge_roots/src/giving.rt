@@ -16,10 +16,8 @@ ghost use Rattle.uno_model.specs.BuiltIn.{HasBuiltIn};
 ghost use Rattle.uno_model.specs.Fits.{FitEach};
 ghost use Rattle.uno_model.specs.Sound.{IsSound};
 ghost use Rattle.uno_values.specs.Values.{plain_of, plains_of};
-ghost use Rattle.bridge_roots.specs.Asking.{entry_of};
 ghost use Rattle.bridge_roots.specs.Giving.{kind_or_none};
 
-use crate::asking::Asked;
 use crate::naming::is_export_name;
 use bridge_setting::supports;
 use plan_types::Plan;
@@ -35,24 +33,6 @@ const MANAGER: u32 = 256;
 
 /// The interface under which the peer is asked for a name.
 pub const X_INTERFACE: &str = "com.sun.star.uno.XInterface";
-
-/// Whether a root may ask this.
-pub(crate) fn may_give(registry: &Registry, asked: &Asked) -> bool
-    requires sound { IsSound registry.now }
-    requires built_in { HasBuiltIn registry.now }
-    ensures { (g : Setting) (root : ℕ) → g.registry ≡ registry.now → IsThread (root_tid g root) → (IsTrue result ↔ MayGive g (entry_of root asked.now)) }
-{
-    match asked {
-        Asked::Name { name, wanted } => may_ask(registry, name, wanted),
-        Asked::Call {
-            oid,
-            face,
-            function,
-            args,
-        } => may_call(registry, oid, face, *function, args),
-        Asked::Query { oid, face, wanted } => may_query(registry, oid, face.as_str(), wanted),
-    }
-}
 
 /// Whether a root may ask the peer for a name: it has the form of an export's, and what is asked is a query of `X_INTERFACE`.
 pub fn may_ask(registry: &Registry, name: &Text, wanted: &Name) -> bool

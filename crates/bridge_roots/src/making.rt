@@ -2,19 +2,20 @@
 ghost use Rattle.std.specs.Prelude.{◌≡◌, ◌++◌, ◌-◌, ◌<◌, ◌^◌, List, suc, true, IfOk, OnOk, codes, is_ok};
 ghost use Rattle.std.specs.String.{string_bytes};
 ghost use Rattle.std.specs.Vec.{vec_capacity, vec_len};
+ghost use Rattle.bridge_model.specs.Entries as entry;
 ghost use Rattle.bridge_model.specs.RootRuns.{adds, line_of, makes_new, over_with};
 ghost use Rattle.bridge_model.specs.Settings.{own_oid};
 ghost use Rattle.bridge_model.specs.Steps.{is_root};
+ghost use Rattle.bridge_typing.specs.Giving.{MayGive};
 ghost use Rattle.literal_model.specs.Literals.{print};
 ghost use Rattle.uno_model.specs.Entities.{Entity};
 ghost use Rattle.uno_model.specs.Values.{Ref, own, ref};
 ghost use Rattle.uno_values.specs.Values.{plain_of};
 ghost use Rattle.behaviour.specs.Roots.{run_of};
 ghost use Rattle.bridge_endpoint.specs.Journals.{setting_at, side_at};
-ghost use Rattle.bridge_roots.specs.Making.{IsReady, has_made, made_run};
+ghost use Rattle.bridge_roots.specs.Making.{IsMade, IsReady, has_made, made_run};
 ghost use Rattle.bridge_roots.specs.Moving.{DoesOr};
 
-use crate::giving::may_make;
 use crate::saying::{line_for, says};
 use behaviour::RootRun;
 use bridge_endpoint::{Endpoint, Made};
@@ -41,18 +42,14 @@ pub(crate) fn make(
     wanted: Name,
     to: Name,
 ) -> Result<(), NoMemory>
-    requires { is_root (setting_at end.old) run.old.root ≡ true }
+    requires root { is_root (setting_at end.old) run.old.root ≡ true }
+    requires gives { MayGive (setting_at end.old) (entry.made run.old.root behaviour wanted) }
     ensures { DoesOr (makes_new (setting_at end.old) (side_at end.old) (run_of run.old) (record { behaviour = behaviour; face = wanted; to = to })) end.old end.new (run_of run.old) (run_of run.new) result }
 {
     if end.end().is_some() {
         drop(wanted);
         drop(to);
         return says(end.registry().allocator(), run, "gone");
-    }
-    if !may_make(end.registry(), end.plan(), behaviour, &wanted) {
-        drop(wanted);
-        drop(to);
-        return Err(NoMemory);
     }
     match prepare(end, run, &wanted) {
         Ok(ready) => {
@@ -104,6 +101,7 @@ fn made(run: &mut RootRun, to: Name, ready: Ready, made: Made) -> Result<(), NoM
     requires place { run.old.place < 2 ^ 32 - 1 }
     requires lines { vec_len run.old.lines < vec_capacity run.old.lines }
     requires variables { vec_len run.old.variables < vec_capacity run.old.variables }
+    requires made { IsMade made }
     ensures run { (reg : List Entity) (r : Ref) → IsReady reg (run_of run.old) r ready → run_of run.new ≡ made_run reg made to r (run_of run.old) }
     ensures moved { is_ok result ≡ has_made made }
 {
@@ -113,7 +111,8 @@ fn made(run: &mut RootRun, to: Name, ready: Ready, made: Made) -> Result<(), NoM
             tells(run, to, ready)
         }
         Made::Full => fills(run, to, ready),
-        Made::Gone | Made::NoMemory => {
+        Made::Gone => unreachable!(),
+        Made::NoMemory => {
             drop(to);
             drop(ready);
             Err(NoMemory)

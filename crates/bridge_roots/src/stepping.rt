@@ -1,18 +1,19 @@
 //! One step of a root.
 ghost use Rattle.std.specs.Prelude.{◌≡◌, ◌↔◌, [], true, Some, map, option_map, slice_get};
-ghost use Rattle.bridge_model.specs.Histories.{Leads};
-ghost use Rattle.bridge_model.specs.RootRuns.{StandsFor, lets_loose, statement_at};
+ghost use Rattle.bridge_model.specs.Entries.{dropped};
+ghost use Rattle.bridge_model.specs.RootRuns.{lets_loose, statement_at};
+ghost use Rattle.bridge_model.specs.Roots.{holds_pair};
 ghost use Rattle.bridge_model.specs.Sides.{idle, state_of};
-ghost use Rattle.bridge_model.specs.Steps.{is_root};
 ghost use Rattle.bridge_state.specs.Telling.{state_told};
 ghost use Rattle.plan_model.specs.Roots.{next_loose, statements_in};
 ghost use Rattle.plan_types.specs.Statements.{root_statement_of};
 ghost use Rattle.uno_model.specs.Values.{Ref};
 ghost use Rattle.uno_values.specs.References.{ref_of};
 ghost use Rattle.behaviour.specs.Roots.{run_of};
-ghost use Rattle.bridge_endpoint.specs.Journals.{setting_at, side_at, told_at};
-ghost use Rattle.bridge_roots.specs.Letting.{is_held};
-ghost use Rattle.bridge_roots.specs.Moving.{DoesAny, DoesOr, StepsSo, next_move, told};
+ghost use Rattle.bridge_endpoint.specs.Journals.{setting_at, side_at, with_entry};
+ghost use Rattle.bridge_roots.specs.Letting.{goes_with, is_held};
+ghost use Rattle.bridge_roots.specs.Moving.{Does, DoesAny, StepsSo, next_move, told, with_any};
+ghost use Rattle.bridge_roots.specs.Standing.{IsHistory, IsRunAt};
 
 use crate::RootMoved;
 use crate::beginning::begin;
@@ -22,30 +23,29 @@ use bridge_endpoint::{Endpoint, RootState};
 use plan_types::RootStatement;
 use root_runs::{open_loose, take_loose};
 use uno_base::NoMemory;
+use uno_types::{Name, Text};
 use uno_values::Reference;
 
 /// Does what a root does next, where it does not wait.
-///
-/// What a statement of a plan that keeps the rules gives to a call may be given there. This is tested: were it not so, the answer would be want of memory.
 pub fn root_step(end: &mut Endpoint, run: &mut RootRun) -> RootMoved
-    requires { is_root (setting_at end.old) run.old.root ≡ true }
+    requires { IsRunAt end.old (run_of run.old) }
     ensures step { StepsSo end.old end.new (run_of run.old) (run_of run.new) result }
     ensures waits { (result ≡ RootMoved.Waiting) ↔ (state_told (state_of run.old.root (side_at end.old).tables.roots) ≡ RootState.Waits) }
-    ensures stands { StandsFor (setting_at end.old) end.old.entries (run_of run.old) → StandsFor (setting_at end.new) end.new.entries (run_of run.new) }
+    ensures stands { IsRunAt end.new (run_of run.new) }
 {
     know_history(end);
     step(end, run)
 }
 
-/// What is known of each journal. It does nothing.
-fn know_history(end: &Endpoint)
-    ensures { Leads (setting_at end.now) end.now.entries (told_at end.now) }
+/// What is known of each endpoint. It does nothing.
+pub(crate) fn know_history(end: &Endpoint)
+    ensures { IsHistory end.now }
 {
     end.journal();
 }
 
 fn step(end: &mut Endpoint, run: &mut RootRun) -> RootMoved
-    requires { is_root (setting_at end.old) run.old.root ≡ true }
+    requires { IsRunAt end.old (run_of run.old) }
     ensures step { StepsSo end.old end.new (run_of run.old) (run_of run.new) result }
     ensures waits { (result ≡ RootMoved.Waiting) ↔ (state_told (state_of run.old.root (side_at end.old).tables.roots) ≡ RootState.Waits) }
 {
@@ -68,48 +68,50 @@ fn told(moved: Result<bool, NoMemory>) -> RootMoved
 
 /// The next step of a root that is idle: it lets a reference go, or begins its next statement.
 fn go_on(end: &mut Endpoint, run: &mut RootRun) -> Result<bool, NoMemory>
-    requires root { is_root (setting_at end.old) run.old.root ≡ true }
+    requires run { IsRunAt end.old (run_of run.old) }
     requires idle { state_of run.old.root (side_at end.old).tables.roots ≡ idle }
     ensures { DoesAny (next_move end.old (run_of run.old)) end.old end.new (run_of run.old) (run_of run.new) result }
 {
+    know_history(end);
     open_loose(end.registry().allocator(), run)?;
     if run.letting.is_empty() {
         return begin(end, run);
     }
-    let_go(end, run)?;
+    let_go(end, run);
     Ok(true)
 }
 
 /// Lets the first reference go.
-fn let_go(end: &mut Endpoint, run: &mut RootRun) -> Result<(), NoMemory>
+fn let_go(end: &mut Endpoint, run: &mut RootRun)
     requires some { run.old.letting.items ≡ [] → ⊥ }
-    ensures { (r : Ref) → next_loose (run_of run.old).loose ≡ Some r → DoesOr (lets_loose (run_of run.old) r) end.old end.new (run_of run.old) (run_of run.new) result }
+    requires held { (r : Ref) → next_loose (run_of run.old).loose ≡ Some r → is_held run.old.root (side_at end.old).tables r ≡ true }
+    ensures { (r : Ref) → next_loose (run_of run.old).loose ≡ Some r → Does (lets_loose (run_of run.old) r) end.old end.new (run_of run.new) }
 {
-    if !is_held(end, run) {
-        return Err(NoMemory);
-    }
-    match take_loose(run) {
-        Some(Reference::Local { oid, face }) | Some(Reference::Remote { oid, face }) => {
-            match end.drop_ref(run.root, oid, face) {
-                Ok(()) => Ok(()),
-                Err(_) => Err(NoMemory),
-            }
-        }
-        Some(Reference::Null) => Ok(()),
-        None => Err(NoMemory),
+    let Some(reference) = take_loose(run) else {
+        unreachable!()
+    };
+    drop_held(end, run.root, reference);
+}
+
+/// Lets a reference go that the root holds.
+fn drop_held(end: &mut Endpoint, root: u32, reference: Reference)
+    requires { is_held root (side_at end.old).tables (ref_of reference) ≡ true }
+    ensures { end.new ≡ with_any (goes_with root (ref_of reference)) end.old }
+{
+    match reference {
+        Reference::Null => {}
+        Reference::Local { oid, face } => drop_pair(end, root, oid, face),
+        Reference::Remote { oid, face } => drop_pair(end, root, oid, face),
     }
 }
 
-/// Whether the root holds the first reference that it is to let go. It does where its values came from this endpoint.
-fn is_held(end: &Endpoint, run: &RootRun) -> bool
-    ensures { result ≡ is_held run.now.root (side_at end.now).tables (next_loose (map ref_of run.now.letting.items)) }
+fn drop_pair(end: &mut Endpoint, root: u32, oid: Text, face: Name)
+    requires { holds_pair root oid face (side_at end.old).tables ≡ true }
+    ensures { end.new ≡ with_entry (dropped root oid face) end.old }
 {
-    match run.letting.front() {
-        Some(Reference::Local { oid, face }) | Some(Reference::Remote { oid, face }) => {
-            end.root_holds(run.root, oid, face)
-        }
-        Some(Reference::Null) => true,
-        None => false,
+    match end.drop_ref(root, oid, face) {
+        Ok(()) => {}
+        Err(_) => unreachable!(),
     }
 }
 

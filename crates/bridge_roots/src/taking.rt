@@ -39,9 +39,7 @@ pub(crate) fn take_outcome(end: &mut Endpoint, run: &mut RootRun) -> Result<bool
     }
     let (line, name) = prepare(end, run)?;
     let Some(outcome) = end.take(run.root) else {
-        drop(line);
-        drop(name);
-        return Err(NoMemory);
+        unreachable!()
     };
     let Some(statement) = statement_at(end, run) else {
         unreachable!()
@@ -53,6 +51,8 @@ pub(crate) fn take_outcome(end: &mut Endpoint, run: &mut RootRun) -> Result<bool
 
 /// The line of the outcome and the name that what is returned gets, with room for all.
 fn prepare(end: &Endpoint, run: &mut RootRun) -> Result<(Text, Option<Name>), NoMemory>
+    requires answered { IsSome (outcome_in (state_of run.old.root (side_at end.now).tables.roots)) }
+    requires there { IsSome (statement_at (setting_at end.now) (run_of run.old)) }
     ensures line { (o : Plain) (s : Statement) → outcome_in (state_of run.old.root (side_at end.now).tables.roots) ≡ Some o → statement_at (setting_at end.now) (run_of run.old) ≡ Some s → IfOk result (λ p. p.0 ≡ line_of (run_of run.old) (outcome_text (setting_at end.now).registry s o)) }
     ensures name { (s : Statement) → statement_at (setting_at end.now) (run_of run.old) ≡ Some s → IfOk result (λ p. p.1 ≡ result_name s) }
     ensures same { run_of run.new ≡ run_of run.old }
@@ -65,13 +65,13 @@ fn prepare(end: &Endpoint, run: &mut RootRun) -> Result<(Text, Option<Name>), No
         return Err(NoMemory);
     }
     let Some(statement) = statement_at(end, run) else {
-        return Err(NoMemory);
+        unreachable!()
     };
     run.lines.reserve(1)?;
     run.variables.reserve(1)?;
     run.loose.reserve(outs_of(statement).saturating_add(1))?;
     let Some(outcome) = end.outcome(run.root) else {
-        return Err(NoMemory);
+        unreachable!()
     };
     let alloc = end.registry().allocator();
     let name = result_name(statement)?;

@@ -1,6 +1,8 @@
 //! The calls of an end as words, as `feed 00000000 00000001`, `call 1 C;1 demo.XNode 3 5` or `drop 1 C;1 demo.XNode`. `run` carries out all that is ready, and tells how
 //! many statements it were; `late T dispose` picks the job of the thread `T`, ends the bridge, and then carries out the statement of that job. What answers nothing is
 //! told as `done`, and none as `-`. A call whose condition does not hold fails the test, and so does one that finds no memory otherwise than by its answer.
+ghost use Rattle.bridge_roots.specs.Standing.{IsRunAt};
+ghost use Rattle.plan_model.specs.Roots.{Run};
 
 use crate::beginning::{ask, call, make, query};
 use crate::bytes::bytes_of;
@@ -62,7 +64,9 @@ fn drain(end: &mut Endpoint, most: &str, shown: &mut Shown) {
 }
 
 /// Carries out the statements that are ready, one after the other, and tells how many they were.
-pub(crate) fn run(rt: &impl Abort, alloc: Global, end: &mut Endpoint) -> u32 {
+pub(crate) fn run(rt: &impl Abort, alloc: Global, end: &mut Endpoint) -> u32
+    ensures { (r : Run) → IsRunAt end.old r → IsRunAt end.new r }
+{
     for count in 0..MANY {
         if !apply_first(rt, alloc, end) {
             return count;
@@ -72,7 +76,9 @@ pub(crate) fn run(rt: &impl Abort, alloc: Global, end: &mut Endpoint) -> u32 {
 }
 
 /// Carries out the next statement of the oldest thread that is ready, where one is.
-fn apply_first(rt: &impl Abort, alloc: Global, end: &mut Endpoint) -> bool {
+fn apply_first(rt: &impl Abort, alloc: Global, end: &mut Endpoint) -> bool
+    ensures { (r : Run) → IsRunAt end.old r → IsRunAt end.new r }
+{
     match first(rt, end) {
         Some(job) => apply(rt, alloc, end, job).is_ok(),
         None => false,
@@ -88,7 +94,9 @@ fn first(rt: &impl Abort, end: &Endpoint) -> Option<Job> {
 }
 
 /// Carries out the statement of a job.
-fn apply(rt: &impl Abort, alloc: Global, end: &mut Endpoint, job: Job) -> Result<(), ApplyError> {
+fn apply(rt: &impl Abort, alloc: Global, end: &mut Endpoint, job: Job) -> Result<(), ApplyError>
+    ensures { (r : Run) → IsRunAt end.old r → IsRunAt end.new r }
+{
     match next(alloc, end.plan(), end.registry(), job) {
         Ok(done) => end.apply(done),
         Err(NoMemory) => panic!(rt; "no memory"),

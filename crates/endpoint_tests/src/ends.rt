@@ -1,6 +1,8 @@
 //! Ends with the tag `S`, by the text of their plan, over one registry.
 //!
 //! The functions of `demo.XEcho` are `twice`, 3; those of `demo.XNode` are `relay`, `turn`, `check` and `shut`, 3 to 6.
+ghost use Rattle.std.specs.Prelude.{◌≡◌, []};
+
 use bridge_endpoint::Endpoint;
 use endpoint_text::{know_names, read_registry, set_up};
 use std::alloc::Global;
@@ -35,7 +37,9 @@ pub(crate) const NODE: &str = "unoplan 1\n\
     thread\nend\nthread\nend\n";
 
 /// An end of this plan; nothing has happened at it.
-pub(crate) fn end_of(rt: &impl Abort, alloc: Global, plan: &str) -> Endpoint {
+pub(crate) fn end_of(rt: &impl Abort, alloc: Global, plan: &str) -> Endpoint
+    ensures { result.entries ≡ [] }
+{
     match read_registry(alloc, TYPES.as_bytes()) {
         Ok(registry) => {
             know_names(&registry);

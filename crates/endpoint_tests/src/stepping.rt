@@ -1,4 +1,9 @@
 //! Roots of a plan, step by step, and the lines that their statements give.
+ghost use Rattle.std.specs.Prelude.{◌≡◌, [], true};
+ghost use Rattle.bridge_roots.specs.Standing.{IsRunAt};
+ghost use Rattle.behaviour.specs.Roots.{run_of};
+ghost use Rattle.plan_model.specs.Plans.{manager_name};
+ghost use Rattle.plan_model.specs.Roots.{opening_run};
 
 use crate::beginning::is_root_of;
 use crate::bytes::bytes_of;
@@ -74,9 +79,11 @@ const LINES: &[&str] = &[
 ];
 
 /// Does what a root can do, until it waits or has finished.
-fn step_all(rt: &impl Abort, end: &mut Endpoint, root: &mut RootRun) -> RootMoved {
+fn step_all(end: &mut Endpoint, root: &mut RootRun) -> RootMoved
+    requires { IsRunAt end.old (run_of root.old) }
+    ensures { IsRunAt end.new (run_of root.new) }
+{
     for _ in 0..MANY {
-        assert!(rt; is_root_of(end, root.root));
         match root_step(end, root) {
             RootMoved::Moved => {}
             over => return over,
@@ -86,9 +93,12 @@ fn step_all(rt: &impl Abort, end: &mut Endpoint, root: &mut RootRun) -> RootMove
 }
 
 /// Steps the root and carries out what is ready, until neither can be done.
-fn go_on(rt: &impl Abort, alloc: Global, end: &mut Endpoint, root: &mut RootRun) -> RootMoved {
+fn go_on(rt: &impl Abort, alloc: Global, end: &mut Endpoint, root: &mut RootRun) -> RootMoved
+    requires { IsRunAt end.old (run_of root.old) }
+    ensures { IsRunAt end.new (run_of root.new) }
+{
     for _ in 0..MANY {
-        let over = step_all(rt, end, root);
+        let over = step_all(end, root);
         if run(rt, alloc, end) == 0 {
             return over;
         }
@@ -103,22 +113,38 @@ fn hear(
     end: &mut Endpoint,
     root: &mut RootRun,
     piece: &str,
-) -> RootMoved {
+) -> RootMoved
+    requires { IsRunAt end.old (run_of root.old) }
+    ensures { IsRunAt end.new (run_of root.new) }
+{
     let bytes = bytes_of(alloc, piece);
-    assert!(rt; matches!(end.feed(&bytes), Fed::Taken(_)));
+    let fed = end.feed(&bytes);
     drop(bytes);
+    assert!(rt; matches!(fed, Fed::Taken(_)));
     go_on(rt, alloc, end, root)
 }
 
 /// How the last step of the root ends behind these pieces of input.
-fn hear_all(rt: &impl Abort, alloc: Global, root: &mut RootRun, pieces: &[&str]) -> RootMoved {
+fn hear_all(rt: &impl Abort, alloc: Global, root: &mut RootRun, pieces: &[&str]) -> RootMoved
+    requires { run_of root.old ≡ opening_run root.old.root manager_name }
+{
     let mut end = end_of(rt, alloc, TALKS);
+    assert!(rt; is_first(&end, root));
     let mut over = go_on(rt, alloc, &mut end, root);
     for piece in pieces {
         over = hear(rt, alloc, &mut end, root, piece);
     }
     end.close();
     over
+}
+
+/// Whether a root at its beginning is one of the plan of an end at which nothing has happened.
+fn is_first(end: &Endpoint, root: &RootRun) -> bool
+    requires new { end.now.entries ≡ [] }
+    requires opening { run_of root.now ≡ opening_run root.now.root manager_name }
+    ensures { result ≡ true → IsRunAt end.now (run_of root.now) }
+{
+    is_root_of(end, root.root)
 }
 
 /// Puts lines, and how the last step ended.

@@ -1,8 +1,14 @@
 use Rattle.std.proofs.Common.{◌∙◌, sym, subst, Ok, map}
 use Rattle.behaviour.specs.Roots.{run_of}
+use Rattle.bridge_endpoint.specs.Journals.{Endpoint}
 use Rattle.answering.specs.Ends.{AppliesFirst, MovesFirst}
+use Rattle.answering.specs.Running.{AreRoots}
 use Rattle.answering.proofs.FirstLaws.{did_method, did_object, did_root, drained_first, past_roots}
 use Rattle.answering.proofs.doing.do_first.Goals as goal
+
+pub move_first-requires : goal.move_first-requires
+move_first-requires g c =
+    subst (λ (z : Endpoint). AreRoots z (map run_of c.args.runs.now.items)) (sym (subst (λ b. AppliesFirst c.args.end.now c.apply_first.new.end (Ok b)) c.if-branch.false c.in_ok-apply_first.ensures).1) c.requires
 
 pub returns-then-branch-clause-does : goal.returns-then-branch-clause-does
 returns-then-branch-clause-does g c =

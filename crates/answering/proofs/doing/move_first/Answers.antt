@@ -1,10 +1,11 @@
-use Rattle.std.proofs.Common.{◌≡◌, ◌∙◌, refl, sym, ap, subst, ◌<◌, true, length, map, arith}
+use Rattle.std.proofs.Common.{◌≡◌, ◌∙◌, refl, sym, subst, ◌<◌, length, map, arith}
 use Rattle.behaviour.specs.Roots.{run_of}
-use Rattle.bridge_endpoint.specs.Journals.{setting_at, side_at}
-use Rattle.bridge_model.specs.Steps.{is_root}
-use Rattle.answering.specs.Turning.{AreRoots}
+use Rattle.bridge_endpoint.specs.Journals.{Endpoint, setting_at, side_at}
+use Rattle.bridge_roots.specs.Standing.{IsRunAt}
+use Rattle.answering.specs.Running.{AreRoots}
 use Rattle.answering.proofs.FirstLaws.{end_there, moves_there, none_there, runs_there}
 use Rattle.answering.proofs.RowLaws.{none_first, root_at, set_long}
+use Rattle.answering.proofs.RunningLaws.{each_run}
 use Rattle.answering.proofs.doing.move_first.Goals as goal
 
 pub loop-place-init : goal.loop-place-init
@@ -17,9 +18,9 @@ root_step-requires c =
     let same = c.loop-place.invariant.long in
     let long = c.args.runs.now.ok.0 in
     let within : c.loop-place.place < length c.loop-place.runs.items = omega (arith, less, end, same, long) in
-    ap (λ e. is_root (setting_at e) c.index_mut.result.now.root) c.loop-place.invariant.end
-    ∙ root_at run_of c.loop-place.runs.items c.loop-place.place c.index_mut.result.now c.index_mut.result.now within c.index_mut.ensures.value
-    (λ r. is_root (setting_at c.args.end.now) r.root ≡ true) (subst (AreRoots (setting_at c.args.end.now)) (sym c.loop-place.invariant.runs) c.requires)
+    subst (λ (z : Endpoint). IsRunAt z (run_of c.index_mut.result.now)) (sym c.loop-place.invariant.end)
+    (root_at run_of c.loop-place.runs.items c.loop-place.place c.index_mut.result.now c.index_mut.result.now within c.index_mut.ensures.value
+    (IsRunAt c.args.end.now) (each_run c.args.end.now 1 (map run_of c.loop-place.runs.items) (subst (AreRoots c.args.end.now) (sym c.loop-place.invariant.runs) c.requires)))
 
 pub returns-in-Moved : goal.returns-in-Moved
 returns-in-Moved c =

@@ -1,12 +1,13 @@
-use Rattle.std.proofs.Common.{◌∙◌, sym, subst, map}
+use Rattle.std.proofs.Common.{◌∙◌, map}
 use Rattle.std.proofs.lemmas.Result.{err_from_is_err_and}
 use Rattle.behaviour.specs.Roots.{run_of}
 use Rattle.bridge_endpoint.specs.Journals.{told_at}
-use Rattle.answering.specs.Turning.{AreRoots}
-use Rattle.answering.proofs.EndLaws.{goes_with_roots}
 use Rattle.answering.proofs.PieceLaws.{answered_further, answered_on, answering_halts, no_cause, up_by}
 use Rattle.answering.proofs.TurnLaws.{piece_halts}
 use Rattle.answering.proofs.feeding.answer_piece.Goals as goal
+
+pub work-requires : goal.work-requires
+work-requires g c = c.in_ok-rest.ensures.roots (map run_of c.fronts.runs.items) c.fronts.invariant.roots
 
 pub returns-in_err-rest-clause-answers : goal.returns-in_err-rest-clause-answers
 returns-in_err-rest-clause-answers g c =
@@ -29,6 +30,7 @@ returns-in-Some-clause-answers g c =
       settled = c.in_ok-cause.ensures.works.1;
       ended = c.in_ok-cause.ensures.works.2 ∙ c.in-Some.is;
       all = λ none. no_cause c.in-Some.cause none;
+      roots = c.in_ok-cause.ensures.works.0.roots (c.in_ok-rest.ensures.roots (map run_of c.fronts.runs.items) c.fronts.invariant.roots);
     }
 
 pub fronts-preserved : goal.fronts-preserved
@@ -39,9 +41,7 @@ fronts-preserved g c =
       answers =
           answered_on _ _ _ _ _ _ _ _ _ _ _ _ _ _ c.fronts.invariant.setting c.fronts.invariant.answers c.fronts.invariant.settled c.in_ok-rest.ensures.fed
           c.in_ok-cause.ensures.works.0 up;
-      roots =
-          goes_with_roots c.in_ok-cause.ensures.works.0
-          (subst (λ z. AreRoots z (map run_of c.fronts.runs.items)) (sym c.in_ok-rest.ensures.fed.setting) c.fronts.invariant.roots);
+      roots = c.in_ok-cause.ensures.works.0.roots (c.in_ok-rest.ensures.roots (map run_of c.fronts.runs.items) c.fronts.invariant.roots);
       settled = c.in_ok-cause.ensures.works.1;
       up = up;
       faults = c.in_ok-cause.ensures.writes ∙ c.fronts.invariant.faults;

@@ -2,13 +2,13 @@ use Rattle.std.proofs.Common.{◌∙◌, refl, map, [], take}
 use Rattle.std.proofs.lemmas.Result.{err_from_is_err_and}
 use Rattle.behaviour.specs.Roots.{run_of}
 use Rattle.bridge_endpoint.specs.Journals.{setting_at, told_at}
-use Rattle.answering.proofs.EndLaws.{goes_with_roots}
-use Rattle.answering.proofs.PieceLaws.{all_is_in, answered_roots, holds_begin, holds_further, holds_halted, is_cut, is_over, none_came, none_kept, piece_came, piece_done, piece_halted, piece_over, roots_begin, up_by}
+use Rattle.answering.proofs.PieceLaws.{all_is_in, holds_begin, holds_further, holds_halted, is_cut, is_over, none_came, none_kept, piece_came, piece_done, piece_halted, piece_over, up_by}
+use Rattle.answering.proofs.RunningLaws.{roots_begin}
 use Rattle.answering.proofs.ServingLaws.{halted_closing, holds_front}
 use Rattle.answering.proofs.serving.serve.Goals as goal
 
 pub work-requires : goal.work-requires
-work-requires g c = roots_begin (setting_at c.args.end.now) (map run_of c.args.runs.now.items) c.requires.roots
+work-requires g c = roots_begin c.args.end.now (map run_of c.args.runs.now.items) c.requires.beginning c.requires.roots
 
 pub returns-in_err-cause-clause-serves : goal.returns-in_err-cause-clause-serves
 returns-in_err-cause-clause-serves g c =
@@ -33,7 +33,7 @@ pieces-init g c =
           holds_further _ _ _ _ _ _ c.args.end.now c.work.new.end _ _ _ refl
           (holds_begin c.args.end.now (map run_of c.args.runs.now.items) (g.I.Source.left c.args.input.now) (g.O.Sink.taken c.args.output.now) c.requires.beginning c.requires.roots)
           c.in_ok-cause.ensures.works.0;
-      roots = goes_with_roots c.in_ok-cause.ensures.works.0 (roots_begin (setting_at c.args.end.now) (map run_of c.args.runs.now.items) c.requires.roots);
+      roots = c.in_ok-cause.ensures.works.0.roots (roots_begin c.args.end.now (map run_of c.args.runs.now.items) c.requires.beginning c.requires.roots);
       settled = c.in_ok-cause.ensures.works.1;
       up = up_by (told_at c.work.new.end).side.cause c.in_ok-cause.field-0 c.in_ok-cause.ensures.works.2 c.in_default.is;
       room = refl;
@@ -81,7 +81,7 @@ pieces-preserved g c =
           piece_done _ _ _ _ _ _ c.pieces.end c.answer_piece.new.end _ _ _ c.in_ok-cause-in-Ok.field-0 c.pieces.invariant.setting
           (piece_came _ _ _ (g.I.Source.left c.read.new.self) _ _ _ _ (take c.in-Ok.count c.read.new.into) c.pieces.invariant.holds c.in-Ok.ensures.bytes.0)
           answered c.in_default-2.is;
-      roots = answered_roots answered c.pieces.invariant.roots;
+      roots = answered.roots;
       settled = answered.settled;
       up = up_by (told_at c.answer_piece.new.end).side.cause c.in_ok-cause-in-Ok.field-0 answered.ended c.in_default-2.is;
       room = c.read.auto.into ∙ c.pieces.invariant.room;

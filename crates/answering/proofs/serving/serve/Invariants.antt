@@ -4,7 +4,7 @@ use Rattle.bridge_endpoint.specs.Journals.{setting_at, told_at}
 use Rattle.bridge_model.specs.Sides.{stands}
 use Rattle.answering.specs.Ends.{IsSettled}
 use Rattle.answering.specs.Serving.{Holds}
-use Rattle.answering.specs.Turning.{AreRoots}
+use Rattle.answering.specs.Running.{AreRoots}
 use Rattle.answering.proofs.serving.serve.Given as goal
 
 abbrev pub invariant-pieces : goal.invariant-pieces
@@ -14,7 +14,7 @@ invariant-pieces g l =
     record {
       setting : setting_at l.end ≡ setting_at l.fn.end;
       holds : Holds (setting_at l.fn.end) (left l.fn.input) (left l.input) (taken l.fn.output) (taken l.output) (told_at l.end) (map run_of l.runs.items) [];
-      roots : AreRoots (setting_at l.end) (map run_of l.runs.items);
+      roots : AreRoots l.end (map run_of l.runs.items);
       settled : IsSettled l.end (map run_of l.runs.items);
       up : stands (told_at l.end).side ≡ true;
       room : length l.buffer ≡ 4096;

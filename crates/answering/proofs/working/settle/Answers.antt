@@ -1,6 +1,6 @@
 use Rattle.std.proofs.Common.{◌∙◌}
 use Rattle.std.proofs.lemmas.Result.{err_from_is_err_and}
-use Rattle.answering.proofs.EndLaws.{goes_and_halts, goes_further, goes_with_roots, halts_at_once}
+use Rattle.answering.proofs.EndLaws.{goes_and_halts, goes_further, halts_at_once}
 use Rattle.answering.proofs.working.settle.Goals as goal
 
 pub returns-in_err-turn-clause-settles : goal.returns-in_err-turn-clause-settles
@@ -15,7 +15,7 @@ pub turns-preserved : goal.turns-preserved
 turns-preserved g c =
     record {
       goes = goes_further c.turns.invariant.goes c.in_ok-turn.ensures.turns.0;
-      roots = goes_with_roots c.in_ok-turn.ensures.turns.0 c.turns.invariant.roots;
+      roots = c.in_ok-turn.ensures.turns.0.roots c.turns.invariant.roots;
       faults = c.in_ok-turn.ensures.writes ∙ c.turns.invariant.faults;
       stays = c.in_ok-turn.ensures.stays ∙ c.turns.invariant.stays;
     }

@@ -1,16 +1,16 @@
-use Rattle.std.proofs.Common.{rules, sym, ap, ◌∙◌}
-use Rattle.bridge_model.specs.Sides.{stands}
+use Rattle.std.proofs.Common.{rules, ap, ◌∙◌}
 use Rattle.behaviour.specs.Roots.{run_of}
 use Rattle.bridge_endpoint.specs.Journals.{setting_at, side_at}
 use Rattle.bridge_roots.specs.Asking.{entry_of}
 use Rattle.bridge_roots.specs.Beginning.{began_run}
 use Rattle.bridge_roots.proofs.AskLemmas.{stands_there}
-use Rattle.bridge_roots.proofs.BegunLemmas.{by_answer}
+use Rattle.bridge_roots.proofs.BegunLemmas.{by_answer, is_begun}
 use Rattle.bridge_roots.proofs.beginning.ask.Goals as goal
 
-pub ask_it-begun-requires-clause-gives : goal.ask_it-begun-requires-clause-gives
-ask_it-begun-requires-clause-gives c =
-    (c.may_give.ensures (setting_at c.args.end.now) c.args.run.now.root (sym c.registry-2.ensures.same) c.know_thread.ensures).0 c.if-not-may_give.false
+pub began-requires-clause-begun : goal.began-requires-clause-begun
+began-requires-clause-begun c =
+    let up = stands_there (side_at c.args.end.now).cause c.end.result c.end.ensures (search rules) in
+    is_begun (setting_at c.args.end.now) (side_at c.args.end.now) (entry_of c.args.run.now.root c.args.asked) c.ask_it-begun.result up (c.requires.holds up) c.ask_it-begun.ensures.answer
 
 pub returns-in-Ok : goal.returns-in-Ok
 returns-in-Ok c =
