@@ -1,19 +1,13 @@
--- A plan that was read keeps the rules, and so does a registry.
-use Rattle.std.proofs.Common.{◌≡◌, ℕ, List, Ok, IsTrue}
-use Rattle.plan_model.specs.Keeps.{KeepsTheRules}
-use Rattle.plan_model.specs.Plans.{Plan}
-use Rattle.plan_model.proofs.PlanLaws.{text_keeps}
-use Rattle.plan_reading_model.specs.TextReading.{verdict}
-use Rattle.plan_reading_model.proofs.TextVerdicts.{read_verdict}
+-- A registry that was read tells names apart, and an error is the same whatever it stands in place of.
+use Rattle.std.proofs.Common.{◌≡◌, ℕ, List, Result, Err, ap}
+use Rattle.behaviour_text.specs.declared.error.PlanError.{PlanError}
 use Rattle.plan_typing.specs.Effects.{NamesDiffer}
 use Rattle.registry_naming.proofs.Naming.{rules_tell_names}
 use Rattle.registry_reading.specs.Verdicts.{IsAccepted}
 use Rattle.uno_model.specs.Entities.{Entity}
-use Rattle.uno_model.specs.Sound.{IsSound}
 
-pub read_keeps : (reg : List Entity) (text : List ℕ) (p : Plan) → IsSound reg → verdict reg text ≡ Ok p → KeepsTheRules reg p
-read_keeps reg text p sound read = text_keeps reg text p (read_verdict reg text (Ok p) sound.named read)
+pub same_error : {T U : Type 0} (x y : PlanError) → ◌≡◌ {A = Result T PlanError} (Err x) (Err y) → ◌≡◌ {A = Result U PlanError} (Err x) (Err y)
+same_error x y both = let one : x ≡ y = cc in ap (λ z. Err z) one
 
--- and a registry that was read tells names apart
 pub read_names : (reg : List Entity) (text : List ℕ) → IsAccepted text reg → NamesDiffer reg
 read_names reg text accepted = rules_tell_names reg accepted.keeps

@@ -1,8 +1,8 @@
 //! Setting an endpoint up.
-ghost use Rattle.std.specs.Prelude.{◌≡◌, ℕ, Err, IfOk, List, Ok};
+ghost use Rattle.std.specs.Prelude.{◌≡◌, ℕ, Err, IfOk, List};
 ghost use Rattle.bridge_endpoint.specs.Journals.{opening_endpoint, setting_at};
+ghost use Rattle.plan_model.specs.Keeps.{IsTextOf, IsVerdict};
 ghost use Rattle.plan_model.specs.declared.line_reason.LineReason.{LineReason};
-ghost use Rattle.plan_reading_model.specs.TextReading.{verdict};
 ghost use Rattle.plan_typing.specs.Effects.{NamesDiffer};
 ghost use Rattle.registry_reading.specs.Verdicts.{IsAccepted};
 ghost use Rattle.uno_model.specs.Sound.{IsSound};
@@ -31,9 +31,9 @@ pub fn set_up(
     requires names { NamesDiffer registry }
     ensures tag { IfOk result (λ e. (setting_at e).tag ≡ tag) }
     ensures registry { IfOk result (λ e. (setting_at e).registry ≡ registry) }
-    ensures plan { IfOk result (λ e. verdict registry plan.now ≡ Ok (setting_at e).plan) }
+    ensures plan { IfOk result (λ e. IsTextOf registry plan.now (setting_at e).plan) }
     ensures opening { IfOk result (λ e. e ≡ opening_endpoint e.configured) }
-    ensures wrong { (n : ℕ) (why : LineReason) → result ≡ Err (PlanError.BadLine n why) → verdict registry plan.now ≡ Err (record { line = n; reason = why }) }
+    ensures wrong { (n : ℕ) (why : LineReason) → result ≡ Err (PlanError.BadLine n why) → IsVerdict registry plan.now (Err (record { line = n; reason = why })) }
 {
     match read_plan(alloc, &registry, plan) {
         Ok(plan) => match Endpoint::new(alloc, registry, plan, tag) {

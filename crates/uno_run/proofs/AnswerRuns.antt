@@ -3,10 +3,10 @@ use Rattle.std.proofs.Common.{◌≡◌, ◌≢◌, ◌⊎◌, ℕ, true, List, 
 use Rattle.uno_io.specs.Files.{Stored}
 use Rattle.bridge_model.specs.Settings.{Setting}
 use Rattle.command_words.specs.Names.{Text}
-use Rattle.uno_run.specs.Answer.{AnswerRun, EndsServing, FilesServed, HasServed, IsOf, OwnRun, Served}
+use Rattle.uno_run.specs.Answer.{AnswerRun, EndsServing, FilesServed, HasServed, IsIdle, IsOf, IsOfFiles, OwnRun, Served}
 use Rattle.uno_run.specs.Lines.{has_own_line}
 use Rattle.uno_run.specs.Serving.{ServedOrNot}
-use Rattle.uno_run.specs.SettingUp.{IsOfFiles, NotSetUp}
+use Rattle.uno_run.specs.SettingUp.{NotSetUp}
 use Rattle.uno_run.specs.declared.status.Status.{Status}
 use Rattle.uno_run.specs.declared.status.Status.TheVariants.{Done, Words, BadRegistry, BadPlan, ReadFault, WriteFault, Broken, Cut, Full, NoFile, NoMemory}
 use Rattle.uno_run.proofs.Keeping.{Kept, kept_so, own_differs}
@@ -69,7 +69,7 @@ module _ {I O : Type 0} (left : I → Option (List ℕ)) (reads : I → ℕ) (ta
       → OwnRun left reads taken writes types plan tag input_old input_new output_old output_new NoMemory
   lost_own status own (inl was) =
       inl (record { setting = was.setting; is_of = was.is_of; served = lost_served left reads taken writes was.setting input_old input_new output_old output_new status own was.served })
-  lost_own status own (inr none) = inr (refl, none.1, none.2)
+  lost_own status own (inr none) = inr (refl, none.1)
 
   pub kept_own : (result status : Status) → Kept result status → OwnRun left reads taken writes types plan tag input_old input_new output_old output_new status
       → OwnRun left reads taken writes types plan tag input_old input_new output_old output_new result
@@ -85,7 +85,7 @@ module _ {F I O : Type 0} (stored : F → Option Stored) (readings : F → ℕ) 
       record {
         no_words = none_no_words (stored files_old) types plan (readings files_old) (readings files_new) status none;
         served = λ h. absurd (not_served (stored files_old) types plan (readings files_old) (readings files_new) status none h);
-        read_fault = λ e. inl (as_is ReadFault e, refl, refl);
+        read_fault = λ e. inl (as_is ReadFault e, (refl, refl));
         no_memory = λ e. inl (refl, refl);
         bad_registry = λ file line reason e. let n = as_is (BadRegistry file line reason) e in (n.0, n.1);
         bad_plan = λ file line why e. let n = as_is (BadPlan file line why) e in (n.0, n.1);
@@ -102,14 +102,7 @@ module _ {F I O : Type 0} (stored : F → Option Stored) (readings : F → ℕ) 
   module _ (input_new : I) (output_new : O) where
     files_served : (g : Setting) (status : Status) → IsOfFiles (stored files_old) types plan tag g → Served left reads taken writes g input_old input_new output_old output_new status
         → FilesServed left reads taken writes (stored files_old) types plan tag input_old input_new output_old output_new status
-    files_served g status is served =
-        record {
-          types_text = is.types_text;
-          plan_text = is.plan_text;
-          types_told = is.types_told;
-          plan_told = is.plan_told;
-          was = record { setting = g; is_of = is.is_of; served = served };
-        }
+    files_served g status is served = record { setting = g; is_of = is; served = served }
 
     pub run_served : (g : Setting) (status : Status) → IsOfFiles (stored files_old) types plan tag g → readings files_new ≡ readings files_old → EndsServing status
         → ServedOrNot left reads taken writes g input_old input_new output_old output_new status
@@ -132,7 +125,7 @@ module _ {F I O : Type 0} (stored : F → Option Stored) (readings : F → ℕ) 
           no_words = no_words status ends;
           served = λ h. let bad : ⊥ = subst HasServed none.0 h in absurd bad;
           read_fault = λ e. let lost = none.0 in let bad : ⊥ = cc in absurd bad;
-          no_memory = λ e. inl (none.1, none.2);
+          no_memory = λ e. inl none.1;
           bad_registry = λ file line reason e. absurd (subst EndsServing e ends);
           bad_plan = λ file line why e. absurd (subst EndsServing e ends);
           no_file = λ file e. absurd (subst EndsServing e ends);
@@ -143,14 +136,12 @@ module _ {F I O : Type 0} (stored : F → Option Stored) (readings : F → ℕ) 
     lost_files : (status : Status) → has_own_line status ≡ true → FilesServed left reads taken writes (stored files_old) types plan tag input_old input_new output_old output_new status
         → FilesServed left reads taken writes (stored files_old) types plan tag input_old input_new output_old output_new NoMemory
     lost_files status own s =
-        files_served s.was.setting NoMemory
-        (record { types_text = s.types_text; plan_text = s.plan_text; types_told = s.types_told; plan_told = s.plan_told; is_of = s.was.is_of })
-        (lost_served left reads taken writes s.was.setting input_old input_new output_old output_new status own s.was.served)
+        files_served s.setting NoMemory s.is_of (lost_served left reads taken writes s.setting input_old input_new output_old output_new status own s.served)
 
     lost_memory : (status : Status) → has_own_line status ≡ true
         → (HasServed status → FilesServed left reads taken writes (stored files_old) types plan tag input_old input_new output_old output_new status)
-        → HasServed status ⊎ ((status ≡ ReadFault) ⊎ (status ≡ NoMemory)) ⊎ ((input_new ≡ input_old) × (output_new ≡ output_old))
-        → ((input_new ≡ input_old) × (output_new ≡ output_old)) ⊎ FilesServed left reads taken writes (stored files_old) types plan tag input_old input_new output_old output_new NoMemory
+        → HasServed status ⊎ ((status ≡ ReadFault) ⊎ (status ≡ NoMemory)) ⊎ IsIdle input_old input_new output_old output_new
+        → IsIdle input_old input_new output_old output_new ⊎ FilesServed left reads taken writes (stored files_old) types plan tag input_old input_new output_old output_new NoMemory
     lost_memory status own served (inl h) = inr (lost_files status own (served h))
     lost_memory status own served (inr (inl (inl e))) = absurd (own_differs status ReadFault own refl e)
     lost_memory status own served (inr (inl (inr e))) = absurd (own_differs status NoMemory own refl e)

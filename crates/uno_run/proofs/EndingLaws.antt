@@ -1,13 +1,15 @@
 -- A run of `answer` that nothing hinders ends as the order of work does.
-use Rattle.std.proofs.Common.{◌≡◌, refl, sym, ap, ap₂, subst, ◌∙◌, ◌⊎◌, inl, inr, ℕ, zero, suc, Bool, true, false, List, [], ◌++◌, append-nil}
-use Rattle.std.proofs.Common.{Option, None, Some, Ok, Err}
+use Rattle.std.proofs.Common.{◌≡◌, refl, sym, ap, subst, ◌∙◌, ◌⊎◌, inl, inr, ℕ, zero, suc, Bool, true, false, List, [], ◌++◌, append-nil}
+use Rattle.std.proofs.Common.{Option, None, Some, Result, Ok, Err}
 use Rattle.std.specs.Io.KnownBytes.{Consumes, IsAtEnd}
 use Rattle.uno_base.specs.Causes.{Rose}
-use Rattle.uno_io.specs.Files.{Stored, read_at}
+use Rattle.uno_io.specs.Files.{Stored}
 use Rattle.uno_model.specs.Entities.{Entity}
+use Rattle.plan_model.specs.Keeps.{IsTextOf, IsVerdict, Wrong}
 use Rattle.plan_model.specs.Plans.{Plan}
 use Rattle.plan_model.specs.declared.line_reason.LineReason.{LineReason}
-use Rattle.plan_reading_model.specs.TextReading.{verdict}
+use Rattle.plan_model.proofs.VerdictLaws.{texts_have_one}
+use Rattle.plan_reading_model.proofs.LineOne.{says_one}
 use Rattle.registry_reading_model.proofs.NoneOfRegistry.{one_registry}
 use Rattle.bridge_model.specs.Answers.{awaits_input}
 use Rattle.bridge_model.specs.Histories.{Told}
@@ -19,7 +21,7 @@ use Rattle.answer_laws.proofs.RestingLaws.{rests_once}
 use Rattle.answer_laws.specs.Working.{IsDone}
 use Rattle.answering.specs.Answering.{AnsweredWhole, GoesOnTelling, Had, no_more, more, InputEnded, WasRead}
 use Rattle.command_words.specs.Names.{Text}
-use Rattle.uno_run.specs.Answer.{AnswerRun, FilesServed, IsOf, LacksPlan, OwnRun, RefusedPlan, Served, WasServed}
+use Rattle.uno_run.specs.Answer.{AnswerRun, FilesServed, IsIdle, IsOf, LacksPlan, OwnRun, RefusedPlan, Served, WasServed}
 use Rattle.uno_run.specs.Ending.{AreWell, EndsAs, IsUnhindered}
 use Rattle.uno_run.specs.Idl.{IsRefused, IsRegistryText, Refused, Tells}
 use Rattle.uno_run.specs.declared.reason.RegistryReason.{RegistryReason}
@@ -151,11 +153,13 @@ same_registry text one other a b =
     let y = b.accepted in
     one_registry one other x.keeps y.keeps x.built_in y.built_in x.rising y.rising (x.text ∙ sym y.text)
 
+one_verdict : (reg : List Entity) (text : List ℕ) (out other : Result Plan Wrong) → IsVerdict reg text out → IsVerdict reg text other → out ≡ other
+one_verdict reg text out other = texts_have_one reg text out other (says_one reg)
+
 one_setting : (types plan tag : List ℕ) (g h : Setting) → IsOf types plan tag g → IsOf types plan tag h → g ≡ h
 one_setting types plan tag g h a b =
     let same = same_registry types g.registry h.registry a.is_text b.is_text in
-    let read : verdict g.registry plan ≡ Ok h.plan = ap (λ r. verdict r plan) same ∙ b.read in
-    let both : Ok g.plan ≡ Ok h.plan = sym a.read ∙ read in
+    let both : ◌≡◌ {A = Result Plan Wrong} (Ok g.plan) (Ok h.plan) = one_verdict g.registry plan (Ok g.plan) (Ok h.plan) a.is_plan (subst (λ r. IsTextOf r plan h.plan) (sym same) b.is_plan) in
     let planned : g.plan ≡ h.plan = cc in
     is_setting g h.tag h.registry h.plan (a.tagged ∙ sym b.tagged) same planned
 
@@ -180,45 +184,46 @@ module _ {I O : Type 0} (left : I → Option (List ℕ)) (reads : I → ℕ) (ta
 
 -- what is told of a file is one
 one_text : (store : Option Stored) (name : Text) (files : Stored) (one other : Option (List ℕ)) → store ≡ Some files
-    → Tells store name one → read_at name files ≡ other → one ≡ other
-one_text store name files one other stores told there = sym (told files stores) ∙ there
+    → Tells store name one → Tells store name other → one ≡ other
+one_text store name files one other stores told there = sym (told files stores) ∙ there files stores
 
 module _ {F I O : Type 0} (stored : F → Option Stored) (readings : F → ℕ) (left : I → Option (List ℕ)) (reads : I → ℕ)
     (taken : O → Option (List ℕ)) (writes : O → ℕ)
     (types plan : Text) (tag : List ℕ) (files_old files_new : F) (input_old input_new : I) (output_old output_new : O)
     (g : Setting) (well : AreWell stored readings types plan tag files_old files_new g) where
-  same_types : (text : List ℕ) → Tells (stored files_old) types (Some text) → text ≡ well.types_text
+  same_types : (text : List ℕ) → Tells (stored files_old) types (Some text) → text ≡ well.is_of.types_text
   same_types text told =
-      let both = one_text (stored files_old) types well.store (Some text) (Some well.types_text) well.tells told well.types_there in
+      let both : Some text ≡ Some well.is_of.types_text = one_text (stored files_old) types well.store (Some text) (Some well.is_of.types_text) well.tells told well.is_of.types_told in
       cc
 
-  same_plan : (text : List ℕ) → Tells (stored files_old) plan (Some text) → text ≡ well.plan_text
+  same_plan : (text : List ℕ) → Tells (stored files_old) plan (Some text) → text ≡ well.is_of.plan_text
   same_plan text told =
-      let both = one_text (stored files_old) plan well.store (Some text) (Some well.plan_text) well.tells told well.plan_there in
+      let both : Some text ≡ Some well.is_of.plan_text = one_text (stored files_old) plan well.store (Some text) (Some well.is_of.plan_text) well.tells told well.is_of.plan_told in
       cc
 
   -- neither file is missing
   types_there : Tells (stored files_old) types None → ⊥
   types_there told =
-      let both = one_text (stored files_old) types well.store None (Some well.types_text) well.tells told well.types_there in
+      let both : ◌≡◌ {A = Option (List ℕ)} None (Some well.is_of.types_text) = one_text (stored files_old) types well.store None (Some well.is_of.types_text) well.tells told well.is_of.types_told in
       cc
 
   plan_there : Tells (stored files_old) plan None → ⊥
   plan_there told =
-      let both = one_text (stored files_old) plan well.store None (Some well.plan_text) well.tells told well.plan_there in
+      let both : ◌≡◌ {A = Option (List ℕ)} None (Some well.is_of.plan_text) = one_text (stored files_old) plan well.store None (Some well.is_of.plan_text) well.tells told well.is_of.plan_told in
       cc
 
   -- nor is it refused
   types_kept : (line : ℕ) (reason : RegistryReason) → Refused (stored files_old) types line reason → ⊥
   types_kept line reason r =
-      not_refused well.types_text g.registry well.is_of.is_text line reason (subst (λ t. IsRefused t line reason) (same_types r.text r.told) r.refused)
+      not_refused well.is_of.types_text g.registry well.is_of.is_of.is_text line reason (subst (λ t. IsRefused t line reason) (same_types r.text r.told) r.refused)
 
   plan_kept : (line : ℕ) (why : LineReason) → RefusedPlan (stored files_old) types plan line why → ⊥
   plan_kept line why r =
       let typed = subst (λ t. IsRegistryText t r.registry) (same_types r.is_of.text r.is_of.told) r.is_of.is_text in
-      let same = same_registry well.types_text r.registry g.registry typed well.is_of.is_text in
-      let read : verdict r.registry r.plan_text ≡ Ok g.plan = ap₂ verdict same (same_plan r.plan_text r.plan_told) ∙ well.is_of.read in
-      let both : Err (record { line = line; reason = why }) ≡ Ok g.plan = sym r.refused ∙ read in
+      let same = same_registry well.is_of.types_text r.registry g.registry typed well.is_of.is_of.is_text in
+      let wrong : Result Plan Wrong = Err (record { line = line; reason = why }) in
+      let refused = subst (λ t. IsVerdict g.registry t wrong) (same_plan r.plan_text r.plan_told) (subst (λ x. IsVerdict x r.plan_text wrong) same r.refused) in
+      let both : ◌≡◌ {A = Result Plan Wrong} (Err (record { line = line; reason = why })) (Ok g.plan) = one_verdict g.registry well.is_of.plan_text wrong (Ok g.plan) refused well.is_of.is_of.is_plan in
       cc
 
   no_file_lacks : (file : ℕ) → ((file ≡ 0) × Tells (stored files_old) types None) ⊎ ((file ≡ 1) × LacksPlan (stored files_old) types plan) → ⊥
@@ -229,19 +234,16 @@ module _ {F I O : Type 0} (stored : F → Option Stored) (readings : F → ℕ) 
     files_end : (status : Status) → FilesServed left reads taken writes (stored files_old) types plan tag input_old input_new output_old output_new status
         → EndsAs g bytes told.side.cause status ⊎ (status ≡ NoMemory)
     files_end status s =
-        let of_types =
-        subst (λ t. WasServed left reads taken writes t s.plan_text tag input_old input_new output_old output_new status)
-        (same_types s.types_text s.types_told) s.was in
-        let was =
-        subst (λ t. WasServed left reads taken writes well.types_text t tag input_old input_new output_old output_new status)
-        (same_plan s.plan_text s.plan_told) of_types in
-        was_ends left reads taken writes input_old input_new output_old output_new g bytes told un status well.types_text well.plan_text tag well.is_of was
+        let of_types = subst (λ t. IsOf t s.is_of.plan_text tag s.setting) (same_types s.is_of.types_text s.is_of.types_told) s.is_of.is_of in
+        let of_both = subst (λ t. IsOf well.is_of.types_text t tag s.setting) (same_plan s.is_of.plan_text s.is_of.plan_told) of_types in
+        was_ends left reads taken writes input_old input_new output_old output_new g bytes told un status well.is_of.types_text well.is_of.plan_text tag well.is_of.is_of
+        (record { setting = s.setting; is_of = of_both; served = s.served })
 
-    by_fault : (Rose (readings files_old) (readings files_new) × (input_new ≡ input_old) × (output_new ≡ output_old))
+    by_fault : (Rose (readings files_old) (readings files_new) × IsIdle input_old input_new output_old output_new)
         ⊎ ((readings files_new ≡ readings files_old)
         × FilesServed left reads taken writes (stored files_old) types plan tag input_old input_new output_old output_new ReadFault) → ⊥
     by_fault (inl failed) = well.read failed.0
-    by_fault (inr served) = un.read (served.1.was.served.read_fault refl)
+    by_fault (inr served) = un.read (served.1.served.read_fault refl)
 
     pub run_ends : (status : Status)
         → AnswerRun stored readings left reads taken writes types plan tag files_old files_new input_old input_new output_old output_new status

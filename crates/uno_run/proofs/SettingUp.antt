@@ -1,21 +1,21 @@
 -- The setting of two texts, and what follows of a run that has it or has none.
-use Rattle.std.proofs.Common.{◌≡◌, ◌↔◌, ℕ, ◌<◌, ◌≤◌, List, length, Option, Some, Ok, Err, sym, ap, subst, ◌∙◌, inl, inr, arith}
+use Rattle.std.proofs.Common.{◌≡◌, ◌↔◌, ℕ, ◌<◌, ◌≤◌, List, length, Option, Some, Ok, Err, sym, subst, inl, inr, arith}
 use Rattle.uno_io.specs.Files.{Stored}
 use Rattle.uno_model.specs.Entities.{Entity}
 use Rattle.bridge_model.specs.Settings.{Setting}
 use Rattle.command_words.specs.Names.{Text}
-use Rattle.plan_reading_model.specs.TextReading.{verdict}
-use Rattle.uno_run.specs.Answer.{IsOf}
+use Rattle.plan_model.specs.Keeps.{IsTextOf}
+use Rattle.uno_run.specs.Answer.{IsOf, IsOfFiles}
 use Rattle.uno_run.specs.Idl.{IsOfFile, IsRegistryText, Tells}
 use Rattle.uno_run.specs.Reading.{Unread}
-use Rattle.uno_run.specs.SettingUp.{IsOfFiles, NotSetUp, RefusedRegistry, RefusedText}
+use Rattle.uno_run.specs.SettingUp.{NotSetUp, RefusedRegistry, RefusedText}
 use Rattle.uno_run.specs.declared.status.Status.{Status}
 use Rattle.uno_run.specs.declared.status.Status.TheVariants.{Done, Words, BadRegistry, BadPlan, ReadFault, WriteFault, Broken, Cut, Full, NoFile, NoMemory}
 
 pub is_of : (types plan tag : List ℕ) (registry : List Entity) (g : Setting) → IsRegistryText types registry → g.tag ≡ tag → g.registry ≡ registry
-    → verdict registry plan ≡ Ok g.plan → IsOf types plan tag g
-is_of types plan tag registry g is_text tagged same read =
-    record { is_text = subst (IsRegistryText types) (sym same) is_text; read = ap (λ r. verdict r plan) same ∙ read; tagged = tagged }
+    → IsTextOf registry plan g.plan → IsOf types plan tag g
+is_of types plan tag registry g is_text tagged same is_plan =
+    record { is_text = subst (IsRegistryText types) (sym same) is_text; is_plan = subst (λ r. IsTextOf r plan g.plan) (sym same) is_plan; tagged = tagged }
 
 -- a text that was read is not too long
 pub short_text : {T E : Type 0} (x : T) (e : E) (text : List ℕ) → (Ok x ≡ Err e) ↔ (4194304 < length text) → length text ≤ 4194304

@@ -1,7 +1,7 @@
 -- The status with which a run of `answer` ends where nothing hinders it: that of the order of work.
 use Rattle.std.specs.Prelude.{◌≡◌, ◌⊎◌, ℕ, true, false, List, Option, None, Some}
 use Rattle.uno_base.specs.Causes.{Rose}
-use Rattle.uno_io.specs.Files.{Stored, read_at}
+use Rattle.uno_io.specs.Files.{Stored}
 use Rattle.bridge_model.specs.Histories.{Told}
 use Rattle.bridge_model.specs.Settings.{Setting}
 use Rattle.bridge_model.specs.declared.cause.Cause.{Cause}
@@ -9,7 +9,7 @@ use Rattle.bridge_model.specs.declared.cause.Cause.TheVariants as cause
 use Rattle.answer_laws.specs.Working.{IsDone}
 use Rattle.answering.specs.Answering.{InputEnded}
 use Rattle.command_words.specs.Names.{Text}
-use Rattle.uno_run.specs.Answer.{IsOf}
+use Rattle.uno_run.specs.Answer.{IsOfFiles}
 use Rattle.uno_run.specs.declared.status.Status.{Status}
 use Rattle.uno_run.specs.declared.status.Status.TheVariants.{Done, Broken, Cut, Full}
 
@@ -26,17 +26,13 @@ pub record IsUnhindered {I O : Type 0} (left : I → Option (List ℕ)) (reads :
     (g : Setting) (input_old input_new : I) (output_old output_new : O) (bytes : List ℕ) (told : Told) : Type 0 where
   pub had : left input_old ≡ Some bytes
   pub done : IsDone g bytes told
-  pub read : Rose (reads input_old) (reads input_new) → ⊥
-  pub written : Rose (writes output_old) (writes output_new) → ⊥
+  pub read : ¬ Rose (reads input_old) (reads input_new)
+  pub written : ¬ Rose (writes output_old) (writes output_new)
 
--- a store has two files whose texts are those of this setting, and does not fail
+-- a store tells its files, the texts of two are those of this setting, and it does not fail
 pub record AreWell {F : Type 0} (stored : F → Option Stored) (readings : F → ℕ)
     (types plan : Text) (tag : List ℕ) (files_old files_new : F) (g : Setting) : Type 0 where
   pub store : Stored
-  pub types_text : List ℕ
-  pub plan_text : List ℕ
   pub tells : stored files_old ≡ Some store
-  pub types_there : read_at types store ≡ Some types_text
-  pub plan_there : read_at plan store ≡ Some plan_text
-  pub is_of : IsOf types_text plan_text tag g
-  pub read : Rose (readings files_old) (readings files_new) → ⊥
+  pub is_of : IsOfFiles (stored files_old) types plan tag g
+  pub read : ¬ Rose (readings files_old) (readings files_new)

@@ -44,7 +44,7 @@ pub record WroteAll (store : Option Stored) (name : Text) (old new : Option (Lis
   pub is_of : IsOfFile store name registry
   pub written : Appends old new (canonical_unoidl registry)
 
--- it took a front of it
+-- it took a prefix of it
 pub record WroteFront (store : Option Stored) (name : Text) (old new : Option (List ℕ)) : Type 0 where
   pub registry : List Entity
   pub is_of : IsOfFile store name registry
@@ -80,4 +80,4 @@ pub record IdlRun {F O : Type 0} (stored : F → Option Stored) (reads : F → �
   pub silent : status ≢ Done → status ≢ WriteFault → output_new ≡ output_old
   -- where the store has there the text of a registry that keeps the rules, and neither it nor the output fails
   pub well : (files : Stored) (text : List ℕ) (registry : List Entity) → stored files_old ≡ Some files → read_at name files ≡ Some text
-      → IsRegistryText text registry → (Rose (reads files_old) (reads files_new) → ⊥) → (Rose (writes output_old) (writes output_new) → ⊥) → (status ≡ Done) ⊎ (status ≡ NoMemory)
+      → IsRegistryText text registry → ¬ Rose (reads files_old) (reads files_new) → ¬ Rose (writes output_old) (writes output_new) → (status ≡ Done) ⊎ (status ≡ NoMemory)

@@ -98,6 +98,6 @@ code_of Full = 8
 code_of (NoFile file) = 11
 code_of NoMemory = 70
 
--- the line was taken whole, or the sink failed and took a front of it
+-- the line was taken whole, or the sink failed and took a prefix of it
 abbrev pub Printed : ℕ → ℕ → Option (List ℕ) → Option (List ℕ) → List ℕ → Type 0
 Printed before now old new line = Appends old new line ⊎ (Rose before now × AppendsFront old new line)

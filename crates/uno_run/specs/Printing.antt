@@ -20,13 +20,13 @@ refused (error.Order line) = BadRegistry 0 line reason.Order
 refused (error.Rule rule line) = BadRegistry 0 line (reason.Rule rule)
 refused error.TooLong = BadRegistry 0 0 reason.TooLong
 
--- all of the text was written, or a front of it, where the output failed
+-- all of the text was written, or a prefix of it, where the output failed
 abbrev pub TextWritten : List ℕ → Option (List ℕ) → Option (List ℕ) → ℕ → ℕ → Status → Type 0
 TextWritten text old new before now Done = Appends old new text × (now ≡ before)
 TextWritten text old new before now WriteFault = AppendsFront old new text × Rose before now
 TextWritten text old new before now _ = ⊥
 
--- or nothing was done for want of memory
+-- or nothing was done, out of memory
 abbrev pub RegistryPrinted : List Entity → Option (List ℕ) → Option (List ℕ) → ℕ → ℕ → Status → Type 0
 RegistryPrinted registry old new before now NoMemory = (new ≡ old) × (now ≡ before)
 RegistryPrinted registry old new before now status = TextWritten (canonical_unoidl registry) old new before now status

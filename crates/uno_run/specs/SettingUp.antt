@@ -1,25 +1,16 @@
--- The endpoint of two files, and what a status says where none was set up.
-use Rattle.std.specs.Prelude.{◌≡◌, ◌⊎◌, ℕ, List, Option, Some, None, Err}
+-- What a status says where no endpoint was set up.
+use Rattle.std.specs.Prelude.{◌≡◌, ◌⊎◌, ℕ, List, Option, None, Err}
 use Rattle.uno_base.specs.Causes.{Rose}
 use Rattle.uno_io.specs.Files.{Stored}
 use Rattle.uno_model.specs.Entities.{Entity}
 use Rattle.behaviour_text.specs.declared.error.PlanError.{PlanError}
 use Rattle.behaviour_text.specs.declared.error.PlanError.TheVariants as error
-use Rattle.bridge_model.specs.Settings.{Setting}
 use Rattle.command_words.specs.Names.{Text}
-use Rattle.plan_reading_model.specs.TextReading.{verdict}
-use Rattle.uno_run.specs.Answer.{IsOf, LacksPlan, RefusedPlan}
+use Rattle.plan_model.specs.Keeps.{IsVerdict}
+use Rattle.uno_run.specs.Answer.{LacksPlan, RefusedPlan}
 use Rattle.uno_run.specs.Idl.{IsRefused, Refused, Tells}
 use Rattle.uno_run.specs.declared.status.Status.{Status}
 use Rattle.uno_run.specs.declared.status.Status.TheVariants.{BadRegistry, BadPlan, ReadFault, NoFile, NoMemory}
-
--- the files have these texts, and the setting is theirs
-pub record IsOfFiles (store : Option Stored) (types plan : Text) (tag : List ℕ) (g : Setting) : Type 0 where
-  pub types_text : List ℕ
-  pub plan_text : List ℕ
-  pub types_told : Tells store types (Some types_text)
-  pub plan_told : Tells store plan (Some plan_text)
-  pub is_of : IsOf types_text plan_text tag g
 
 -- ---- what a status says of a refused text
 
@@ -31,7 +22,7 @@ RefusedRegistry text _ = ⊥
 
 -- of a plan, which is the second
 abbrev pub RefusedText : List Entity → List ℕ → Status → Type 0
-RefusedText registry text (BadPlan file line why) = (file ≡ 1) × (verdict registry text ≡ Err (record { line = line; reason = why }))
+RefusedText registry text (BadPlan file line why) = (file ≡ 1) × IsVerdict registry text (Err (record { line = line; reason = why }))
 RefusedText registry text NoMemory = Unit
 RefusedText registry text _ = ⊥
 
@@ -39,7 +30,7 @@ abbrev pub plan_refused : PlanError → Status
 plan_refused error.NoMemory = NoMemory
 plan_refused (error.BadLine line why) = BadPlan 1 line why
 
--- ---- the first file that is refused, is not there or cannot be read, or want of memory
+-- ---- the first file that is refused, is not there or cannot be read, or out of memory
 
 abbrev pub NotSetUp : Option Stored → (types plan : Text) → (before now : ℕ) → Status → Type 0
 NotSetUp store types plan before now (BadRegistry file line reason) = (file ≡ 0) × Refused store types line reason × (now ≡ before)

@@ -1,15 +1,15 @@
 //! The endpoint of a run: that of two files, which are read and judged in the order of the words, or that of `answer` alone.
-ghost use Rattle.std.specs.Prelude.{◌≡◌, ℕ, List, [], IfOk, IfErr, Ok, Err};
+ghost use Rattle.std.specs.Prelude.{◌≡◌, ℕ, List, [], IfOk, IfErr, Err};
 ghost use Rattle.bridge_endpoint.specs.Journals.{opening_endpoint, setting_at};
+ghost use Rattle.plan_model.specs.Keeps.{IsTextOf, IsVerdict};
 ghost use Rattle.plan_model.specs.declared.line_reason.LineReason.{LineReason};
-ghost use Rattle.plan_reading_model.specs.TextReading.{verdict};
 ghost use Rattle.plan_typing.specs.Effects.{NamesDiffer};
 ghost use Rattle.uno_model.specs.Sound.{IsSound};
 ghost use Rattle.command_words.specs.Names.{Text};
-ghost use Rattle.uno_run.specs.Answer.{IsOf};
+ghost use Rattle.uno_run.specs.Answer.{IsOf, IsOfFiles};
 ghost use Rattle.uno_run.specs.Idl.{IsOfFile, IsRegistryText};
 ghost use Rattle.uno_run.specs.Own.{own_plan, own_types};
-ghost use Rattle.uno_run.specs.SettingUp.{IsOfFiles, NotSetUp, RefusedRegistry, RefusedText, plan_refused};
+ghost use Rattle.uno_run.specs.SettingUp.{NotSetUp, RefusedRegistry, RefusedText, plan_refused};
 
 use crate::Status;
 use crate::files::{refused, text_of};
@@ -159,9 +159,9 @@ fn end_of(alloc: Global, tag: &Tag, registry: Registry, plan: &[u8]) -> Result<E
     requires names { NamesDiffer registry }
     ensures tag { IfOk result (λ e. (setting_at e).tag ≡ tag.now) }
     ensures registry { IfOk result (λ e. (setting_at e).registry ≡ registry) }
-    ensures plan { IfOk result (λ e. verdict registry plan.now ≡ Ok (setting_at e).plan) }
+    ensures plan { IfOk result (λ e. IsTextOf registry plan.now (setting_at e).plan) }
     ensures opening { IfOk result (λ e. e ≡ opening_endpoint e.configured) }
-    ensures wrong { (line : ℕ) (why : LineReason) → result ≡ Err (PlanError.BadLine line why) → verdict registry plan.now ≡ Err (record { line = line; reason = why }) }
+    ensures wrong { (line : ℕ) (why : LineReason) → result ≡ Err (PlanError.BadLine line why) → IsVerdict registry plan.now (Err (record { line = line; reason = why })) }
 {
     match tag.copy(alloc) {
         Ok(tag) => set_up(alloc, tag, registry, plan),

@@ -10,4 +10,4 @@ pub returns-in-Ok-clause-no_words : goal.returns-in-Ok-clause-no_words
 returns-in-Ok-clause-no_words g c = no_words c.serve.result c.serve.ensures.ends
 
 pub returns-in-Err-clause-run : goal.returns-in-Err-clause-run
-returns-in-Err-clause-run g c = inr (refl, refl, refl)
+returns-in-Err-clause-run g c = inr (refl, (refl, refl))
