@@ -14,6 +14,7 @@ mod plans;
 mod rows;
 mod streams;
 mod texts;
+mod unoidl;
 mod values;
 
 use std::process::ExitCode;

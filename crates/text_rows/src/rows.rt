@@ -3,7 +3,7 @@ ghost use Rattle.uno_model.specs.Sound.{IsSound};
 
 use crate::answer::Answer;
 use crate::texts::cut;
-use crate::{commands, entities, made, messages, misfits, plans, streams, values};
+use crate::{commands, entities, made, messages, misfits, plans, streams, unoidl, values};
 use std::alloc::Global;
 use uno_types::{Registry, Tag, is_entity_name, is_identifier};
 
@@ -24,6 +24,9 @@ pub(crate) fn answer_row(registry: &Registry, row: &str, answer: &mut Answer)
         ),
         "registry" => entities::read(registry.allocator(), text, answer),
         "idl" => entities::idl(registry, text, answer),
+        "tokens" => unoidl::tokens(registry.allocator(), text, answer),
+        "tree" => unoidl::tree(registry.allocator(), text, answer),
+        "value" => unoidl::value(registry.allocator(), text, answer),
         "members" => entities::members(registry, text, answer),
         "functions" => entities::functions(registry, text, answer),
         "function" => entities::function(registry, text, answer),
