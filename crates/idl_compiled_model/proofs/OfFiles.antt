@@ -23,7 +23,7 @@ use Rattle.uno_model.specs.Names.{is_identifier}
 use Rattle.idl_compiled_model.specs.Compiling.{IsRead, AreRead}
 use Rattle.idl_compiled_model.proofs.ApartCounts.{at_place, place_weights, place_weighs, leaves_less, valued_less}
 use Rattle.idl_compiled_model.proofs.Leaves.{def_weight, tree_bound}
-use Rattle.idl_compiled_model.proofs.SpelledCounts.{is_wrong, wrong_weights, wrong_weigh, all_have_identifiers}
+use Rattle.idl_compiled_model.proofs.SpelledCounts.{is_wrong, wrong_weights, wrong_weigh, all_have_identifiers, all_uses_spelled}
 use Rattle.idl_compiled_model.proofs.Weighing.{total, one_if}
 
 -- ---- places that occur once at most are apart
@@ -202,4 +202,4 @@ module _ (file : ℕ) (texts : List (List ℕ)) (trees : List Tree) (read : AreR
   nothing_wrong = files_right file texts trees read
 
   pub are_of_files : AreOfFiles trees
-  are_of_files = record { identifiers = all_have_identifiers trees nothing_wrong; apart = places_apart }
+  are_of_files = record { identifiers = all_have_identifiers trees nothing_wrong; used = all_uses_spelled trees nothing_wrong; apart = places_apart }

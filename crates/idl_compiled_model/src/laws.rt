@@ -18,8 +18,8 @@ pub fn every_list_of_files_has_a_verdict()
     ensures { (texts : List (List ℕ)) → (out : Result (List Entity) Refusal) × IsCompiled texts out }
 {}
 
-/// Trees that were read of the texts of files are such as the laws of names and of rules ask for: their names are identifiers, and no two
-/// names or types stand at one place; the names of constants and items stand apart too, numbers are below 2^64, and each type of members
+/// Trees that were read of the texts of files are such as the laws of names and of rules ask for: their names are made of identifiers, and
+/// no two names or types stand at one place; the names of constants and items stand apart too, numbers are below 2^64, and each type of members
 /// has a name.
 pub fn read_trees_are_of_files()
     ensures of_files { (file : ℕ) (texts : List (List ℕ)) (trees : List Tree) → AreRead file texts trees → AreOfFiles trees }

@@ -1,5 +1,5 @@
--- What holds of trees that come from files: the names that they declare are identifiers, and no two names or types stand at one place.
-use Rattle.std.specs.Prelude.{Bool, true, not, ◌&&◌, List, [], ◌∷◌, ◌++◌, map, IsTrue}
+-- What holds of trees that come from files: the names that they declare and use are made of identifiers, and no two names or types stand at one place.
+use Rattle.std.specs.Prelude.{ℕ, Bool, true, false, not, ◌&&◌, List, [], ◌∷◌, ◌++◌, map, IsTrue}
 use Rattle.std.specs.List.{list_all, list_any, flat_map}
 use Rattle.uno_model.specs.Names.{is_identifier}
 use Rattle.idl_model.specs.Places.{Place, is_at}
@@ -7,7 +7,7 @@ use Rattle.idl_model.specs.Trees.{Id, WrittenType, simple, named, sequence_of, A
 use Rattle.idl_model.specs.Trees.{InterfaceMember, base_member, attribute, method, Constructor, ServiceMember, property}
 use Rattle.idl_model.specs.Trees.{Declaration, interface, struct, exception, enum, constants, new_service, old_service}
 use Rattle.idl_meaning_model.specs.Declarations.{Declared, declarations}
-use Rattle.idl_meaning_model.specs.Uses.{uses, path_of, types_in}
+use Rattle.idl_meaning_model.specs.Uses.{Use, uses, path_of, types_in}
 
 -- ---- names
 
@@ -40,6 +40,14 @@ is_spelled id = is_identifier id.name
 unfoldable pub has_identifiers : Declared → Bool
 has_identifiers d = (list_all is_identifier d.modules && is_spelled d.name) && list_all is_spelled (inner_ids d.body)
 
+-- a name that is used has one identifier at least
+abbrev pub are_identifiers : List (List ℕ) → Bool
+are_identifiers [] = false
+are_identifiers (x ∷ xs) = list_all is_identifier (x ∷ xs)
+
+abbrev pub is_spelled_use : Use → Bool
+is_spelled_use u = are_identifiers (path_of u.used).parts
+
 -- ---- places
 
 -- the places of the simple types in a type
@@ -63,4 +71,5 @@ are_apart (p ∷ ps) = not (list_any (is_at p) ps) && are_apart ps
 
 pub record AreOfFiles (trees : List Tree) : Type 0 where
   pub identifiers : IsTrue (list_all has_identifiers (declarations trees))
+  pub used : IsTrue (list_all is_spelled_use (uses (declarations trees)))
   pub apart : IsTrue (are_apart (leaf_places (declarations trees)))

@@ -24,10 +24,10 @@ kept_read old new n keep low = get_or_from_slice_get new n (get_or old n []) [] 
 pub kept_low : (old new : List Parts) (n : ℕ) → Keep old new → n < length old → n < length new
 kept_low old new n keep low = slice_get_within new n (get_or old n []) (keep n low ∙ slice_get-get_or old n [] low)
 
-kept_both : (a b c : List Parts) → Keep a b → Keep b c → Keep a c
+pub kept_both : (a b c : List Parts) → Keep a b → Keep b c → Keep a c
 kept_both a b c one two n low = two n (kept_low a b n one low) ∙ one n low
 
-opened_keeps : (old : List Parts) (p : Parts) (new : List Parts) → Opens old p new → Keep old new
+pub opened_keeps : (old : List Parts) (p : Parts) (new : List Parts) → Opens old p new → Keep old new
 opened_keeps old p new opens n low = elim opens [
   | inl same ↦ ap (λ (ps : List Parts). slice_get ps n) same
   | inr longer ↦ ap (λ (ps : List Parts). slice_get ps n) longer ∙ in_front old (p ∷ []) n low
@@ -35,7 +35,7 @@ opened_keeps old p new opens n low = elim opens [
 
 -- ---- declarations where paths stay
 
-numbers_kept : (a b : List Parts) (d : Declared) → Keep a b → HasNumbers a d → HasNumbers b d
+pub numbers_kept : (a b : List Parts) (d : Declared) → Keep a b → HasNumbers a d → HasNumbers b d
 numbers_kept a b d keep has =
     record {
       low = kept_low a b d.modules keep has.low;
@@ -43,14 +43,14 @@ numbers_kept a b d keep has =
           ∙ ap (λ (p : Parts). Some (p ++ d.name.now.name ∷ [])) (sym (kept_read a b d.modules keep has.low));
     }
 
-all_numbers_kept : (a b : List Parts) (ds : List Declared) → Keep a b → AllByRecursion (HasNumbers a) ds → AllByRecursion (HasNumbers b) ds
+pub all_numbers_kept : (a b : List Parts) (ds : List Declared) → Keep a b → AllByRecursion (HasNumbers a) ds → AllByRecursion (HasNumbers b) ds
 all_numbers_kept a b [] keep has = tt
 all_numbers_kept a b (d ∷ ds) keep has = (numbers_kept a b d keep has.0, all_numbers_kept a b ds keep has.1)
 
-abbrev told_in : Parts → Declared → model.Declared
+abbrev pub told_in : Parts → Declared → model.Declared
 told_in modules d = record { modules = modules; published = d.published; name = id_of d.name.now; body = declaration_of d.body.now }
 
-told_kept : (a b : List Parts) (ds : List Declared) → Keep a b → AllByRecursion (HasNumbers a) ds → map (declared_of b) ds ≡ map (declared_of a) ds
+pub told_kept : (a b : List Parts) (ds : List Declared) → Keep a b → AllByRecursion (HasNumbers a) ds → map (declared_of b) ds ≡ map (declared_of a) ds
 told_kept a b [] keep has = refl
 told_kept a b (d ∷ ds) keep has =
     ap (λ (p : Parts). told_in p d ∷ map (declared_of b) ds) (kept_read a b d.modules keep has.0.low) ∙ ap (λ rest. declared_of a d ∷ rest) (told_kept a b ds keep has.1)

@@ -1,5 +1,11 @@
+pub mod Alone
 pub mod Collected
 pub mod Faults
 pub mod Floats
+pub mod Opened
 pub mod Paths
+pub mod Resolving
+pub mod Standing
+pub mod Tables
+pub mod Telling
 pub mod Used

@@ -48,7 +48,7 @@ fn earlier_of(least: Option<Fault>, fault: &Fault) -> Fault
 }
 
 /// By file, and then by byte.
-fn comes_before(place: Place, other: Place) -> bool
+pub(crate) fn comes_before(place: Place, other: Place) -> bool
     ensures { result ≡ plain.is_before (place_of place) (place_of other) }
 {
     if place.file == other.file {

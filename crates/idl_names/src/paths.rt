@@ -1,5 +1,5 @@
 //! Paths of identifiers by number: of modules, of what they declare, and of constants and items.
-ghost use Rattle.std.specs.Prelude.{◌≡◌, ◌<◌, ◌++◌, ◌∷◌, [], IfNone, IfOk, IfSome, OnErr, OnOk, Contains, cond, get_or, length, map, slice_get, Some};
+ghost use Rattle.std.specs.Prelude.{◌≡◌, ◌<◌, ℕ, ◌++◌, ◌∷◌, [], IfNone, IfOk, IfSome, OnErr, OnOk, Contains, cond, get_or, length, map, slice_get, Some};
 ghost use Rattle.idl_meaning_model.specs.Declarations.{dotted};
 ghost use Rattle.idl_names.specs.Paths.{Inside, IsInside, Opens, Parts, is_same, number_at, within};
 
@@ -40,6 +40,14 @@ impl<'a> Paths<'a> {
             numbers: BTreeMap::new(alloc),
             inside: Vec::new(alloc),
         }
+    }
+
+    /// How many there are. No two of them are the same.
+    pub fn len(&self) -> usize
+        ensures count { result ≡ length self.now }
+        ensures once { (n k : ℕ) (p : Parts) → slice_get self.now n ≡ Some p → slice_get self.now k ≡ Some p → n ≡ k }
+    {
+        self.inside.as_slice().len() + 1
     }
 
     /// The path of this identifier behind another, if it was opened. Where it was not, none behind it was.

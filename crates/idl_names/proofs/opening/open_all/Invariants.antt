@@ -1,0 +1,7 @@
+use Rattle.std.proofs.Common.{◌≡◌, map, slice_get, Some, take}
+use Rattle.idl_names.specs.Collected.{Keep}
+use Rattle.idl_names.proofs.OpenLemmas.{OpensTo}
+use Rattle.idl_names.proofs.opening.open_all.Given as goal
+
+abbrev pub invariant-loop-name : goal.invariant-loop-name
+invariant-loop-name l = OpensTo l.fn.paths (map (λ name. name.now) (take l.name-index l.names)) l.paths l.number
