@@ -1,0 +1,6 @@
+mod FieldLemmas
+mod FlagLemmas
+mod NumberLemmas
+mod RootLemmas
+mod ServiceLemmas
+mod Steps
