@@ -1,5 +1,5 @@
 //! UNOIDL: the tokens of a text, whether they have a tree, and the values of expressions.
-ghost use Rattle.std.specs.Prelude.{◌≡◌, ℤ, Option, None, Some, length, if◌then◌else◌};
+ghost use Rattle.std.specs.Prelude.{◌≡◌, ℤ, Option, None, Some, length, pos, if◌then◌else◌};
 ghost use Rattle.idl_model.specs.Trees as tree;
 
 use crate::answer::Answer;
@@ -74,7 +74,7 @@ fn put_value(tree: &Tree, answer: &mut Answer) {
 struct Lengths;
 
 impl Values for Lengths {
-    ghost value_known = { λ _ path. if path.absolute then None else Some (length path.parts) };
+    ghost value_known = { λ _ path. if path.absolute then None else Some (pos (length path.parts)) };
 
     fn value(&self, path: &Path) -> Option<i128> {
         match path.absolute {
