@@ -27,6 +27,7 @@ pub(crate) fn answer_row(registry: &Registry, row: &str, answer: &mut Answer)
         "tokens" => unoidl::tokens(registry.allocator(), text, answer),
         "tree" => unoidl::tree(registry.allocator(), text, answer),
         "value" => unoidl::value(registry.allocator(), text, answer),
+        "names" => unoidl::names(registry.allocator(), text, answer),
         "members" => entities::members(registry, text, answer),
         "functions" => entities::functions(registry, text, answer),
         "function" => entities::function(registry, text, answer),

@@ -1,14 +1,18 @@
-//! UNOIDL: the tokens of a text, whether they have a tree, and the values of expressions.
+//! UNOIDL: the tokens of a text, whether they have a tree, the values of expressions, and what names stand for.
 ghost use Rattle.std.specs.Prelude.{◌≡◌, ℤ, Option, None, Some, length, pos, if◌then◌else◌};
+ghost use Rattle.idl_meaning_model.specs.FromFiles.{AreOfFiles};
 ghost use Rattle.idl_model.specs.Trees as tree;
+ghost use Rattle.idl_trees.specs.Trees.{trees_of};
 
 use crate::answer::Answer;
 use crate::texts::bytes_of;
 use idl_const::{Values, evaluate};
 use idl_lex::{LexError, lex};
+use idl_names::{NameError, Paths, resolve};
 use idl_parse::{ParseError, parse};
 use idl_trees::{Declaration, Def, Path, Place, Token, Tree, Word};
 use std::alloc::Global;
+use std::slice;
 
 /// `tokens TEXT`: of each token the byte and what it says, or the refusal.
 pub(crate) fn tokens(alloc: Global, text: &str, answer: &mut Answer) {
@@ -84,6 +88,40 @@ impl Values for Lengths {
     }
 }
 
+/// `names TEXT`: of each name that is used the byte and what it stands for, or the fault that comes first.
+pub(crate) fn names(alloc: Global, text: &str, answer: &mut Answer) {
+    match lex(alloc, 0, &bytes_of(alloc, text)) {
+        Ok(tokens) => match parse(alloc, &tokens) {
+            Ok(tree) => put_names(alloc, slice::from_ref(&tree), answer),
+            Err(error) => not_parsed(error, answer),
+        },
+        Err(error) => not_read(error, answer),
+    }
+}
+
+fn put_names(alloc: Global, trees: &[Tree], answer: &mut Answer)
+    requires { AreOfFiles (trees_of trees.now) }
+{
+    match resolve(alloc, trees) {
+        Ok(resolved) => {
+            for (place, number) in &resolved.names {
+                answer.show(&place.byte);
+                put_name(alloc, &resolved.paths, *number, answer);
+            }
+        }
+        Err(error) => not_resolved(error, answer),
+    }
+}
+
+fn put_name(alloc: Global, paths: &Paths<'_>, number: u32, answer: &mut Answer) {
+    if number as usize >= paths.len() {
+        return answer.word("no path");
+    }
+    if let Ok(name) = paths.full_name(alloc, number) {
+        answer.word(name.as_str());
+    }
+}
+
 fn not_read(error: LexError, answer: &mut Answer) {
     match error {
         LexError::NoMemory => answer.word("NoMemory"),
@@ -99,6 +137,26 @@ fn not_parsed(error: ParseError, answer: &mut Answer) {
         ParseError::NoMemory => answer.word("NoMemory"),
         ParseError::Unexpected(place) => refused("Unexpected", place, answer),
         ParseError::Nested(place) => refused("Nested", place, answer),
+    }
+}
+
+fn not_resolved(error: NameError, answer: &mut Answer) {
+    match error {
+        NameError::NoMemory => answer.word("NoMemory"),
+        NameError::Unknown(place) => refused("Unknown", place, answer),
+        NameError::FloatRefused(place) => refused("FloatRefused", place, answer),
+        NameError::Twice(place, first) => {
+            refused("Twice", place, answer);
+            put_first(first, answer);
+        }
+    }
+}
+
+/// The place of the first declaration; what is built in has none.
+fn put_first(first: Option<Place>, answer: &mut Answer) {
+    match first {
+        Some(place) => answer.show(&place.byte),
+        None => answer.word("-"),
     }
 }
 
