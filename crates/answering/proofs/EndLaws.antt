@@ -9,7 +9,7 @@ use Rattle.bridge_model.specs.Entries.{Entry}
 use Rattle.bridge_model.specs.Histories.{Leads}
 use Rattle.bridge_roots.specs.Moving.{with_any}
 use Rattle.bridge_roots.specs.Standing.{IsHistory}
-use Rattle.answer_laws.specs.Working.{AllIsDone}
+use Rattle.bridge_laws.specs.Working.{AllIsDone}
 use Rattle.answering.specs.Doing.{First, bytes_with}
 use Rattle.answering.specs.Ends.{Did, DoesFirst, GoesOn, HaltsAt, IsSettled, TurnsSo}
 use Rattle.answering.specs.Turning.{Turns, Halts}

@@ -13,7 +13,7 @@ use Rattle.bridge_model.specs.Settings.{Setting}
 use Rattle.bridge_model.specs.Sides.{stands, stands_by}
 use Rattle.bridge_model.specs.declared.cause.Cause.{Cause}
 use Rattle.bridge_model.specs.declared.cause.Cause.TheVariants as reason
-use Rattle.answer_laws.specs.Working.{AllIsDone}
+use Rattle.bridge_laws.specs.Working.{AllIsDone}
 use Rattle.answering.specs.Doing.{Feeds, Closes}
 use Rattle.answering.specs.Ends.{GoesOn, HaltsAt, IsSettled, IsFed, IsAnswered, IsClosing, SettlesSo, ClosesSo}
 use Rattle.answering.specs.Serving.{Holds, HoldsFront, IsOver, IsAllIn, IsCutOrNot}

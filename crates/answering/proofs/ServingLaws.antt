@@ -11,8 +11,8 @@ use Rattle.bridge_model.specs.Settings.{Setting}
 use Rattle.bridge_model.specs.Sides.{stands, stands_by}
 use Rattle.bridge_model.specs.declared.cause.Cause.{Cause}
 use Rattle.bridge_model.specs.declared.cause.Cause.TheVariants as reason
-use Rattle.answer_laws.specs.Working.{AllIsDone, IsDone, IsInOrder}
-use Rattle.answer_laws.proofs.OrderLaws.{begins_in_order, order_is_done}
+use Rattle.bridge_laws.specs.Working.{AllIsDone, IsDone, IsInOrder}
+use Rattle.bridge_laws.proofs.WorkingOrderLaws.{begins_in_order, order_is_done}
 use Rattle.answering.specs.Answering.{WasRead, Had, no_more, more, AnsweredWhole, InputEnded, AnsweredPart}
 use Rattle.answering.specs.Doing.{Closes}
 use Rattle.answering.specs.Serving.{Holds, HoldsFront, IsOver, IsAllIn, IsCutOrNot}

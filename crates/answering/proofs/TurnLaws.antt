@@ -12,9 +12,9 @@ use Rattle.bridge_model.specs.Orders.{or_full}
 use Rattle.bridge_model.specs.Settings.{Setting}
 use Rattle.bridge_model.specs.Sides.{stands}
 use Rattle.bridge_model.specs.Steps.{has_entries, has_fed}
-use Rattle.answer_laws.specs.Working.{AllIsDone, IsInOrder}
-use Rattle.answer_laws.proofs.FeedingLaws.{feeding_keeps, end_keeps}
-use Rattle.answer_laws.proofs.OrderLaws.{method_keeps, root_keeps, quiet_root_keeps, object_keeps, bytes_keep, full_keeps}
+use Rattle.bridge_laws.specs.Working.{AllIsDone, IsInOrder}
+use Rattle.bridge_laws.proofs.FeedingLaws.{feeding_keeps, end_keeps}
+use Rattle.bridge_laws.proofs.WorkingOrderLaws.{method_keeps, root_keeps, quiet_root_keeps, object_keeps, bytes_keep, full_keeps}
 use Rattle.answering.specs.Doing.{First, of_method, of_root, of_object, of_bytes, bytes_with, Feeds, Closes}
 use Rattle.answering.specs.Turning.{IsClosed, Turns, Halts, Answers, HaltsIn}
 use Rattle.answering.proofs.ClosingLaws.{is_lack, drained_by, stays_ended, closed_on, closed_by_end}

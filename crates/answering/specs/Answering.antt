@@ -8,7 +8,7 @@ use Rattle.bridge_model.specs.Histories.{Told}
 use Rattle.bridge_model.specs.Settings.{Setting}
 use Rattle.bridge_model.specs.Sides.{stands}
 use Rattle.bridge_model.specs.declared.cause.Cause.{Cause}
-use Rattle.answer_laws.specs.Working.{AllIsDone, IsDone, IsInOrder}
+use Rattle.bridge_laws.specs.Working.{AllIsDone, IsDone, IsInOrder}
 
 -- a source that tells had these bytes at its front, and has them no more
 abbrev pub WasRead : Option (List ℕ) → Option (List ℕ) → List ℕ → Type 0

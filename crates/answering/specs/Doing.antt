@@ -7,7 +7,7 @@ use Rattle.bridge_model.specs.Histories.{Told, bytes_drained}
 use Rattle.bridge_model.specs.Orders.{root_move, or_full, most_drained}
 use Rattle.bridge_model.specs.Settings.{Setting}
 use Rattle.bridge_model.specs.Sides.{Side}
-use Rattle.answer_laws.specs.Working.{AllIsDone, IsInOrder}
+use Rattle.bridge_laws.specs.Working.{AllIsDone, IsInOrder}
 
 -- a statement of the oldest method that is ready; else the move of the lowest root that moves; else the lowest object that may go; else the next bytes: with what
 -- roots there are then, and with its entry

@@ -11,7 +11,7 @@ use Rattle.bridge_model.specs.declared.cause.Cause.{Cause}
 use Rattle.bridge_model.specs.declared.cause.Cause.TheVariants as cause
 use Rattle.bridge_endpoint.specs.Journals.{Endpoint, setting_at, side_at, told_at, with_entry}
 use Rattle.bridge_roots.specs.Moving.{with_any}
-use Rattle.answer_laws.specs.Working.{AllIsDone}
+use Rattle.bridge_laws.specs.Working.{AllIsDone}
 use Rattle.answering.specs.Doing.{First, bytes_with, Feeds, Closes}
 use Rattle.answering.specs.Running.{AreRoots}
 use Rattle.answering.specs.Turning.{Turns, Halts, Answers, HaltsIn}

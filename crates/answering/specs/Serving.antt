@@ -10,7 +10,7 @@ use Rattle.bridge_model.specs.Settings.{Setting}
 use Rattle.bridge_model.specs.Sides.{stands}
 use Rattle.bridge_model.specs.declared.cause.Cause.{Cause}
 use Rattle.bridge_model.specs.declared.cause.Cause.TheVariants as cause
-use Rattle.answer_laws.specs.Working.{AllIsDone, IsInOrder}
+use Rattle.bridge_laws.specs.Working.{AllIsDone, IsInOrder}
 use Rattle.answering.specs.declared.stopped.Halted.{Halted}
 use Rattle.answering.specs.declared.stopped.Halted.TheVariants as halted
 use Rattle.answering.specs.declared.stopped.Stopped.{Stopped}

@@ -8,7 +8,7 @@ use Rattle.bridge_model.specs.Histories.{Told}
 use Rattle.bridge_model.specs.Settings.{Setting}
 use Rattle.bridge_model.specs.Sides.{stands}
 use Rattle.bridge_model.specs.declared.cause.Cause.TheVariants as cause
-use Rattle.answer_laws.specs.Working.{IsInOrder}
+use Rattle.bridge_laws.specs.Working.{IsInOrder}
 
 -- the bridge ended with its input, and all that was said went out
 pub record IsClosed (g : Setting) (t : Told) : Type 0 where

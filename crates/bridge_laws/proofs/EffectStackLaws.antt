@@ -17,7 +17,8 @@ use Rattle.bridge_model.specs.Objects.{object_numbered, variables_of, object_ans
 use Rattle.bridge_model.specs.References.{says, gains_all, takes_all, refs_of_values}
 use Rattle.bridge_model.specs.Settings.{Setting, own_oid}
 use Rattle.bridge_model.specs.Sides.{RootState, Tables}
-use Rattle.bridge_laws.proofs.FrameLaws.{is_caller, is_awaited, is_stack, is_live, began, began_body, began_outgoing, Moved, still, from_roots, goes_on_live, stack_of, stay_gains_below, moved_hands, moved_ends}
+use Rattle.bridge_laws.proofs.FrameLaws.{began_body, began_outgoing, Moved, still, from_roots, goes_on_live, stack_of, stay_gains_below, moved_hands, moved_ends}
+use Rattle.bridge_laws.specs.Grounded.{is_caller, is_awaited, is_stack, is_live, began}
 use Rattle.bridge_laws.proofs.RootStateLaws.{Stay, stay_gains, stay_gains_all, stay_takes_all, stay_lets_go_all, stay_makes_object, stay_makes_default}
 
 -- ---- the method's own frame and object

@@ -15,57 +15,9 @@ use Rattle.bridge_model.specs.References.{says, lets_go_all, refs_of_answer}
 use Rattle.bridge_model.specs.Settings.{Setting, own_oid}
 use Rattle.bridge_model.specs.Sides.{RootState, idle, waits_call, waits_query, answered, Outcome, answer, Tables, state_of, states_with, with_root}
 use Rattle.bridge_laws.proofs.RootStateLaws.{Stay, stay_gains_all, stay_takes_all, stay_lets_go_all}
+use Rattle.bridge_laws.specs.Grounded.{is_caller, is_awaited, may_stand_on, is_stack, is_live, began}
 
 -- ---- stacks
-
--- a call of this end stands on its caller, a method or a root
-abbrev pub is_caller : Option Frame → Bool
-is_caller None = false
-is_caller (Some (base root)) = true
-is_caller (Some (body b)) = true
-is_caller (Some (outgoing o)) = false
-
--- a method that the peer called begins a stack, or stands on a call that went out
-abbrev pub is_awaited : Option Frame → Bool
-is_awaited None = true
-is_awaited (Some (base root)) = false
-is_awaited (Some (body b)) = false
-is_awaited (Some (outgoing o)) = true
-
-abbrev pub begins : Option Frame → Bool
-begins None = true
-begins (Some f) = false
-
--- what a frame may stand on
-abbrev pub may_stand_on : Frame → Option Frame → Bool
-may_stand_on (base root) below = begins below
-may_stand_on (body b) below = if b.from_peer then is_awaited below else is_caller below
-may_stand_on (outgoing o) below = is_caller below
-
-unfoldable pub is_stack : List Frame → Bool
-is_stack [] = true
-is_stack (f ∷ fs) = may_stand_on f (first_frame fs) && is_stack fs
-
--- a root is never at the top
-abbrev pub is_running : Option Frame → Bool
-is_running None = false
-is_running (Some (base root)) = false
-is_running (Some (body b)) = true
-is_running (Some (outgoing o)) = true
-
-abbrev pub is_live : List Frame → Bool
-is_live fs = is_running (first_frame fs) && is_stack fs
-
--- the root that began a stack, where a root did
-abbrev pub root_in : Frame → Option ℕ
-root_in (base root) = Some root
-root_in (body b) = None
-root_in (outgoing o) = None
-
-abbrev pub began : List Frame → Option ℕ
-began [] = None
-began (f ∷ []) = root_in f
-began (f ∷ (h ∷ fs)) = began (h ∷ fs)
 
 -- what becomes of the frames of a thread and of the roots: the thread goes on, its root is answered, or a thread of the peer's ends
 pub data Moved (fs : List Frame) (roots : List RootState) (gs : List Frame) (now : List RootState) : Type 0 where

@@ -33,7 +33,8 @@ use Rattle.bridge_laws.proofs.PaidSideLaws.{InOrder, ref_told}
 use Rattle.bridge_laws.proofs.PayingLaws.{holds_some, peers, stray, strays, Backed, Pays, pays_same, pays_on, pays_gains_all, pays_lets_go, pays_lets_go_all}
 use Rattle.bridge_laws.proofs.SeatLaws.{is_seated, are_seated, puts_seated, calls_own_seated, calls_peer_seated}
 use Rattle.bridge_laws.proofs.StackCountLaws.{puts_count}
-use Rattle.bridge_laws.proofs.ThreadStackLaws.{AreApart, apart_put}
+use Rattle.bridge_laws.proofs.ThreadStackLaws.{apart_put}
+use Rattle.bridge_laws.specs.Grounded.{AreApart}
 use Rattle.bridge_laws.proofs.Sums.{total_filter, total_found}
 
 -- ---- words

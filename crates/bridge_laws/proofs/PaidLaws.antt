@@ -31,7 +31,7 @@ use Rattle.bridge_laws.proofs.PaidStatementLaws.{applied_moves}
 use Rattle.bridge_laws.proofs.PayingLaws.{some_of, held_once, stray, Paid, Pays, pays_same, paid_on, pays_on}
 use Rattle.bridge_laws.proofs.RootedLaws.{IsKeptWhere, along_replay_where}
 use Rattle.bridge_laws.proofs.SideLaws.{SideCovers}
-use Rattle.bridge_laws.proofs.ThreadStackLaws.{AreApart}
+use Rattle.bridge_laws.specs.Grounded.{AreApart}
 use Rattle.bridge_laws.proofs.SeatLaws.{are_seated}
 use Rattle.bridge_laws.proofs.StandingLaws.{no_more, same_standing, stood}
 use Rattle.bridge_laws.proofs.Sums.{total_append, total_push}

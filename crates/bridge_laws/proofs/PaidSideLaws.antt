@@ -31,7 +31,8 @@ use Rattle.bridge_laws.proofs.PayingLaws.{peers, stray, strays, Pays, pays_same,
 use Rattle.bridge_laws.proofs.SeatLaws.{is_seated, are_seated, Seat, puts_seated, frames_seated, below_seat, below_seated, serves_seated, from_peer_seated}
 use Rattle.bridge_laws.proofs.SideLaws.{SideCovers, apart, thread_covers, unwound_covers}
 use Rattle.bridge_laws.proofs.StackCountLaws.{thread_counts, puts_count}
-use Rattle.bridge_laws.proofs.ThreadStackLaws.{AreApart, apart_put}
+use Rattle.bridge_laws.proofs.ThreadStackLaws.{apart_put}
+use Rattle.bridge_laws.specs.Grounded.{AreApart}
 use Rattle.bridge_laws.proofs.Sums.{total_none}
 
 -- ---- what payment rests on

@@ -24,11 +24,11 @@ use Rattle.bridge_model.specs.Steps.{no_objects, opening, reaps_some, is_outcome
 use Rattle.bridge_laws.specs.OfPlan.{IsRoot}
 use Rattle.bridge_laws.specs.Rooted.{waits}
 use Rattle.bridge_laws.proofs.EffectStackLaws.{Stands, own_stands, peer_stands}
-use Rattle.bridge_laws.proofs.FrameLaws.{is_stack, root_answered}
-use Rattle.bridge_laws.proofs.RootSideLaws.{HasRoots, roots_stay}
+use Rattle.bridge_laws.proofs.FrameLaws.{root_answered}
+use Rattle.bridge_laws.specs.Grounded.{is_stack, AreApart, nothing, Grounded, HasRoots}
+use Rattle.bridge_laws.proofs.RootSideLaws.{roots_stay}
 use Rattle.bridge_laws.proofs.RootStateLaws.{Stay, stay_if, stay_gains, stay_gains_all, stay_loses, stay_loses_all, stay_lets_go, stay_lets_go_all, stay_makes_default, stay_makes_all}
-use Rattle.bridge_laws.proofs.ThreadStackLaws.{AreApart}
-use Rattle.bridge_laws.proofs.ThreadLaws.{nothing, Grounded, grounded_begins, grounded_quiet}
+use Rattle.bridge_laws.proofs.ThreadLaws.{grounded_begins, grounded_quiet}
 
 -- ---- states
 

@@ -23,12 +23,9 @@ use Rattle.bridge_model.specs.Stacks.{puts_frames, has_stack, is_busy_top, is_bu
 use Rattle.bridge_model.specs.Steps.{Picked, picked_in, picked, applies_effect, applies_picked}
 use Rattle.bridge_model.specs.declared.cause.Cause.{Cause}
 use Rattle.bridge_laws.proofs.EffectStackLaws.{Stands, served_stands, moved_applies}
-use Rattle.bridge_laws.proofs.FrameLaws.{is_awaited, is_stack, began, Moved, stack_below, below_body, below_outgoing, moved_from_peer}
-use Rattle.bridge_laws.proofs.ThreadLaws.{Thread, nothing, of_root, of_peer, Grounded, thread_stack, grounded_moved, grounded_put, grounded_ended}
-
--- what holds of a side
-abbrev pub HasRoots : Setting → Side → Type 0
-HasRoots g s = Grounded g s.tables.roots s.stacks
+use Rattle.bridge_laws.proofs.FrameLaws.{Moved, stack_below, below_body, below_outgoing, moved_from_peer}
+use Rattle.bridge_laws.specs.Grounded.{is_awaited, is_stack, began, Thread, nothing, of_root, of_peer, Grounded, HasRoots}
+use Rattle.bridge_laws.proofs.ThreadLaws.{thread_stack, grounded_moved, grounded_put, grounded_ended}
 
 -- where roots and stacks are as they were, so is this
 pub roots_stay : (g : Setting) (roots now : List RootState) (stacks : List Stack) → now ≡ roots → Grounded g roots stacks → Grounded g now stacks

@@ -14,11 +14,11 @@ use Rattle.bridge_model.specs.Steps.{Turn, has_entries, is_root, may_begin, may_
 use Rattle.bridge_model.specs.declared.cause.Cause.TheVariants as cause
 use Rattle.bridge_laws.specs.OfPlan.{IsOfPlan, AreOfPlan}
 use Rattle.bridge_laws.specs.Rooted.{bottom, waits, IsRooted, AreRoots}
-use Rattle.bridge_laws.proofs.FrameLaws.{is_live, root_in, began}
+use Rattle.bridge_laws.specs.Grounded.{is_live, root_in, began, Thread, nothing, of_root, of_peer, HasRoots}
 use Rattle.bridge_laws.proofs.Replays.{of_step}
 use Rattle.bridge_laws.proofs.RootEntryLaws.{calls_rooted, queries_rooted, root_asks_rooted, makes_rooted, drops_rooted, takes_rooted, reaps_rooted, opening_rooted}
-use Rattle.bridge_laws.proofs.RootSideLaws.{HasRoots, ends_rooted, runs_out_rooted, picked_rooted, feeds_rooted}
-use Rattle.bridge_laws.proofs.ThreadLaws.{Thread, nothing, of_root, of_peer, root_own, root_named}
+use Rattle.bridge_laws.proofs.RootSideLaws.{ends_rooted, runs_out_rooted, picked_rooted, feeds_rooted}
+use Rattle.bridge_laws.proofs.ThreadLaws.{root_own, root_named}
 
 -- ---- histories of which each entry is of a kind
 

@@ -13,9 +13,10 @@ use Rattle.bridge_model.specs.Sides.{RootState, Outcome, answered, state_of, sta
 use Rattle.bridge_model.specs.Stacks.{puts_frames}
 use Rattle.bridge_model.specs.declared.cause.Cause.{Cause}
 use Rattle.bridge_laws.specs.Rooted.{waits}
-use Rattle.bridge_laws.proofs.FrameLaws.{is_stack, is_running, is_live, began, Moved, still, root_ends, peer_ends}
+use Rattle.bridge_laws.proofs.FrameLaws.{Moved, still, root_ends, peer_ends}
+use Rattle.bridge_laws.specs.Grounded.{is_stack, is_running, is_live, began, AreApart, Thread, nothing, of_root, of_peer, Grounded}
 use Rattle.bridge_laws.proofs.RootStateLaws.{state_same, state_other, length_states, none_waits_after}
-use Rattle.bridge_laws.proofs.ThreadStackLaws.{AreApart, frames_put, frames_stay, apart_put}
+use Rattle.bridge_laws.proofs.ThreadStackLaws.{frames_put, frames_stay, apart_put}
 
 -- ---- names of threads
 
@@ -30,18 +31,6 @@ unfolding root_tid
 root_named g root other few most also is = decimal_injective root other (omega arith) (omega arith) (append_cancel_left (prefix g) (decimal root) (decimal other) is)
 
 -- ---- threads
-
-pub data Thread (g : Setting) (roots : List RootState) (tid : List ℕ) (fs : List Frame) : Type 0 where
-  nothing : fs ≡ [] → ((root : ℕ) → 1 ≤ root → root ≤ length g.plan.threads → tid ≡ root_tid g root → waits (state_of root roots) ≡ false) → Thread g roots tid fs
-  of_root : (root : ℕ) → 1 ≤ root → root ≤ length g.plan.threads → tid ≡ root_tid g root → waits (state_of root roots) ≡ true → is_live fs ≡ true → began fs ≡ Some root
-      → Thread g roots tid fs
-  of_peer : is_own g tid ≡ false → is_live fs ≡ true → began fs ≡ None → Thread g roots tid fs
-
--- the stacks of a side, and the states of its roots
-pub record Grounded (g : Setting) (roots : List RootState) (stacks : List Stack) : Type 0 where
-  pub counted : length roots ≡ length g.plan.threads
-  pub apart : AreApart stacks
-  pub each : (tid : List ℕ) → Thread g roots tid (frames_of tid stacks)
 
 pub thread_stack : (g : Setting) (roots : List RootState) (tid : List ℕ) (fs : List Frame) → Thread g roots tid fs → is_stack fs ≡ true
 unfolding is_stack

@@ -5,11 +5,7 @@ use Rattle.std.proofs.lemmas.Bool.{true≢false}
 use Rattle.std.proofs.lemmas.Slice.Eq.{bytes_eq-Decides}
 use Rattle.plan_model.specs.Frames.{Frame, Stack, frames_of}
 use Rattle.bridge_model.specs.Stacks.{stack_with, puts_frames}
-
--- no thread has two stacks
-unfoldable pub AreApart : List Stack → Type 0
-AreApart [] = Unit
-AreApart (s ∷ ss) = (frames_of s.tid ss ≡ []) × AreApart ss
+use Rattle.bridge_laws.specs.Grounded.{AreApart}
 
 -- ---- the frames of a thread
 

@@ -2,8 +2,11 @@ pub mod Counting
 pub mod Covering
 pub mod Cutting
 pub mod Ended
+pub mod Grounded
 pub mod Living
 pub mod OfPlan
 pub mod Resting
+pub mod Room
 pub mod Rooted
 pub mod Standing
+pub mod Working

@@ -11,7 +11,7 @@ use Rattle.bridge_model.specs.Sides.{Side, Incoming, Outgoing}
 use Rattle.bridge_model.specs.Answers.{cut}
 use Rattle.bridge_model.specs.Steps.{fed_count}
 use Rattle.bridge_model.specs.declared.cause.Cause.{Cause}
-use Rattle.bridge_room.specs.Room.{message_brings}
+use Rattle.bridge_laws.specs.Room.{message_brings}
 use Rattle.bridge_streams.specs.Taking.{TookNone, TookPart, TookWhole, with_cut}
 use Rattle.bridge_tables.specs.EndTables.{EndTables}
 use Rattle.plan_model.specs.Frames.{Stack}

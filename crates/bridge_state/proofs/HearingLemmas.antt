@@ -11,7 +11,8 @@ use Rattle.uno_model.specs.Values.{Plain}
 use Rattle.urp_model.specs.declared.fault.Fault.{Fault}
 use Rattle.urp_model.specs.declared.reason.Reason.{Reason}
 use Rattle.urp_model.specs.declared.reason.Reason.TheVariants.{LeftOver}
-use Rattle.bridge_laws.proofs.RootSideLaws.{HasRoots, receives_rooted}
+use Rattle.bridge_laws.proofs.RootSideLaws.{receives_rooted}
+use Rattle.bridge_laws.specs.Grounded.{HasRoots}
 use Rattle.bridge_laws.specs.Counting.{total}
 use Rattle.bridge_model.specs.Ends.{ends_by}
 use Rattle.bridge_model.specs.Feeding.{Hearing, Next, gets, breaks, hears_tested, hears_read, hears, heard_nothing, remembers}
@@ -23,7 +24,7 @@ use Rattle.bridge_model.specs.declared.cause.Cause.{Cause}
 use Rattle.bridge_model.specs.declared.cause.Cause.TheVariants as cause
 use Rattle.bridge_streams.specs.Taking.{hearing}
 use Rattle.bridge_tables.specs.EndTables.{EndTables}
-use Rattle.bridge_room.specs.Room.{message_brings}
+use Rattle.bridge_laws.specs.Room.{message_brings}
 use Rattle.bridge_state.specs.EndSides.{EndSide, IsEndOf, on_side, with_side}
 use Rattle.bridge_state.specs.Hearing.{HeardBreak, HeardMessage, broken_by, with_incoming}
 use Rattle.bridge_state.specs.Reading.{reads, break_of}

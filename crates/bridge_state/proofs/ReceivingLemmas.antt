@@ -8,9 +8,9 @@ use Rattle.plan_model.specs.Frames.{Body, Frame, Stack, base, body, outgoing, fr
 use Rattle.bridge_frames.specs.Answered.{gets_all, root_reached}
 use Rattle.bridge_frames.specs.Unwinding.{stacks_by}
 use Rattle.bridge_frames.proofs.StackLemmas.{puts_below, puts_popped}
-use Rattle.bridge_laws.proofs.FrameLaws.{is_stack, began, began_body, stack_below}
-use Rattle.bridge_laws.proofs.RootSideLaws.{HasRoots}
-use Rattle.bridge_laws.proofs.ThreadLaws.{Thread, nothing, of_root, of_peer, thread_stack}
+use Rattle.bridge_laws.proofs.FrameLaws.{began_body, stack_below}
+use Rattle.bridge_laws.specs.Grounded.{is_stack, began, Thread, nothing, of_root, of_peer, HasRoots}
+use Rattle.bridge_laws.proofs.ThreadLaws.{thread_stack}
 use Rattle.bridge_laws.specs.Rooted.{waits}
 use Rattle.bridge_model.specs.Calls.{serves, takes_call, first_body, counts_frame}
 use Rattle.bridge_model.specs.Receiving.{answer_to, answers_at_once, asked_kind, below_top}

@@ -13,7 +13,7 @@ use Rattle.bridge_model.specs.Settings.{Setting}
 use Rattle.bridge_model.specs.Sides.{RootState, Side, Incoming, waits_query}
 use Rattle.bridge_model.specs.Stacks.{with_unwound}
 use Rattle.bridge_model.specs.declared.cause.Cause.TheVariants as cause
-use Rattle.bridge_room.specs.Room.{message_brings}
+use Rattle.bridge_laws.specs.Room.{message_brings}
 use Rattle.bridge_state.specs.Reading.{reads, break_of}
 use Rattle.bridge_state.specs.declared.hearing.Break.{Break}
 use Rattle.bridge_state.specs.declared.hearing.Heard.{Heard}

@@ -2,13 +2,13 @@
 ghost use Rattle.std.specs.Prelude.{◌≡◌, ◌+◌, ◌-◌, ◌<◌, ◌≤◌, ◌^◌, ◌++◌, true, [], IfOk, OnOk, OnErr, length, map, option_map, option_to_list};
 ghost use Rattle.std.specs.Vec.{vec_capacity, vec_len};
 ghost use Rattle.bridge_frames.specs.Answered.{answered_root};
-ghost use Rattle.bridge_laws.proofs.RootSideLaws.{HasRoots};
+ghost use Rattle.bridge_laws.specs.Grounded.{HasRoots};
 ghost use Rattle.bridge_laws.specs.Counting.{total};
 ghost use Rattle.bridge_model.specs.Answers.{cut};
 ghost use Rattle.bridge_model.specs.Feeding.{feeds, hears, heard_nothing};
 ghost use Rattle.bridge_model.specs.Sides.{stands};
 ghost use Rattle.bridge_model.specs.Steps.{fed_count};
-ghost use Rattle.bridge_room.specs.Room.{message_brings};
+ghost use Rattle.bridge_laws.specs.Room.{message_brings};
 ghost use Rattle.bridge_setting.specs.Settings.{setting_of};
 ghost use Rattle.bridge_tables.specs.EndTables.{on_tables};
 ghost use Rattle.plan_types.specs.Plans.{plan_of};

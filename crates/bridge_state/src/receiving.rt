@@ -1,12 +1,12 @@
 //! What a message of the peer does.
 ghost use Rattle.std.specs.Prelude.{◌≡◌, ◌+◌, ◌<◌, ◌∷◌, ℕ, true, List, IfOk, IfSome, IfNone, OnOk, OnErr, Some, length, map, option_map};
 ghost use Rattle.std.specs.Vec.{vec_capacity, vec_len};
-ghost use Rattle.bridge_laws.proofs.RootSideLaws.{HasRoots};
+ghost use Rattle.bridge_laws.specs.Grounded.{HasRoots};
 ghost use Rattle.bridge_model.specs.Receiving as receiving;
 ghost use Rattle.bridge_model.specs.Receiving.{receives, answers_at_once, asked_kind, requested};
 ghost use Rattle.bridge_model.specs.References.{refs_of_answer};
 ghost use Rattle.bridge_model.specs.Sides.{idle, stands, state_of, waits_query};
-ghost use Rattle.bridge_room.specs.Room.{message_brings};
+ghost use Rattle.bridge_laws.specs.Room.{message_brings};
 ghost use Rattle.bridge_setting.specs.Settings.{setting_of};
 ghost use Rattle.bridge_tables.specs.EndTables.{IsOf, on_tables, quiet};
 ghost use Rattle.bridge_tables.specs.Roots.{root_of};

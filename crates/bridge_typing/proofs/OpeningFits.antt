@@ -6,7 +6,7 @@ use Rattle.uno_model.proofs.Options.{same_some}
 use Rattle.plan_model.specs.Plans.{first_objects}
 use Rattle.bridge_laws.specs.Counting.{total}
 use Rattle.bridge_laws.proofs.LivingEffectLaws.{defaults_of_fields}
-use Rattle.bridge_laws.proofs.ThreadStackLaws.{AreApart}
+use Rattle.bridge_laws.specs.Grounded.{AreApart}
 use Rattle.bridge_model.specs.Objects.{fields_of, defaults_of, makes_default, makes_all}
 use Rattle.bridge_model.specs.Settings.{Setting}
 use Rattle.bridge_model.specs.Sides.{Object, Tables}

@@ -15,7 +15,7 @@ use Rattle.uno_model.specs.Entities.{Entity}
 use Rattle.uno_model.specs.Sound.{IsSound}
 use Rattle.uno_model.proofs.Options.{same_some}
 use Rattle.plan_model.specs.Frames.{Frame, base, body, outgoing, Outgoing, Stack, frames_of, first_frame, outgoing_in}
-use Rattle.bridge_laws.proofs.ThreadStackLaws.{AreApart}
+use Rattle.bridge_laws.specs.Grounded.{AreApart}
 use Rattle.bridge_model.specs.Stacks.{wait_of, waits_of}
 
 -- ---- reading

@@ -5,7 +5,7 @@ use Rattle.message_model.specs.Arriving.{IsHeard}
 use Rattle.message_model.specs.Sayable.{IsThread}
 use Rattle.plan_model.specs.Frames.{Stack}
 use Rattle.plan_model.specs.Plans.{first_objects}
-use Rattle.bridge_laws.proofs.ThreadStackLaws.{AreApart}
+use Rattle.bridge_laws.specs.Grounded.{AreApart}
 use Rattle.bridge_model.specs.Settings.{Setting}
 use Rattle.bridge_model.specs.Sides.{Object, Tables, Incoming, Side}
 use Rattle.bridge_typing.proofs.FramesFit.{FramesFit}

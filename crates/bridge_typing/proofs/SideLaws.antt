@@ -8,7 +8,8 @@ use Rattle.message_model.specs.Messages.{Message}
 use Rattle.message_model.specs.Sayable.{IsThread}
 use Rattle.message_model.proofs.MessageArrivalLaws.{nothing_is_heard}
 use Rattle.plan_model.specs.Frames.{Frame, Stack, is_of, frames_of}
-use Rattle.bridge_laws.proofs.ThreadStackLaws.{AreApart, apart_put}
+use Rattle.bridge_laws.proofs.ThreadStackLaws.{apart_put}
+use Rattle.bridge_laws.specs.Grounded.{AreApart}
 use Rattle.bridge_model.specs.Calls.{Unwound}
 use Rattle.bridge_model.specs.Ends.{tables_at_end, ends_by, runs_out}
 use Rattle.bridge_model.specs.Going.{spells, spells_for, drains}

@@ -29,7 +29,7 @@ use Rattle.bridge_model.specs.Applying.{effect_at}
 use Rattle.bridge_model.specs.Feeding.{feeds}
 use Rattle.bridge_model.specs.Going.{drains}
 use Rattle.bridge_model.specs.Objects.{lowest}
-use Rattle.bridge_laws.proofs.ThreadStackLaws.{AreApart}
+use Rattle.bridge_laws.specs.Grounded.{AreApart}
 use Rattle.outcome_laws.proofs.MessageFates.{feeds_on}
 
 -- frames that are put on another thread

@@ -27,7 +27,8 @@ use Rattle.bridge_model.specs.Stacks.{puts_frames}
 use Rattle.bridge_model.specs.Steps.{Picked, picked, picked_in, has_entries, applies_effect, applies_picked, Turn, step, does, may}
 use Rattle.bridge_laws.proofs.Replays.{of_step}
 use Rattle.bridge_laws.proofs.StandingLaws.{no_more, same_standing}
-use Rattle.bridge_laws.proofs.ThreadStackLaws.{AreApart, frames_put, frames_stay}
+use Rattle.bridge_laws.proofs.ThreadStackLaws.{frames_put, frames_stay}
+use Rattle.bridge_laws.specs.Grounded.{AreApart}
 use Rattle.outcome_laws.specs.Hearings.{Leaves, Hears, rests, breaks, hears}
 use Rattle.outcome_laws.specs.Outcomes.{Fate, nothing, for_peer, handed_down, FramesBy}
 use Rattle.outcome_laws.proofs.ServingLaws.{piece_heard}

@@ -24,7 +24,7 @@ use Rattle.bridge_laws.proofs.PaidLaws.{AllPaid, opening_paid, opening_in_order,
 use Rattle.bridge_laws.proofs.RootedLaws.{along_replay_where}
 use Rattle.bridge_laws.proofs.StepLaws.{quiet_along}
 use Rattle.bridge_laws.proofs.TellingLaws.{all_allowed}
-use Rattle.bridge_laws.proofs.ThreadStackLaws.{AreApart}
+use Rattle.bridge_laws.specs.Grounded.{AreApart}
 
 -- ---- no thread has two stacks
 

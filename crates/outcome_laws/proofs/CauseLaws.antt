@@ -35,7 +35,7 @@ use Rattle.bridge_laws.proofs.Replays.{of_step}
 use Rattle.bridge_laws.proofs.RootStateLaws.{stay_makes_all}
 use Rattle.plan_model.specs.Plans.{first_objects}
 use Rattle.bridge_laws.proofs.StepLaws.{quiet_along}
-use Rattle.bridge_laws.proofs.ThreadStackLaws.{AreApart}
+use Rattle.bridge_laws.specs.Grounded.{AreApart}
 use Rattle.outcome_laws.proofs.HistoryLaws.{along_history, always_apart}
 use Rattle.outcome_laws.proofs.OutcomeLaws.{is_answer, IsOfEnd, does_ends, NoneNew, none_new, then_none, does_none}
 use Rattle.outcome_laws.specs.Ending.{Disposes, EndsWith, HasEnd, HasNoMemory, IsCause}

@@ -30,7 +30,7 @@ use Rattle.bridge_model.specs.declared.cause.Cause.{Cause}
 use Rattle.bridge_model.specs.declared.cause.Cause.TheVariants as cause
 use Rattle.bridge_laws.proofs.Replays.{of_step}
 use Rattle.bridge_laws.proofs.RootStateLaws.{state_same, state_other, stay_makes_object}
-use Rattle.bridge_laws.proofs.ThreadStackLaws.{AreApart}
+use Rattle.bridge_laws.specs.Grounded.{AreApart}
 use Rattle.outcome_laws.specs.Givings.{Gives, by_statement, by_message, before_asking, before_calling, before_querying, at_once, leaves_outcome, IsGiven}
 use Rattle.outcome_laws.specs.Hearings.{Hears, rests, breaks, hears}
 use Rattle.outcome_laws.specs.Outcomes.{Fate, nothing, for_root, for_method, for_peer, fate_of, fate_of_message, root_outcome, roots_by}

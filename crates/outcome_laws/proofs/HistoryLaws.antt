@@ -18,7 +18,8 @@ use Rattle.bridge_model.specs.Sides.{Object, Side}
 use Rattle.bridge_model.specs.Steps.{Picked, picked, applies_effect, applies_picked, reaps_some, Turn, step, does, opening}
 use Rattle.bridge_model.specs.declared.cause.Cause.{Cause}
 use Rattle.bridge_laws.proofs.Replays.{IsKept, along_replay}
-use Rattle.bridge_laws.proofs.ThreadStackLaws.{AreApart, apart_put}
+use Rattle.bridge_laws.proofs.ThreadStackLaws.{apart_put}
+use Rattle.bridge_laws.specs.Grounded.{AreApart}
 use Rattle.plan_model.specs.Frames.{Frame}
 use Rattle.bridge_model.specs.Stacks.{puts_frames}
 use Rattle.outcome_laws.proofs.MessageFates.{nothing_apart, feeds_on}

@@ -20,7 +20,8 @@ use Rattle.bridge_model.specs.References.{says, each_home, home_answer}
 use Rattle.bridge_model.specs.Settings.{Setting}
 use Rattle.bridge_model.specs.Sides.{Tables, Side, on_tables}
 use Rattle.bridge_model.specs.Stacks.{puts_frames, with_unwound, waits_of}
-use Rattle.bridge_laws.proofs.ThreadStackLaws.{AreApart, apart_put}
+use Rattle.bridge_laws.proofs.ThreadStackLaws.{apart_put}
+use Rattle.bridge_laws.specs.Grounded.{AreApart}
 use Rattle.outcome_laws.specs.Hearings.{IsOnTop, Leaves, IsReceived, Hears}
 use Rattle.outcome_laws.specs.Hearings as h
 use Rattle.outcome_laws.specs.Outcomes.{handed_down, fate_of_message, replies, replies_of_message, FramesBy}

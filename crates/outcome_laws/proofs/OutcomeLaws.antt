@@ -26,7 +26,7 @@ use Rattle.bridge_model.specs.Steps.{Picked, picked, picked_in, applies_effect, 
 use Rattle.bridge_model.specs.declared.cause.Cause.{Cause}
 use Rattle.bridge_model.specs.declared.cause.Cause.TheVariants as cause
 use Rattle.bridge_laws.proofs.RootStateLaws.{state_other, stay_loses, stay_loses_all, stay_lets_go, stay_lets_go_all, stay_makes_object}
-use Rattle.bridge_laws.proofs.ThreadStackLaws.{AreApart}
+use Rattle.bridge_laws.specs.Grounded.{AreApart}
 use Rattle.outcome_laws.specs.Hearings.{Hears, rests, breaks, hears}
 use Rattle.outcome_laws.specs.Outcomes.{Fate, nothing, for_root, for_method, for_peer, fate_of, fate_of_message, root_outcome, roots_by}
 use Rattle.outcome_laws.proofs.ApplyingFates.{applies_given, still_calls_own, still_calls_peer}

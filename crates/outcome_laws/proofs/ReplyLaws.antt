@@ -17,7 +17,7 @@ use Rattle.uno_model.specs.Kinds.{interface_of}
 use Rattle.message_model.specs.ReadingMessages.{new_or_last_at, opening_at, target_at, answer_at, release_at, arguments_at, call_at, asked_at, request_at, awaited, reply_at, opens_reply, message_at}
 use Rattle.plan_model.specs.Frames.{Frame, base, body, outgoing, Outgoing, Stack, frames_of, first_frame, outgoing_in}
 use Rattle.bridge_model.specs.Stacks.{wait_of, waits_of}
-use Rattle.bridge_laws.proofs.ThreadStackLaws.{AreApart}
+use Rattle.bridge_laws.specs.Grounded.{AreApart}
 use Rattle.outcome_laws.specs.Hearings.{IsOnTop}
 
 -- ---- reading

@@ -3,11 +3,9 @@ use Rattle.std.proofs.Common.{◌≡◌, refl, sym, subst, ℕ, ◌<◌, ◌^◌
 use Rattle.std.proofs.lemmas.Bool.{and_parts}
 use Rattle.plan_model.specs.Frames.{Body, Frame, base, body, outgoing, Stack, frames_of, first_frame}
 use Rattle.bridge_laws.specs.Rooted.{bottom}
-use Rattle.bridge_laws.proofs.FrameLaws.{is_caller, is_awaited, begins, may_stand_on, is_stack, is_running, began}
+use Rattle.bridge_laws.specs.Grounded.{is_caller, is_awaited, begins, may_stand_on, is_stack, is_running, began, AreApart, Thread, nothing, of_root, of_peer}
 use Rattle.bridge_laws.proofs.RootedLaws.{has_roots}
 use Rattle.bridge_laws.proofs.TellingLaws.{all_allowed}
-use Rattle.bridge_laws.proofs.ThreadLaws.{Thread, nothing, of_root, of_peer}
-use Rattle.bridge_laws.proofs.ThreadStackLaws.{AreApart}
 use Rattle.bridge_model.specs.Histories.{Told, Leads}
 use Rattle.bridge_model.specs.Entries.{Entry}
 use Rattle.bridge_model.specs.Settings.{Setting}

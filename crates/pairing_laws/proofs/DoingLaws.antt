@@ -23,7 +23,7 @@ use Rattle.bridge_model.specs.Sides as side
 use Rattle.bridge_model.specs.Sides.{Object, stands}
 use Rattle.bridge_model.specs.Steps.{most_fed, fed_count, has_entries, has_fed, but_last, is_some_bytes, picked_in, picked, is_picked, is_numbered, is_no_memory, turn, step, may, does}
 use Rattle.bridge_laws.proofs.StepLaws.{quiet_along}
-use Rattle.bridge_laws.proofs.ThreadStackLaws.{AreApart}
+use Rattle.bridge_laws.specs.Grounded.{AreApart}
 use Rattle.pairing_model.specs.Moves.{Deed, applies, steps, reaps, drains, carries, closes, one_if, applying, does_move, stepping, reaping, may_carry, may_close, deeds, Done, with_entry, step_done, steps_at, carried, done}
 use Rattle.world_model.specs.Worlds.{End, moved, moved_by, pipe, may_come, acts}
 use Rattle.world_laws.proofs.SyncedLaws.{step_is}

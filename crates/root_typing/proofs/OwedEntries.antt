@@ -18,14 +18,12 @@ use Rattle.plan_model.specs.declared.runtime_cause.RuntimeCause.{RuntimeCause}
 use Rattle.plan_typing.proofs.FrameTakes.{reference_fits}
 use Rattle.bridge_laws.specs.OfPlan.{IsRoot}
 use Rattle.bridge_laws.specs.Rooted.{waits}
-use Rattle.bridge_laws.proofs.FrameLaws.{is_stack, began}
+use Rattle.bridge_laws.specs.Grounded.{is_stack, began, AreApart, Thread, nothing, of_root, of_peer, HasRoots}
 use Rattle.bridge_laws.proofs.Replays.{of_step}
 use Rattle.bridge_laws.proofs.RootedLaws.{has_roots}
-use Rattle.bridge_laws.proofs.RootSideLaws.{HasRoots}
 use Rattle.bridge_laws.proofs.RootStateLaws.{stay_makes_object}
 use Rattle.bridge_laws.proofs.TellingLaws.{all_allowed}
-use Rattle.bridge_laws.proofs.ThreadLaws.{Thread, nothing, of_root, of_peer, root_own, root_named, thread_stack}
-use Rattle.bridge_laws.proofs.ThreadStackLaws.{AreApart}
+use Rattle.bridge_laws.proofs.ThreadLaws.{root_own, root_named, thread_stack}
 use Rattle.bridge_model.specs.Applying.{applies, effect_at}
 use Rattle.bridge_model.specs.Calls.{query_args, calls_own, calls_peer}
 use Rattle.bridge_model.specs.Entries.{Entry, fed, ended, failed, asked, called, queried, made, dropped, applied, took, reaped, drained, disposed, full, no_memory, counts}

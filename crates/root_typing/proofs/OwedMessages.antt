@@ -14,9 +14,10 @@ use Rattle.urp_model.specs.declared.fault.Fault.{Fault}
 use Rattle.urp_model.specs.declared.reason.Reason.{Reason}
 use Rattle.urp_model.specs.declared.reason.Reason.TheVariants.{LeftOver}
 use Rattle.plan_model.specs.Frames.{Frame, base, body, outgoing, Outgoing, frames_of}
-use Rattle.bridge_laws.proofs.FrameLaws.{is_stack, began, began_outgoing, stack_below}
+use Rattle.bridge_laws.proofs.FrameLaws.{began_outgoing, stack_below}
+use Rattle.bridge_laws.specs.Grounded.{is_stack, began, HasRoots}
 use Rattle.bridge_laws.proofs.HomeLaws.{unless_passed}
-use Rattle.bridge_laws.proofs.RootSideLaws.{HasRoots, ends_rooted, receives_rooted, same_refusal}
+use Rattle.bridge_laws.proofs.RootSideLaws.{ends_rooted, receives_rooted, same_refusal}
 use Rattle.bridge_laws.proofs.ThreadLaws.{thread_stack}
 use Rattle.bridge_model.specs.Calls.{serves}
 use Rattle.bridge_model.specs.Ends.{ends_by}

@@ -20,10 +20,10 @@ use Rattle.plan_typing.proofs.FrameTakes.{reference_fits}
 use Rattle.message_model.specs.Calls.{numbered}
 use Rattle.message_model.specs.Sayable.{AnswerFits, IsCalled}
 use Rattle.bridge_laws.specs.Rooted.{waits}
-use Rattle.bridge_laws.proofs.FrameLaws.{is_stack, began, began_body, stack_below, begins}
+use Rattle.bridge_laws.proofs.FrameLaws.{began_body, stack_below}
+use Rattle.bridge_laws.specs.Grounded.{begins, is_stack, began, AreApart, Thread, nothing, of_root, of_peer}
 use Rattle.bridge_laws.proofs.RootStateLaws.{state_same, state_other}
-use Rattle.bridge_laws.proofs.ThreadLaws.{Thread, nothing, of_root, of_peer}
-use Rattle.bridge_laws.proofs.ThreadStackLaws.{AreApart, frames_put, frames_stay}
+use Rattle.bridge_laws.proofs.ThreadStackLaws.{frames_put, frames_stay}
 use Rattle.bridge_model.specs.Ends.{state_at_end, ends_by, runs_out, outcome_at_end}
 use Rattle.bridge_model.specs.Settings.{Setting, root_tid}
 use Rattle.bridge_model.specs.Sides.{answer, disposed, no_memory, RootState, idle, waits_call, waits_query, answered, Side, state_of, states_with}

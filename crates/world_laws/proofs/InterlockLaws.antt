@@ -15,7 +15,7 @@ use Rattle.bridge_laws.proofs.RootedLaws.{has_roots, is_rooted}
 use Rattle.bridge_laws.proofs.StandingLaws.{stood, same_standing}
 use Rattle.bridge_laws.proofs.TellingLaws.{all_allowed}
 use Rattle.bridge_laws.proofs.ThreadLaws.{root_own}
-use Rattle.bridge_laws.proofs.ThreadStackLaws.{AreApart}
+use Rattle.bridge_laws.specs.Grounded.{AreApart}
 use Rattle.world_model.specs.Flights.{flight, Follows, IsNext}
 use Rattle.world_model.specs.Meetings.{Moves, Meets, begins, a_moves, b_moves}
 use Rattle.world_model.specs.Threads.{Thread, runs, asked, signals, View, turned, seen, Locks, Ours, view, Interlock}

@@ -1,5 +1,5 @@
 use Rattle.bridge_spelling.proofs.GivenLaws.{registry_small}
-use Rattle.registry_naming.proofs.Naming.{rules_tell_names}
+use Rattle.bridge_spelling.proofs.Naming.{rules_tell_names}
 use Rattle.registry_text_model.proofs.SoundLaws.{rules_make_sound}
 use Rattle.world_histories.proofs.ready_laws.ends_whose_texts_keep_the_rules_are_ready.Goals as goal
 

@@ -1,7 +1,7 @@
 use Rattle.std.proofs.Common.{refl, sym, subst, ◌∙◌, ◌+◌, ◌≤◌, length, arith}
 use Rattle.bridge_laws.specs.Counting.{total}
 use Rattle.bridge_model.specs.Feeding.{hears, heard_nothing}
-use Rattle.bridge_room.specs.Room.{message_brings}
+use Rattle.bridge_laws.specs.Room.{message_brings}
 use Rattle.bridge_setting.specs.Settings.{setting_of}
 use Rattle.urp_model.specs.declared.reason.Reason.TheVariants.{LeftOver}
 use Rattle.bridge_state.proofs.HearingLemmas.{HeardSoFar, becomes, broken_before, broken_off, end_stays, heard_break, heard_more, heard_none, heard_over, heard_rooted, heard_whole, names_more}

@@ -1,5 +1,5 @@
 use Rattle.std.specs.Prelude.{◌≡◌, true, ◌+◌}
-use Rattle.bridge_laws.proofs.RootSideLaws.{HasRoots}
+use Rattle.bridge_laws.specs.Grounded.{HasRoots}
 use Rattle.bridge_model.specs.Sides.{stands}
 use Rattle.bridge_setting.specs.Settings.{setting_of}
 use Rattle.bridge_state.proofs.HearingLemmas.{HeardSoFar}

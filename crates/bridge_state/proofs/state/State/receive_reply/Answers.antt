@@ -1,6 +1,6 @@
 use Rattle.std.proofs.Common.{ap, sym, subst, ◌∙◌, ◌++◌, map, option_map, option_to_list}
 use Rattle.bridge_frames.specs.Answered.{answered_root}
-use Rattle.bridge_laws.proofs.RootSideLaws.{HasRoots}
+use Rattle.bridge_laws.specs.Grounded.{HasRoots}
 use Rattle.bridge_model.specs.Handing.{hands_from_peer}
 use Rattle.bridge_model.specs.Receiving.{below_top}
 use Rattle.bridge_model.specs.Sides.{on_tables}

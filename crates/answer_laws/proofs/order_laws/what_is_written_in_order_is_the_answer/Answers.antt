@@ -1,8 +1,0 @@
-use Rattle.answer_laws.proofs.OrderLaws.{order_is_done, done_is_answered}
-use Rattle.answer_laws.proofs.order_laws.what_is_written_in_order_is_the_answer.Goals as goal
-
-pub returns-clause-done : goal.returns-clause-done
-returns-clause-done c = order_is_done
-
-pub returns-clause-answered : goal.returns-clause-answered
-returns-clause-answered c = done_is_answered

@@ -1,5 +1,0 @@
-use Rattle.bridge_room.proofs.StepRoom.{free_needed}
-use Rattle.bridge_room.proofs.room_laws.a_free_entry_has_its_room.Goals as goal
-
-pub returns : goal.returns
-returns c = free_needed

@@ -1,5 +1,0 @@
-use Rattle.registry_naming.proofs.Naming.{rules_tell_names}
-use Rattle.registry_naming.proofs.naming_laws.a_registry_that_keeps_the_rules_tells_names_apart.Goals as goal
-
-pub returns : goal.returns
-returns c = rules_tell_names
