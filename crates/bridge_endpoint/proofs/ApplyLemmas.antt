@@ -10,7 +10,7 @@ use Rattle.bridge_model.specs.Entries.{applied}
 use Rattle.bridge_model.specs.Settings.{Setting}
 use Rattle.bridge_model.specs.Sides.{Side, stands}
 use Rattle.bridge_model.specs.Steps.{Picked, applies_effect, applies_picked, does, has_entries, is_picked, may, picked}
-use Rattle.bridge_room.specs.Room.{brought, effect_brings, statement_brings}
+use Rattle.bridge_laws.specs.Room.{brought, effect_brings, statement_brings}
 
 -- a job that is picked is that of a method at the top of its thread
 pub record IsPicked (g : Setting) (tid : List ℕ) (s : Side) (j : Job) : Type 0 where

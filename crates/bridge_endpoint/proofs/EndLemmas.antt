@@ -12,7 +12,7 @@ use Rattle.bridge_model.specs.declared.cause.Cause.{Cause}
 use Rattle.bridge_model.specs.declared.cause.Cause.TheVariants as cause
 use Rattle.bridge_model.specs.declared.input_end.InputEnd.{InputEnd}
 use Rattle.bridge_model.specs.declared.input_end.InputEnd.TheVariants as how
-use Rattle.bridge_room.specs.Room.{is_free}
+use Rattle.bridge_laws.specs.Room.{is_free}
 use Rattle.bridge_state.specs.EndSides.{EndSide, on_side, with_side}
 use Rattle.bridge_typing.specs.Giving.{MayGive}
 use Rattle.bridge_endpoint.specs.Kept.{IsKept}

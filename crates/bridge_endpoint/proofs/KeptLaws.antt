@@ -5,7 +5,7 @@ use Rattle.std.specs.Option.{unwrap_or}
 use Rattle.std.proofs.lemmas.List.{length-append}
 use Rattle.bridge_journal.specs.Logs.{Log, entered}
 use Rattle.bridge_laws.proofs.CountedLaws.{does_counts}
-use Rattle.bridge_laws.proofs.RootSideLaws.{HasRoots}
+use Rattle.bridge_laws.specs.Grounded.{HasRoots}
 use Rattle.bridge_laws.proofs.RootedLaws.{has_roots, is_rooted}
 use Rattle.bridge_laws.proofs.StepLaws.{quiet_along}
 use Rattle.bridge_laws.proofs.TellingLaws.{all_allowed}
@@ -19,8 +19,8 @@ use Rattle.bridge_model.specs.Settings.{Setting, root_tid}
 use Rattle.bridge_model.specs.Sides.{Side, state_of}
 use Rattle.bridge_model.specs.Steps.{counted, may, does, turn, step}
 use Rattle.plan_model.specs.Frames.{frames_of}
-use Rattle.bridge_room.specs.Room.{brought, is_free, needed}
-use Rattle.bridge_room.proofs.StepRoom.{counted_needed, entry_needed, free_needed}
+use Rattle.bridge_laws.specs.Room.{brought, is_free, needed}
+use Rattle.bridge_laws.proofs.StepRoom.{counted_needed, entry_needed, free_needed}
 use Rattle.bridge_state.specs.EndSides.{EndSide, IsEndOf, with_side}
 use Rattle.bridge_typing.proofs.Given.{IsGiven}
 use Rattle.bridge_typing.proofs.GivenLaws.{is_given, unsaid_sayable}

@@ -8,7 +8,7 @@ use Rattle.bridge_model.specs.Roots.{holds_pair}
 use Rattle.bridge_model.specs.Settings.{Setting}
 use Rattle.bridge_model.specs.Sides.{Side, stands}
 use Rattle.bridge_model.specs.Steps.{counted, does, has_entries, is_root, may, may_begin, may_give}
-use Rattle.bridge_room.specs.Room.{brought, is_free}
+use Rattle.bridge_laws.specs.Room.{brought, is_free}
 use Rattle.bridge_state.specs.EndSides.{EndSide, on_side}
 use Rattle.bridge_typing.specs.Giving.{MayGive}
 use Rattle.bridge_endpoint.specs.Kept.{IsKept}

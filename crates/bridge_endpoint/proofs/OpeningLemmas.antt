@@ -13,8 +13,8 @@ use Rattle.bridge_model.specs.References.{gains, gains_all, refs_of_values}
 use Rattle.bridge_model.specs.Settings.{Setting}
 use Rattle.bridge_model.specs.Sides.{Tables}
 use Rattle.bridge_model.specs.Steps.{no_objects, opening}
-use Rattle.bridge_room.proofs.StepRoom.{opening_needed}
-use Rattle.bridge_room.specs.Room.{needed}
+use Rattle.bridge_laws.proofs.StepRoom.{opening_needed}
+use Rattle.bridge_laws.specs.Room.{needed}
 use Rattle.bridge_state.specs.EndSides.{opening_end}
 use Rattle.bridge_endpoint.specs.Kept.{IsKept}
 use Rattle.bridge_endpoint.specs.Entering.{IsWithin, with_room}

@@ -3,7 +3,7 @@ use Rattle.std.specs.Prelude.{◌≡◌, ℕ, ◌≤◌, length}
 use Rattle.bridge_journal.specs.Logs.{Log}
 use Rattle.bridge_model.specs.Histories.{Told, Leads}
 use Rattle.bridge_model.specs.Settings.{Setting}
-use Rattle.bridge_room.specs.Room.{needed}
+use Rattle.bridge_laws.specs.Room.{needed}
 use Rattle.bridge_state.specs.EndSides.{EndSide, IsEndOf}
 use Rattle.bridge_typing.specs.Giving.{RootsGive}
 use Rattle.uno_entities.specs.Tag.{IsTag}

@@ -7,7 +7,7 @@ ghost use Rattle.bridge_state.specs.Undoing.{remains};
 ghost use Rattle.bridge_model.specs.Entries as plain;
 ghost use Rattle.bridge_model.specs.Sides.{stands};
 ghost use Rattle.bridge_model.specs.Steps.{counted, does, is_no_memory};
-ghost use Rattle.bridge_room.specs.Room.{brought, effect_brings};
+ghost use Rattle.bridge_laws.specs.Room.{brought, effect_brings};
 ghost use Rattle.bridge_setting.specs.Settings.{setting_of};
 ghost use Rattle.plan_model.specs.Effects as effects;
 ghost use Rattle.plan_model.specs.Frames.{Body, body};

@@ -1,14 +1,14 @@
 //! Bytes that come in.
 ghost use Rattle.std.specs.Prelude.{◌≡◌, ◌≢◌, ◌+◌, ◌<◌, ◌≤◌, ◌^◌, true, ℕ, List, IfOk, OnErr, OnOk, length, take};
 ghost use Rattle.bridge_journal.specs.Logs.{entered, entry_of};
-ghost use Rattle.bridge_laws.proofs.RootSideLaws.{HasRoots};
+ghost use Rattle.bridge_laws.specs.Grounded.{HasRoots};
 ghost use Rattle.bridge_model.specs.Answers.{after_feeding, cut, feed_answer, feed_is_full, next_cut, no_room};
 ghost use Rattle.bridge_state.specs.Undoing.{remains};
 ghost use Rattle.bridge_model.specs.Entries as plain;
 ghost use Rattle.bridge_model.specs.Feeding.{feeds};
 ghost use Rattle.bridge_model.specs.Sides.{stands};
 ghost use Rattle.bridge_model.specs.Steps.{does, fed_count};
-ghost use Rattle.bridge_room.specs.Room.{brought};
+ghost use Rattle.bridge_laws.specs.Room.{brought};
 ghost use Rattle.bridge_setting.specs.Settings.{setting_of};
 ghost use Rattle.plan_types.specs.Plans.{plan_of};
 ghost use Rattle.uno_model.specs.Sound.{IsSound};

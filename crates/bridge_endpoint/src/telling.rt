@@ -1,5 +1,5 @@
 //! What an endpoint tells: functions of the side to which its journal leads.
-ghost use Rattle.std.specs.Prelude.{◌≡◌, ◌≤◌, suc, IfOk, IfSome, length, map, option_map};
+ghost use Rattle.std.specs.Prelude.{◌≡◌, ◌≤◌, ◌<◌, ◌^◌, suc, IfOk, IfSome, length, map, option_map};
 ghost use Rattle.bridge_journal.specs.Logs.{entry_of};
 ghost use Rattle.bridge_model.specs.Answers as answers;
 ghost use Rattle.bridge_model.specs.Histories.{Leads};
@@ -54,6 +54,7 @@ impl Endpoint {
     /// The entries, oldest first. They are a history of the definition, and the setting is as its laws ask for, so that all of them hold of it.
     pub fn journal(&self) -> &[Entry]
         ensures entries { map entry_of result.now ≡ self.now.entries }
+        ensures small { length self.now.entries < 2 ^ 63 }
         ensures leads { Leads (setting_at self.now) self.now.entries (told_at self.now) }
         ensures gives { RootsGive (setting_at self.now) self.now.entries }
         ensures set_up { IsSetUp (setting_at self.now) }
@@ -65,7 +66,8 @@ impl Endpoint {
 
     /// The mark of each entry.
     pub fn stamps(&self) -> &[u64]
-        ensures { result.now ≡ self.now.stamps }
+        ensures stamps { result.now ≡ self.now.stamps }
+        ensures each { length self.now.stamps ≡ length self.now.entries }
     {
         self.journal.stamps()
     }

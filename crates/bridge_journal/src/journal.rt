@@ -20,7 +20,7 @@ pub struct Journal {
 
 impl Model for Journal {
     ghost use Rattle.std.specs.Coded.{codes};
-    ghost use Rattle.std.specs.Prelude.{◌+◌, ◌≤◌, map};
+    ghost use Rattle.std.specs.Prelude.{◌≡◌, ◌+◌, ◌≤◌, map};
     ghost use Rattle.std.specs.Vec.{vec_capacity, vec_len};
     ghost use Rattle.bridge_journal.specs.Logs.{Log, entry_of};
     ghost use Rattle.call_stacks.specs.ValueCodes.{value_code};
@@ -32,7 +32,7 @@ impl Model for Journal {
 
     ghost view = { λ j. record { entries = map entry_of j.entries.items; stamps = j.stamps.items; stamp = j.stamp; room = j.room } };
 
-    ghost invariant = { λ j. (vec_len j.entries + j.room ≤ vec_capacity j.entries) × (vec_len j.stamps + j.room ≤ vec_capacity j.stamps) };
+    ghost invariant = { λ j. (vec_len j.entries + j.room ≤ vec_capacity j.entries) × (vec_len j.stamps + j.room ≤ vec_capacity j.stamps) × (vec_len j.stamps ≡ vec_len j.entries) };
 }
 
 impl Journal {
@@ -85,16 +85,18 @@ impl Journal {
         self.stamp = next;
     }
 
-    /// The entries, oldest first.
+    /// The entries, oldest first. A block of memory has room for no more.
     pub fn entries(&self) -> &[Entry]
-        ensures { map entry_of result.now ≡ self.now.entries }
+        ensures entries { map entry_of result.now ≡ self.now.entries }
+        ensures small { length self.now.entries < 2 ^ 63 }
     {
         &self.entries
     }
 
     /// The mark of each entry.
     pub fn stamps(&self) -> &[u64]
-        ensures { result.now ≡ self.now.stamps }
+        ensures stamps { result.now ≡ self.now.stamps }
+        ensures each { length self.now.stamps ≡ length self.now.entries }
     {
         &self.stamps
     }

@@ -2,7 +2,7 @@ use Rattle.std.proofs.Common.{◌≡◌, ◌+◌, refl, sym, ap, ◌∙◌, arit
 use Rattle.behaviour.specs.Effects.{effect_of}
 use Rattle.bridge_model.specs.Entries.{applied}
 use Rattle.bridge_model.specs.Steps.{does}
-use Rattle.bridge_room.specs.Room.{brought}
+use Rattle.bridge_laws.specs.Room.{brought}
 use Rattle.bridge_setting.specs.Settings.{setting_of}
 use Rattle.bridge_state.specs.EndSides.{on_side, with_side}
 use Rattle.plan_types.specs.Frames.{job_of}

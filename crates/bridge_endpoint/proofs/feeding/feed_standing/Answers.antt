@@ -3,7 +3,7 @@ use Rattle.bridge_journal.specs.Logs.{entry_of}
 use Rattle.bridge_model.specs.Answers.{cut}
 use Rattle.bridge_model.specs.Entries.{fed}
 use Rattle.bridge_model.specs.Steps.{does}
-use Rattle.bridge_room.specs.Room.{brought}
+use Rattle.bridge_laws.specs.Room.{brought}
 use Rattle.bridge_endpoint.proofs.FeedLemmas.{cut_front, cut_short}
 use Rattle.bridge_endpoint.proofs.JournalLemmas.{entered_with}
 use Rattle.bridge_endpoint.proofs.feeding.feed_standing.Goals as goal

@@ -4,7 +4,7 @@ use Rattle.bridge_model.specs.Entries.{applied, full}
 use Rattle.bridge_model.specs.Sides.{stands}
 use Rattle.bridge_model.specs.Steps.{has_entries}
 use Rattle.bridge_model.specs.declared.cause.Cause.TheVariants as cause
-use Rattle.bridge_room.specs.Room.{brought}
+use Rattle.bridge_laws.specs.Room.{brought}
 use Rattle.bridge_setting.specs.Settings.{setting_of}
 use Rattle.plan_types.specs.Frames.{job_of}
 use Rattle.bridge_endpoint.proofs.ApplyLemmas.{picked_may, picked_stands}

@@ -6,7 +6,7 @@ use Rattle.bridge_model.specs.Roots.{holds_pair}
 use Rattle.bridge_model.specs.Sides.{stands}
 use Rattle.bridge_model.specs.Steps.{has_entries, may, may_begin, may_give}
 use Rattle.uno_values.specs.Values.{plain_of}
-use Rattle.bridge_room.specs.Room.{brought}
+use Rattle.bridge_laws.specs.Room.{brought}
 use Rattle.bridge_setting.specs.Settings.{setting_of}
 use Rattle.bridge_typing.specs.Giving.{MayGive}
 use Rattle.bridge_endpoint.specs.Answering.{begun_told}

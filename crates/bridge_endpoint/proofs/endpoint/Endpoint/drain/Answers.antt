@@ -2,7 +2,7 @@ use Rattle.std.proofs.Common.{◌≡◌, sym, ap, subst, ◌∙◌, true, false,
 use Rattle.bridge_model.specs.Answers.{bytes_wait, drained_next}
 use Rattle.bridge_model.specs.Entries.{drained}
 use Rattle.bridge_model.specs.Steps.{is_no_memory, is_some_bytes, may}
-use Rattle.bridge_room.specs.Room.{brought}
+use Rattle.bridge_laws.specs.Room.{brought}
 use Rattle.bridge_setting.specs.Settings.{setting_of}
 use Rattle.bridge_endpoint.specs.Journals.{setting_at, side_at}
 use Rattle.bridge_endpoint.proofs.DrainLemmas.{draining_some, may_drain, next_bytes, none_waiting, none_wanted, some_drained}

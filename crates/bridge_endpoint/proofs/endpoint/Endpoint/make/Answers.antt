@@ -3,7 +3,7 @@ use Rattle.bridge_model.specs.Entries.{made}
 use Rattle.bridge_model.specs.Settings.{own_oid}
 use Rattle.bridge_model.specs.Sides.{stands}
 use Rattle.bridge_model.specs.Steps.{has_entries, is_root, may}
-use Rattle.bridge_room.specs.Room.{brought}
+use Rattle.bridge_laws.specs.Room.{brought}
 use Rattle.bridge_setting.specs.Settings.{setting_of}
 use Rattle.bridge_typing.specs.Giving.{MayGive}
 use Rattle.bridge_endpoint.specs.Answering.{made_told}
