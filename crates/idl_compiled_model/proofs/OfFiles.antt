@@ -1,17 +1,19 @@
 -- Trees that were read of the texts of files: their places are apart, since those of tokens rise in each file and files have numbers; and their words are words.
-use Rattle.std.proofs.Common.{◌≡◌, ℕ, suc, ◌+◌, ◌≤◌, ◌<◌, ◌==◌, ◌^◌, Bool, true, false, not, ◌&&◌, ◌||◌, nat_lt, List, [], ◌∷◌, length, map, take, drop, codes, Option, None, Some, refl, sym, ap, subst, arith, if◌then◌else◌}
+use Rattle.std.proofs.Common.{◌≡◌, ℕ, suc, ◌+◌, ◌≤◌, ◌<◌, ◌==◌, ◌^◌, Bool, true, false, not, ◌&&◌, ◌||◌, nat_lt, List, [], ◌∷◌, length, map, take, drop, codes, Option, None, Some, Result, Ok, refl, sym, ap, subst, arith, if◌then◌else◌}
 use Rattle.std.proofs.lemmas.Bool.{both_ways, and_from, eqb-true, lt-ltb, le-ltb, ltb-false, not_from_false}
 use Rattle.std.specs.List.{AllByRecursion, list_any}
 use Rattle.std.specs.Option.{option_map}
 use Rattle.std.specs.Str.{bytes_eq}
 use Rattle.std.specs.Str.Parse.{digits_value}
 use Rattle.idl_text_model.proofs.TokenLaws.{tokens_stand, tokens_are_slices}
+use Rattle.idl_text_model.specs.LexVerdicts.{IsLexed}
 use Rattle.idl_text_model.specs.Numbers.{are_digits, number_in, number_of_word}
 use Rattle.idl_text_model.specs.Pieces.{is_mark}
 use Rattle.idl_text_model.specs.Slices.{StandBetween, slice_of, IsSlice}
 use Rattle.idl_text_model.specs.Tokens.{Word, Token, word_named, word_of_text, IsTokens}
 use Rattle.idl_text_model.specs.Tokens as token
 use Rattle.literal_model.specs.Shapes.{is_word}
+use Rattle.idl_model.specs.ParseVerdicts.{IsParsed}
 use Rattle.idl_model.specs.Places.{Place, is_at}
 use Rattle.idl_model.specs.PlacedTokens.{PlacedToken, in_file}
 use Rattle.idl_model.specs.Trees.{Tree}
@@ -203,3 +205,8 @@ module _ (file : ℕ) (texts : List (List ℕ)) (trees : List Tree) (read : AreR
 
   pub are_of_files : AreOfFiles trees
   are_of_files = record { identifiers = all_have_identifiers trees nothing_wrong; used = all_uses_spelled trees nothing_wrong; apart = places_apart }
+
+-- the tree of a text that is the only file
+pub alone_of_files : (text : List ℕ) (plain : List Token) (placed : List PlacedToken) (tree : Tree) → IsLexed text (Ok plain) → placed ≡ in_file 0 plain → IsParsed placed (Ok tree) → AreOfFiles (tree ∷ [])
+alone_of_files text plain placed tree lexed is parsed =
+    are_of_files 0 (text ∷ []) (tree ∷ []) (record { tokens = plain; lexed = lexed; parsed = subst (λ ts. IsParsed ts (Ok tree)) is parsed }, tt)

@@ -1,7 +1,11 @@
 //! Laws of files that are compiled together: each function has an empty body, and its clause is the law.
 ghost use Rattle.std.specs.List.{list_all};
-ghost use Rattle.std.specs.Prelude.{◌≡◌, ℕ, List, map, IsTrue, Result};
+ghost use Rattle.std.specs.Prelude.{◌≡◌, ℕ, List, [], ◌∷◌, map, IsTrue, Ok, Result};
 ghost use Rattle.uno_model.specs.Entities.{Entity};
+ghost use Rattle.idl_text_model.specs.LexVerdicts.{IsLexed};
+ghost use Rattle.idl_text_model.specs.Tokens.{Token};
+ghost use Rattle.idl_model.specs.ParseVerdicts.{IsParsed};
+ghost use Rattle.idl_model.specs.PlacedTokens.{PlacedToken, in_file};
 ghost use Rattle.idl_model.specs.Trees.{Tree};
 ghost use Rattle.idl_meaning_model.specs.Declarations.{declarations, all_valued};
 ghost use Rattle.idl_meaning_model.specs.FromFiles.{are_apart, AreOfFiles};
@@ -29,4 +33,10 @@ pub fn read_trees_are_of_files()
         → IsTrue (list_all (λ v. origin_fits v.origin) (all_valued (declarations trees))) }
     ensures members { (file : ℕ) (texts : List (List ℕ)) (trees : List Tree) → AreRead file texts trees
         → IsTrue (list_all (λ d. members_have_names d.body) (declarations trees)) }
+{}
+
+/// So is the tree of one text, which is the only file.
+pub fn a_read_tree_alone_is_of_files()
+    ensures { (text : List ℕ) (plain : List Token) (placed : List PlacedToken) (tree : Tree) → IsLexed text (Ok plain) → placed ≡ in_file 0 plain → IsParsed placed (Ok tree)
+        → AreOfFiles (tree ∷ []) }
 {}

@@ -2,5 +2,6 @@ mod FieldLemmas
 mod FlagLemmas
 mod NumberLemmas
 mod RootLemmas
+pub mod SameLaws
 mod ServiceLemmas
 mod Steps

@@ -1,10 +1,9 @@
 -- What is wrong with one declaration after the other.
-use Rattle.std.proofs.Common.{◌≡◌, refl, sym, ap, subst, ◌∙◌, ℕ, ◌+◌, ◌<◌, ◌≤◌, Bool, true, false, not, ◌&&◌, List, [], ◌∷◌, ◌++◌, map, length, take, get_or, Option, None, Some, append_assoc, append-nil, if◌then◌else◌, option_map, arith}
+use Rattle.std.proofs.Common.{◌≡◌, refl, sym, ap, subst, ◌∙◌, ℕ, ◌+◌, ◌<◌, Bool, true, false, not, ◌&&◌, List, [], ◌∷◌, ◌++◌, map, length, take, get_or, Option, None, Some, append_assoc, append-nil, if◌then◌else◌, arith}
 use Rattle.std.specs.List.{AllByRecursion, filter, flat_map, list_all}
-use Rattle.std.proofs.lemmas.Bool.{and_parts, and_from, both_ways, not-true}
+use Rattle.std.proofs.lemmas.Bool.{and_parts, and_from}
 use Rattle.std.proofs.lemmas.Bool.Decides.{nat_tests}
-use Rattle.std.proofs.lemmas.List.{map-append, take_all}
-use Rattle.std.proofs.lemmas.List.Folds.{list_all-append}
+use Rattle.std.proofs.lemmas.List.{map-append}
 use Rattle.uno_model.specs.Names.{is_identifier}
 use Rattle.idl_meaning_model.specs.Declarations as model
 use Rattle.idl_meaning_model.specs.Declarations.{full_name, is_forward}
@@ -18,12 +17,12 @@ use Rattle.idl_names.specs.Faults.{AddsFaults, all_faults_of, fault_of}
 use Rattle.idl_names.specs.Opened.{own_path}
 use Rattle.idl_names.specs.Paths.{Parts}
 use Rattle.idl_names.specs.Standing.{Answers}
-use Rattle.idl_names.specs.Tables.{least_of, lesser, place_at}
+use Rattle.idl_names.specs.Tables.{least_of, place_at}
 use Rattle.idl_names.specs.declared.declaration.Declared.{Declared}
 use Rattle.idl_names.specs.declared.fault.Fault.{Fault}
 use Rattle.idl_names.proofs.LookupLemmas.{identifiers_behind}
 use Rattle.idl_names.proofs.MarkLemmas.{at_index}
-use Rattle.idl_names.proofs.UsedLemmas.{one_taken, last_joined}
+use Rattle.idl_names.proofs.UsedLemmas.{one_taken}
 use Rattle.idl_trees.specs.Names.{place_of}
 use Rattle.idl_trees.specs.declared.place.Place as code
 

@@ -4,16 +4,16 @@ mod DefLaws
 mod FaultLemmas
 mod FloatLemmas
 mod KeyLaws
-mod LookupLemmas
+pub mod LookupLemmas
 mod MarkLemmas
-mod NameLaws
+pub mod NameLaws
 mod OpenLemmas
-mod PathLaws
+pub mod PathLaws
 mod PathLookups
 mod RefusedLemmas
 mod ResolveLemmas
-mod StandLemmas
+pub mod StandLemmas
 mod TellLemmas
 mod TextLaws
-mod UsedLemmas
+pub mod UsedLemmas
 mod WayLaws

@@ -1,12 +1,12 @@
 -- Names are looked for in the innermost module and outwards.
-use Rattle.std.proofs.Common.{◌≡◌, ◌≢◌, refl, sym, ap, subst, ◌∙◌, ℕ, ◌<◌, ◌==◌, Bool, true, false, not, ◌&&◌, is_some, List, [], ◌∷◌, ◌++◌, map, length, get_or, slice_get, Option, None, Some, Contains, if◌then◌else◌, option_map, arith}
+use Rattle.std.proofs.Common.{◌≡◌, ◌≢◌, refl, sym, ap, subst, ◌∙◌, ℕ, ◌<◌, Bool, true, false, ◌&&◌, is_some, List, [], ◌∷◌, ◌++◌, map, length, get_or, slice_get, Option, None, Some, Contains, if◌then◌else◌, option_map, arith}
 use Rattle.std.specs.List.{find, filter_map, list_all}
 use Rattle.std.specs.Option.{option_to_list}
 use Rattle.std.specs.Str.{bytes_eq}
 use Rattle.std.specs.Cmp.Lexicographic.{bytes_decides}
 use Rattle.std.proofs.lemmas.Bool.{and_parts, and_from}
 use Rattle.std.proofs.lemmas.List.Folds.{list_all-append}
-use Rattle.std.proofs.lemmas.Option.{get_or_from_slice_get}
+use Rattle.std.proofs.lemmas.Option.{get_or_from_slice_get, slice_get_within}
 use Rattle.uno_model.proofs.Options.{same_some}
 use Rattle.uno_model.specs.Names.{is_identifier}
 use Rattle.idl_meaning_model.specs.Declarations as model
@@ -17,7 +17,7 @@ use Rattle.idl_meaning_model.specs.Uses.{an_entity, a_value, used_meant}
 use Rattle.idl_model.specs.Trees.{Path}
 use Rattle.idl_names.specs.Opened.{own_path}
 use Rattle.idl_names.specs.Paths.{Parts, IsInside, within}
-use Rattle.idl_names.specs.Standing.{Answers, IsNumberOf, NamesIn, NamesOf, NamesOutwards, NamesThere, marked, name_at, name_if, names_behind}
+use Rattle.idl_names.specs.Standing.{Answers, NamesIn, NamesOf, NamesOutwards, NamesThere, marked, name_at, name_if, names_behind}
 use Rattle.idl_names.proofs.NameLaws.{behind_owner}
 use Rattle.idl_names.proofs.TextLaws.{outwards_last}
 
@@ -125,7 +125,8 @@ module _ (paths : List Parts) (marks : List Bool) (modules : ℕ) (parts : Parts
   pub outwards_found : (n : ℕ) → NamesThere paths marks scope parts (Some n) → NamesOutwards paths marks modules parts (Some n)
   outwards_found n there test answers modules_right parts_right =
       let here = so_far.same test answers modules_right parts_right in
-      outwards_here test (get_or paths scope []) parts (name_at paths n) (there test answers here.0 parts_right) ∙ sym here.1
+      let it = there test answers here.0 parts_right in
+      (outwards_here test (get_or paths scope []) parts (name_at paths n) it.0 ∙ sym here.1, it.1)
 
   pub outwards_next : (outer : ℕ) (name : List ℕ) → IsInside paths (outer, name) scope → NamesThere paths marks scope parts None → IsOutwards paths marks modules parts outer
   outwards_next outer name inside there =
@@ -138,7 +139,7 @@ module _ (paths : List Parts) (marks : List Bool) (modules : ℕ) (parts : Parts
             let here = so_far.same test answers modules_right parts_right in
             let right : list_all is_identifier (within paths (outer, name)) ≡ true = subst (λ (p : Parts). list_all is_identifier p ≡ true) path here.0 in
             let none : None ≡ name_if test (dotted (within paths (outer, name) ++ parts)) =
-            there test answers here.0 parts_right ∙ ap (λ (p : Parts). name_if test (dotted (p ++ parts))) path in (
+            (there test answers here.0 parts_right).0 ∙ ap (λ (p : Parts). name_if test (dotted (p ++ parts))) path in (
               identifiers_front (get_or paths outer []) name right,
               here.1 ∙ ap (λ (p : Parts). find test (names_behind (outwards p) parts)) path ∙ outwards_further test (get_or paths outer []) parts name none,
             );
@@ -158,8 +159,11 @@ module _ (paths : List Parts) (marks : List Bool) (modules : ℕ) (parts : Parts
   outwards_rest found is first there test answers modules_right parts_right =
       let here = so_far.same test answers modules_right parts_right in
       let path : get_or paths scope [] ≡ [] = ap (λ n. get_or paths n []) is ∙ get_or_from_slice_get paths 0 [] [] first in
-      there test answers here.0 parts_right ∙ ap (λ (p : Parts). name_if test (dotted (p ++ parts))) path
-      ∙ sym (here.1 ∙ ap (λ (p : Parts). find test (names_behind (outwards p) parts)) path)
+      let it = there test answers here.0 parts_right in (
+        it.0 ∙ ap (λ (p : Parts). name_if test (dotted (p ++ parts))) path
+            ∙ sym (here.1 ∙ ap (λ (p : Parts). find test (names_behind (outwards p) parts)) path),
+        it.1,
+      )
 
 -- ---- as a use
 
@@ -228,40 +232,43 @@ own_in_group modules own group path test inside is one =
 
 pub there_none : (paths : List Parts) (marks : List Bool) (scope : ℕ) (parts : Parts) → ¬ Contains paths (get_or paths scope [] ++ parts) → NamesThere paths marks scope parts None
 there_none paths marks scope parts none test answers scope_right parts_right =
-    none_there paths marks test answers (get_or paths scope [] ++ parts) (identifiers_behind (get_or paths scope []) parts scope_right parts_right) none
+    (none_there paths marks test answers (get_or paths scope [] ++ parts) (identifiers_behind (get_or paths scope []) parts scope_right parts_right) none, tt)
 
 pub there_not : (paths : List Parts) (marks : List Bool) (scope : ℕ) (parts : Parts) (n : ℕ) → slice_get paths n ≡ Some (get_or paths scope [] ++ parts) → get_or marks n false ≡ false
     → NamesThere paths marks scope parts None
 there_not paths marks scope parts n at is test answers scope_right parts_right =
-    not_marked_there paths marks test answers (get_or paths scope [] ++ parts) n (identifiers_behind (get_or paths scope []) parts scope_right parts_right) at is
+    (not_marked_there paths marks test answers (get_or paths scope [] ++ parts) n (identifiers_behind (get_or paths scope []) parts scope_right parts_right) at is, tt)
 
 pub there_is : (paths : List Parts) (marks : List Bool) (scope : ℕ) (parts : Parts) (n : ℕ) → slice_get paths n ≡ Some (get_or paths scope [] ++ parts) → get_or marks n false ≡ true
     → NamesThere paths marks scope parts (Some n)
 there_is paths marks scope parts n at is test answers scope_right parts_right =
-    marked_there paths marks test answers (get_or paths scope [] ++ parts) n (identifiers_behind (get_or paths scope []) parts scope_right parts_right) at is
+    let right = identifiers_behind (get_or paths scope []) parts scope_right parts_right in (
+      marked_there paths marks test answers (get_or paths scope [] ++ parts) n right at is,
+      (slice_get_within paths n (get_or paths scope [] ++ parts) at, ap are_identifiers (get_or_from_slice_get paths n (get_or paths scope [] ++ parts) [] at) ∙ right),
+    )
 
 pub in_absolute : (paths : List Parts) (marks : List Bool) (modules : ℕ) (path : Path) (parts : Parts) (found : Option ℕ) → slice_get paths 0 ≡ Some [] → path.absolute ≡ true → parts ≡ path.parts
     → NamesThere paths marks 0 parts found → NamesIn paths marks modules path found
 in_absolute paths marks modules path parts found outermost is same there test answers modules_right parts_right =
     let first : get_or paths 0 [] ≡ [] = get_or_from_slice_get paths 0 [] [] outermost in
-    there test answers (ap (list_all is_identifier) first) (ap are_identifiers same ∙ parts_right)
-    ∙ (λ i. name_if test (dotted (first i ++ same i))) ∙ absolute_named (get_or paths modules []) path test is
+    let it = there test answers (ap (list_all is_identifier) first) (ap are_identifiers same ∙ parts_right) in
+    (it.0 ∙ (λ i. name_if test (dotted (first i ++ same i))) ∙ absolute_named (get_or paths modules []) path test is, it.1)
 
 pub in_relative : (paths : List Parts) (marks : List Bool) (modules : ℕ) (path : Path) (parts : Parts) (found : Option ℕ) → path.absolute ≡ false → parts ≡ path.parts
     → NamesOutwards paths marks modules parts found → NamesIn paths marks modules path found
 in_relative paths marks modules path parts found is same outside test answers modules_right parts_right =
-    outside test answers modules_right (ap are_identifiers same ∙ parts_right)
-    ∙ ap (λ (p : Parts). find test (names_behind (outwards (get_or paths modules [])) p)) same ∙ relative_named (get_or paths modules []) path test is
+    let it = outside test answers modules_right (ap are_identifiers same ∙ parts_right) in
+    (it.0 ∙ ap (λ (p : Parts). find test (names_behind (outwards (get_or paths modules [])) p)) same ∙ relative_named (get_or paths modules []) path test is, it.1)
 
 -- in the group of the declaration
 pub own_absolute : (paths : List Parts) (marks : List Bool) (d : model.Declared) (path : Path) → path.absolute ≡ true → NamesOf paths marks d path (own_constant (scope_of d).group path) None
-own_absolute paths marks d path is test answers own_right parts_right = no_own_absolute (scope_of d).group path test is
+own_absolute paths marks d path is test answers own_right parts_right = (no_own_absolute (scope_of d).group path test is, tt)
 
 pub own_no_group : (paths : List Parts) (marks : List Bool) (d : model.Declared) (path : Path) (b : Bool) → b ≡ false → ((name : List ℕ) → group_in name d.body ≡ (if b then Some name else None))
     → NamesOf paths marks d path (own_constant (scope_of d).group path) None
 unfolding scope_of
 own_no_group paths marks d path b is group test answers own_right parts_right =
-    no_own_group (group_in (full_name d) d.body) path test (group (full_name d) ∙ ap (λ c. if c then Some (full_name d) else None) is)
+    (no_own_group (group_in (full_name d) d.body) path test (group (full_name d) ∙ ap (λ c. if c then Some (full_name d) else None) is), tt)
 
 pub own_of_group : (paths : List Parts) (marks : List Bool) (d : model.Declared) (own : ℕ) (path : Path) (parts : Parts) (found : Option ℕ) (b : Bool) → path.absolute ≡ false → b ≡ true
     → ((name : List ℕ) → group_in name d.body ≡ (if b then Some name else None)) → slice_get paths own ≡ Some (own_path d) → parts ≡ path.parts → length path.parts ≡ 1
@@ -269,17 +276,21 @@ pub own_of_group : (paths : List Parts) (marks : List Bool) (d : model.Declared)
 unfolding scope_of
 own_of_group paths marks d own path parts found b inside is group at same one there test answers own_right parts_right =
     let read : get_or paths own [] ≡ own_path d = get_or_from_slice_get paths own (own_path d) [] at in
-    there test answers (ap (list_all is_identifier) read ∙ own_right) (ap are_identifiers same ∙ parts_right)
-    ∙ (λ i. name_if test (dotted (read i ++ same i)))
-    ∙ own_in_group d.modules d.name.name (group_in (full_name d) d.body) path test inside (group (full_name d) ∙ ap (λ c. if c then Some (full_name d) else None) is) one
+    let it = there test answers (ap (list_all is_identifier) read ∙ own_right) (ap are_identifiers same ∙ parts_right) in (
+      it.0 ∙ (λ i. name_if test (dotted (read i ++ same i)))
+          ∙ own_in_group d.modules d.name.name (group_in (full_name d) d.body) path test inside (group (full_name d) ∙ ap (λ c. if c then Some (full_name d) else None) is) one,
+      it.1,
+    )
 
 pub value_one : (paths : List Parts) (marks : List Bool) (d : model.Declared) (path : Path) (found : Option ℕ) → length path.parts ≡ 1
     → NamesOf paths marks d path (own_constant (scope_of d).group path) found → NamesOf paths marks d path (value_names (scope_of d) path) found
-value_one paths marks d path found one own test answers own_right parts_right = own test answers own_right parts_right ∙ one_part_named (scope_of d) path test one
+value_one paths marks d path found one own test answers own_right parts_right =
+    let it = own test answers own_right parts_right in
+    (it.0 ∙ one_part_named (scope_of d) path test one, it.1)
 
 pub value_more : (paths : List Parts) (marks : List Bool) (d : model.Declared) (modules : ℕ) (path : Path) (found : Option ℕ) → length path.parts ≢ 1 → get_or paths modules [] ≡ d.modules
     → NamesIn paths marks modules path found → NamesOf paths marks d path (value_names (scope_of d) path) found
 unfolding scope_of
 value_more paths marks d modules path found other read outside test answers own_right parts_right =
-    outside test answers (ap (list_all is_identifier) read ∙ identifiers_front d.modules d.name.name own_right) parts_right
-    ∙ ap (λ (p : Parts). find test (full_names p path)) read ∙ more_parts_named (scope_of d) path test other parts_right
+    let it = outside test answers (ap (list_all is_identifier) read ∙ identifiers_front d.modules d.name.name own_right) parts_right in
+    (it.0 ∙ ap (λ (p : Parts). find test (full_names p path)) read ∙ more_parts_named (scope_of d) path test other parts_right, it.1)

@@ -1,23 +1,21 @@
 -- Names of identifiers are looked for by the numbers of their paths.
-use Rattle.std.proofs.Common.{◌≡◌, refl, sym, ap, subst, ◌∙◌, ℕ, zero, suc, ◌+◌, ◌<◌, ◌==◌, Bool, true, false, not, ◌&&◌, ◌||◌, is_some, List, [], ◌∷◌, ◌++◌, map, length, get_or, slice_get, Option, None, Some, Contains, if◌then◌else◌, codes, arith}
+use Rattle.std.proofs.Common.{◌≡◌, refl, sym, ap, ◌∙◌, ℕ, ◌==◌, Bool, true, false, not, ◌&&◌, ◌||◌, is_some, List, [], ◌∷◌, ◌++◌, map, slice_get, Option, None, Some, if◌then◌else◌}
 use Rattle.std.specs.List.{AllByRecursion, find, flat_map, list_all, list_any}
 use Rattle.std.specs.Str.{bytes_eq}
 use Rattle.std.specs.Cmp.Lexicographic.{bytes_decides, nat_list_eq_equiv}
 use Rattle.std.proofs.lemmas.Bool.{and_parts, eqb-true, eq-eqb, both_ways}
 use Rattle.std.proofs.lemmas.List.{map-append}
-use Rattle.std.proofs.lemmas.List.Folds.{list_any-append}
 use Rattle.std.proofs.lemmas.Option.{get_or_from_slice_get, slice_get_within}
 use Rattle.uno_model.proofs.Options.{same_some}
 use Rattle.uno_model.specs.BuiltIn.{built_in, base_exception, disposed_exception, factory, runtime_exception, x_interface, disposed_exception_name, factory_name, exception_name, runtime_exception_name, x_interface_name}
 use Rattle.uno_model.specs.Entities.{Entity}
-use Rattle.uno_model.specs.Names.{is_identifier}
 use Rattle.uno_model.specs.Registry.{find_entity}
 use Rattle.uno_model.specs.Sound.{is_there, is_interface}
 use Rattle.idl_meaning_model.specs.Declarations as model
 use Rattle.idl_meaning_model.specs.Declarations.{dotted, full_name, is_forward, Valued, value_name, Origin, items_valued, constant_valued, valued_in, all_valued, first_item, item_before}
 use Rattle.idl_meaning_model.specs.FromFiles.{are_identifiers}
 use Rattle.idl_meaning_model.specs.Scopes.{declared_as, is_built_in, valued_as}
-use Rattle.idl_model.specs.Trees.{Id, Item, Constant, Declaration, forward, interface, struct, exception, enum, constants, typedef, new_service, old_service, new_singleton, old_singleton}
+use Rattle.idl_model.specs.Trees.{Item, Constant, Declaration, forward, interface, struct, exception, enum, constants, typedef, new_service, old_service, new_singleton, old_singleton}
 use Rattle.idl_names.specs.Opened.{AreAt, behind_all, built_in_exceptions, built_in_interfaces, own_path, value_ids, value_paths}
 use Rattle.idl_names.specs.Paths.{Parts}
 use Rattle.idl_names.specs.Standing.{AreOnce, IsNumberOf}

@@ -17,7 +17,7 @@ use Rattle.idl_names.specs.Faults.{AddsFaults, ComesFirst, all_faults_of}
 use Rattle.idl_names.specs.Opened.{HasOpened, own_path}
 use Rattle.idl_names.specs.Paths.{Parts}
 use Rattle.idl_names.specs.Resolving.{IsRefused, TellsAll}
-use Rattle.idl_names.specs.Telling.{TellsUses, named_of, told_among, unknown_among}
+use Rattle.idl_names.specs.Telling.{AreRight, TellsUses, named_of, told_among, unknown_among}
 use Rattle.idl_names.specs.declared.collecting.Collected.{Collected}
 use Rattle.idl_names.specs.declared.declaration.Declared.{Declared}
 use Rattle.idl_names.specs.declared.error.NameError.{NameError}
@@ -56,6 +56,7 @@ all_told paths ds a b t two three no_names no_faults told second third fourth na
           fourth ∙ ap (λ k. k ++ refused_types ds) (third ∙ ap (λ k. k ++ declared_twice ds) (second ∙ ap (λ k. k ++ forward_alone ds) first))
           ∙ regroup (unknown_uses ds) (forward_alone ds) (declared_twice ds) (refused_types ds);
       names = ap (named_of paths) names ∙ told.names ∙ ap (λ k. named_of paths k ++ told_among ds (uses ds)) no_names;
+      right = subst (AreRight paths) (sym names) (told.right (subst (AreRight paths) (sym no_names) tt));
     }
   where
     first : all_faults_of b.faults.items ≡ unknown_uses ds

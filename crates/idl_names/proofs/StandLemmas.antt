@@ -1,10 +1,9 @@
 -- Marks tell what stands at each path.
-use Rattle.std.proofs.Common.{◌≡◌, refl, sym, ap, subst, ◌∙◌, ℕ, zero, suc, ◌+◌, ◌<◌, ◌==◌, Bool, true, false, not, ◌&&◌, ◌||◌, is_some, List, [], ◌∷◌, ◌++◌, map, length, get_or, slice_get, Option, None, Some, Contains, if◌then◌else◌, arith}
+use Rattle.std.proofs.Common.{◌≡◌, refl, sym, ap, ◌∙◌, ℕ, Bool, true, false, not, ◌&&◌, ◌||◌, is_some, List, [], ◌∷◌, ◌++◌, map, slice_get, Option, None, Some, if◌then◌else◌}
 use Rattle.std.specs.List.{AllByRecursion, filter, flat_map, list_all, list_any}
 use Rattle.std.specs.Str.{bytes_eq}
 use Rattle.std.proofs.lemmas.Bool.{and_parts, and_from}
 use Rattle.std.proofs.lemmas.List.Folds.{list_all-append}
-use Rattle.std.proofs.lemmas.Option.{slice_get_within}
 use Rattle.uno_model.specs.Names.{is_identifier}
 use Rattle.idl_meaning_model.specs.Declarations as model
 use Rattle.idl_meaning_model.specs.Declarations.{dotted, full_name, is_forward, all_valued, entities_declared}
@@ -12,19 +11,18 @@ use Rattle.idl_meaning_model.specs.FromFiles.{are_identifiers, has_identifiers, 
 use Rattle.idl_meaning_model.specs.NameFaults.{has_interface, is_interface_declaration, places_declared}
 use Rattle.idl_meaning_model.specs.Scopes.{declared_as, is_built_in, is_entity, valued_as}
 use Rattle.idl_model.specs.Places.{Place}
-use Rattle.idl_model.specs.Trees.{Id, Item, Constant, Declaration, forward, interface, struct, exception, enum, constants, typedef, new_service, old_service, new_singleton, old_singleton}
+use Rattle.idl_model.specs.Trees.{Id, Declaration, forward, interface, struct, exception, enum, constants, typedef, new_service, old_service, new_singleton, old_singleton}
 use Rattle.idl_names.specs.Alone.{HasLeasts}
 use Rattle.idl_names.specs.Collected.{declared_of, HasNumbers}
-use Rattle.idl_names.specs.Opened.{AreAt, HasOpened, behind_all, built_in_exceptions, built_in_interfaces, own_path, value_ids, value_paths}
+use Rattle.idl_names.specs.Opened.{HasOpened, behind_all, built_in_exceptions, built_in_interfaces, own_path, value_ids, value_paths}
 use Rattle.idl_names.specs.Paths.{Parts}
-use Rattle.idl_names.specs.Standing.{AreOnce, Answers, IsNumberOf, marked}
-use Rattle.idl_names.specs.Tables.{MarksOf, PlacesOf, entity_places, least_of, is_among, is_entity_at, is_interface_at, place_at}
+use Rattle.idl_names.specs.Standing.{AreOnce, Answers, IsNumberOf}
+use Rattle.idl_names.specs.Tables.{MarksOf, PlacesOf, entity_places, least_of, is_among, is_entity_at, is_interface_at}
 use Rattle.idl_names.specs.declared.declaration.Declared.{Declared}
 use Rattle.idl_names.specs.declared.opening.Opened.{Opened}
 use Rattle.idl_names.proofs.AloneLemmas.{own_identifiers, all_true}
 use Rattle.idl_names.proofs.LookupLemmas.{identifiers_behind}
 use Rattle.idl_names.proofs.NameLaws.{any_mapped, any_same, any_at, built_in_any, declared_any, interface_any, is_at, same_name, value_any}
-use Rattle.idl_trees.specs.Names.{place_of}
 use Rattle.idl_trees.specs.Trees.{declaration_of}
 use Rattle.idl_trees.specs.declared.place.Place as code
 

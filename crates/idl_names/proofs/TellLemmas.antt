@@ -1,6 +1,6 @@
 -- One name after the other is told.
-use Rattle.std.proofs.Common.{◌≡◌, refl, sym, ap, subst, ◌∙◌, ℕ, ◌+◌, ◌<◌, ◌≤◌, Bool, true, false, is_none, List, [], ◌∷◌, ◌++◌, map, length, take, get_or, Option, None, Some, append_assoc, append-nil, if◌then◌else◌, option_map, arith}
-use Rattle.std.specs.List.{AllByRecursion, filter, flat_map, list_all}
+use Rattle.std.proofs.Common.{◌≡◌, refl, sym, ap, subst, ◌∙◌, ℕ, ◌+◌, ◌<◌, Bool, true, false, is_none, List, [], ◌∷◌, ◌++◌, map, length, take, get_or, Option, None, Some, append_assoc, append-nil, if◌then◌else◌, option_map}
+use Rattle.std.specs.List.{filter, flat_map, list_all}
 use Rattle.std.proofs.lemmas.Bool.{and_parts, and_from}
 use Rattle.std.proofs.lemmas.List.{map-append}
 use Rattle.std.proofs.lemmas.List.Folds.{list_all-append}
@@ -12,16 +12,15 @@ use Rattle.idl_meaning_model.specs.Uses as meant
 use Rattle.idl_meaning_model.specs.Uses.{Use, path_of, stands_for, used_in, used_meant, uses, uses_of}
 use Rattle.idl_model.specs.Places.{Place}
 use Rattle.idl_names.specs.Collected.{declared_of}
-use Rattle.idl_names.specs.Faults.{AddsFaults, all_faults_of}
+use Rattle.idl_names.specs.Faults.{all_faults_of}
 use Rattle.idl_names.specs.Paths.{Parts}
-use Rattle.idl_names.specs.Standing.{name_at}
-use Rattle.idl_names.specs.Telling.{TellsOne, TellsUses, named_of, unknown_among, told_among, unknown_at, told_at, uses_there}
+use Rattle.idl_names.specs.Standing.{Finds, IsRight, name_at}
+use Rattle.idl_names.specs.Telling.{AreRight, TellsOne, TellsUses, named_of, unknown_among, told_among, unknown_at, told_at, uses_there}
 use Rattle.idl_names.specs.Used.{all_used_of, used_of}
 use Rattle.idl_names.specs.declared.declaration.Declared.{Declared}
 use Rattle.idl_names.specs.declared.telling.Told.{Told}
 use Rattle.idl_names.specs.declared.used.Used.{Used}
 use Rattle.idl_names.proofs.AloneLemmas.{kept_append, joined_append, one_true}
-use Rattle.idl_names.proofs.MarkLemmas.{one_more}
 use Rattle.idl_names.proofs.UsedLemmas.{one_taken, one_joined}
 use Rattle.idl_trees.specs.Names.{place_of}
 use Rattle.idl_trees.specs.declared.place.Place as code
@@ -38,7 +37,7 @@ told_both ds us vs = joined_append (λ (u : Use). name_told (path_of u.used).pla
 
 pub tells_none : (paths : List Parts) (ds : List model.Declared) (a : Told) → TellsUses paths ds a [] a
 unfolding unknown_among told_among
-tells_none paths ds a = record { faults = sym (append-nil (all_faults_of a.faults.items)); names = sym (append-nil (named_of paths a.names.items)) }
+tells_none paths ds a = record { faults = sym (append-nil (all_faults_of a.faults.items)); names = sym (append-nil (named_of paths a.names.items)); right = λ right. right }
 
 pub tells_both : (paths : List Parts) (ds : List model.Declared) (a b c : Told) (us vs : List Use) → TellsUses paths ds a us b → TellsUses paths ds b vs c → TellsUses paths ds a (us ++ vs) c
 tells_both paths ds a b c us vs one two =
@@ -49,6 +48,7 @@ tells_both paths ds a b c us vs one two =
       names =
           two.names ∙ ap (λ k. k ++ told_among ds vs) one.names ∙ append_assoc (named_of paths a.names.items) (told_among ds us) (told_among ds vs)
           ∙ ap (λ k. named_of paths a.names.items ++ k) (sym (told_both ds us vs));
+      right = λ right. two.right (one.right right);
     }
 
 -- ---- one name
@@ -76,16 +76,25 @@ names_same : (paths : List Parts) (place : code.Place) (found : Option ℕ) → 
 names_same paths place None = refl
 names_same paths place (Some n) = refl
 
+right_behind : (paths : List Parts) (xs ys : List (code.Place × ℕ)) → AreRight paths xs → AreRight paths ys → AreRight paths (xs ++ ys)
+right_behind paths [] ys first rest = rest
+right_behind paths (x ∷ xs) ys first rest = (first.0, right_behind paths xs ys first.1 rest)
+
+right_told : (paths : List Parts) (place : code.Place) (found : Option ℕ) → IsRight paths found → AreRight paths (told_at place found)
+right_told paths place None right = tt
+right_told paths place (Some n) right = (right, tt)
+
 pub tells_one : (paths : List Parts) (ds : List model.Declared) (a b : Told) (u : Use) (place : code.Place) (found : Option ℕ) → TellsOne a place found b → place_of place ≡ (path_of u.used).place
-    → option_map (name_at paths) found ≡ stands_for ds u → TellsUses paths ds a (u ∷ []) b
+    → Finds paths found (stands_for ds u) → TellsUses paths ds a (u ∷ []) b
 tells_one paths ds a b u place found one at is =
     record {
       faults =
           one.faults
-          ∙ ap (λ k. all_faults_of a.faults.items ++ k) (faults_same paths place found ∙ (λ i. unknown_if (at i) (is i)) ∙ sym (unknown_one ds u));
+          ∙ ap (λ k. all_faults_of a.faults.items ++ k) (faults_same paths place found ∙ (λ i. unknown_if (at i) (is.0 i)) ∙ sym (unknown_one ds u));
       names =
           ap (named_of paths) one.names ∙ map-append (λ (t : code.Place × ℕ). (place_of t.0, name_at paths t.1)) a.names.items (told_at place found)
-          ∙ ap (λ k. named_of paths a.names.items ++ k) (names_same paths place found ∙ (λ i. name_told (at i) (is i)) ∙ sym (told_one ds u));
+          ∙ ap (λ k. named_of paths a.names.items ++ k) (names_same paths place found ∙ (λ i. name_told (at i) (is.0 i)) ∙ sym (told_one ds u));
+      right = λ right. subst (AreRight paths) (sym one.names) (right_behind paths a.names.items (told_at place found) right (right_told paths place found is.1));
     }
 
 -- ---- names that one declaration uses
@@ -130,7 +139,7 @@ pub use_at : (scope : Scope) (all : List Used) (i : ℕ) (u : Used) → i < leng
 use_at scope all i u low is spelled = one_true is_spelled_use (λ v. record { scope = scope; used = used_of v }) all i u low is spelled
 
 pub tells_told : (paths : List Parts) (ds : List model.Declared) (a b : Told) (scope : Scope) (used : meant.Used) (place : code.Place) (found : Option ℕ) → TellsOne a place found b
-    → place_of place ≡ (path_of used).place → option_map (name_at paths) found ≡ used_meant ds scope used → TellsUses paths ds a (record { scope = scope; used = used } ∷ []) b
+    → place_of place ≡ (path_of used).place → Finds paths found (used_meant ds scope used) → TellsUses paths ds a (record { scope = scope; used = used } ∷ []) b
 unfolding stands_for
 tells_told paths ds a b scope used place found one at is = tells_one paths ds a b (record { scope = scope; used = used }) place found one at is
 

@@ -1,5 +1,5 @@
 -- Paths that are opened, and their numbers; the paths of constants and items, and of the entities that are built in.
-use Rattle.std.specs.List.{AllByRecursion, flat_map}
+use Rattle.std.specs.List.{flat_map}
 use Rattle.std.specs.Prelude.{◌≡◌, ℕ, List, [], ◌∷◌, ◌++◌, codes, map, slice_get, Some}
 use Rattle.idl_meaning_model.specs.Declarations as model
 use Rattle.idl_model.specs.Trees.{Id, Declaration, constants, enum}

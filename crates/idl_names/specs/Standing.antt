@@ -1,6 +1,6 @@
 -- What stands at a path, where marks tell it by the number of the path.
 use Rattle.std.specs.List.{find, list_all}
-use Rattle.std.specs.Prelude.{◌≡◌, ℕ, Bool, true, false, List, [], ◌++◌, map, get_or, slice_get, Option, None, Some, Contains, if◌then◌else◌, option_map}
+use Rattle.std.specs.Prelude.{◌≡◌, ℕ, ◌<◌, Bool, true, false, List, [], ◌++◌, map, length, get_or, slice_get, Option, None, Some, Contains, if◌then◌else◌, option_map}
 use Rattle.idl_meaning_model.specs.Declarations.{Declared, dotted}
 use Rattle.idl_meaning_model.specs.FromFiles.{are_identifiers}
 use Rattle.idl_meaning_model.specs.Scopes.{full_names, outwards}
@@ -38,22 +38,31 @@ name_if test name = if test name then Some name else None
 abbrev pub names_behind : List Parts → Parts → List (List ℕ)
 names_behind modules parts = map (λ ms. dotted (ms ++ parts)) modules
 
+-- the path of a number that is found is there, and is made of identifiers
+abbrev pub IsRight : List Parts → Option ℕ → Type 0
+IsRight paths None = Unit
+IsRight paths (Some n) = (n < length paths) × (are_identifiers (get_or paths n []) ≡ true)
+
+-- the number that is found is that of the name that is found
+abbrev pub Finds : List Parts → Option ℕ → Option (List ℕ) → Type 0
+Finds paths found name = (option_map (name_at paths) found ≡ name) × IsRight paths found
+
 -- what identifiers name in just these modules
 abbrev pub NamesThere : List Parts → List Bool → ℕ → Parts → Option ℕ → Type 0
 NamesThere paths marks scope parts found = (test : List ℕ → Bool) → Answers paths marks test → list_all is_identifier (get_or paths scope []) ≡ true → are_identifiers parts ≡ true
-    → option_map (name_at paths) found ≡ name_if test (dotted (get_or paths scope [] ++ parts))
+    → Finds paths found (name_if test (dotted (get_or paths scope [] ++ parts)))
 
 -- and in these or those round them
 abbrev pub NamesOutwards : List Parts → List Bool → ℕ → Parts → Option ℕ → Type 0
 NamesOutwards paths marks modules parts found = (test : List ℕ → Bool) → Answers paths marks test → list_all is_identifier (get_or paths modules []) ≡ true → are_identifiers parts ≡ true
-    → option_map (name_at paths) found ≡ find test (names_behind (outwards (get_or paths modules [])) parts)
+    → Finds paths found (find test (names_behind (outwards (get_or paths modules [])) parts))
 
 -- what a path names in modules
 abbrev pub NamesIn : List Parts → List Bool → ℕ → Path → Option ℕ → Type 0
 NamesIn paths marks modules path found = (test : List ℕ → Bool) → Answers paths marks test → list_all is_identifier (get_or paths modules []) ≡ true → are_identifiers path.parts ≡ true
-    → option_map (name_at paths) found ≡ find test (full_names (get_or paths modules []) path)
+    → Finds paths found (find test (full_names (get_or paths modules []) path))
 
 -- one of these names is told where a path stands in an expression of a declaration
 abbrev pub NamesOf : List Parts → List Bool → Declared → Path → List (List ℕ) → Option ℕ → Type 0
 NamesOf paths marks d path names found = (test : List ℕ → Bool) → Answers paths marks test → list_all is_identifier (own_path d) ≡ true → are_identifiers path.parts ≡ true
-    → option_map (name_at paths) found ≡ find test names
+    → Finds paths found (find test names)

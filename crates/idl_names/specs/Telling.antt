@@ -1,6 +1,6 @@
 -- What the names that are used stand for, told by numbers of paths, and the names that stand for nothing.
-use Rattle.std.specs.List.{filter, flat_map, list_all}
-use Rattle.std.specs.Prelude.{◌≡◌, ℕ, Bool, is_none, is_some, List, [], ◌∷◌, ◌++◌, map, Option, None, Some}
+use Rattle.std.specs.List.{AllByRecursion, filter, flat_map}
+use Rattle.std.specs.Prelude.{◌≡◌, ℕ, is_none, is_some, List, [], ◌∷◌, ◌++◌, map, Option, None, Some}
 use Rattle.idl_meaning_model.specs.Declarations.{Declared, Scope, all_valued}
 use Rattle.idl_meaning_model.specs.NameFaults as model
 use Rattle.idl_meaning_model.specs.NameFaults.{name_told}
@@ -9,7 +9,7 @@ use Rattle.idl_meaning_model.specs.Uses.{Use, path_of, stands_for}
 use Rattle.idl_model.specs.Places.{Place}
 use Rattle.idl_names.specs.Faults.{AddsFaults}
 use Rattle.idl_names.specs.Paths.{Parts}
-use Rattle.idl_names.specs.Standing.{Answers, name_at}
+use Rattle.idl_names.specs.Standing.{Answers, IsRight, name_at}
 use Rattle.idl_names.specs.Used.{used_of}
 use Rattle.idl_names.specs.declared.telling.Marked.{Marked}
 use Rattle.idl_names.specs.declared.telling.Told.{Told}
@@ -42,6 +42,10 @@ pub record TellsOne (old : Told) (place : code.Place) (found : Option ℕ) (new 
 abbrev pub named_of : List Parts → List (code.Place × ℕ) → List (Place × List ℕ)
 named_of paths names = map (λ t. (place_of t.0, name_at paths t.1)) names
 
+-- the numbers of names are those of paths of identifiers
+abbrev pub AreRight : List Parts → List (code.Place × ℕ) → Type 0
+AreRight paths names = AllByRecursion (λ told. IsRight paths (Some told.1)) names
+
 unfoldable pub unknown_among : List Declared → List Use → List (Place × model.NameFault)
 unknown_among ds us = map (λ u. ((path_of u.used).place, model.unknown)) (filter (λ u. is_none (stands_for ds u)) us)
 
@@ -51,6 +55,7 @@ told_among ds us = flat_map (λ u. name_told (path_of u.used).place (stands_for 
 pub record TellsUses (paths : List Parts) (ds : List Declared) (old : Told) (us : List Use) (new : Told) : Type 0 where
   pub faults : AddsFaults old.faults.items (unknown_among ds us) new.faults.items
   pub names : named_of paths new.names.items ≡ named_of paths old.names.items ++ told_among ds us
+  pub right : AreRight paths old.names.items → AreRight paths new.names.items
 
 -- the names that a declaration uses, as uses there
 abbrev pub uses_there : Scope → List Used → List Use

@@ -55,19 +55,7 @@ fn own_value<'a>(
 fn is_group(body: &Declaration) -> bool
     ensures { (name : List ℕ) → group_in name (declaration_of body.now) ≡ (if result then Some name else None) }
 {
-    match body {
-        Declaration::Constants(_) => true,
-        Declaration::Forward => false,
-        Declaration::Interface(_, _) => false,
-        Declaration::Struct(_, _) => false,
-        Declaration::Exception(_, _) => false,
-        Declaration::Enum(_) => false,
-        Declaration::Typedef(_) => false,
-        Declaration::NewService(_, _) => false,
-        Declaration::OldService(_) => false,
-        Declaration::NewSingleton(_) => false,
-        Declaration::OldSingleton(_) => false,
-    }
+    matches!(body, Declaration::Constants(_))
 }
 
 /// What a path names in modules, by the number of its path.

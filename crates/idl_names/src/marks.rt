@@ -64,35 +64,11 @@ pub(crate) fn mark_interfaces(marks: &mut Vec<bool>, all: &[Declared<'_>])
 pub(crate) fn is_entity(body: &Declaration) -> bool
     ensures { result ≡ not (is_forward (declaration_of body.now)) }
 {
-    match body {
-        Declaration::Forward => false,
-        Declaration::Interface(_, _) => true,
-        Declaration::Struct(_, _) => true,
-        Declaration::Exception(_, _) => true,
-        Declaration::Enum(_) => true,
-        Declaration::Constants(_) => true,
-        Declaration::Typedef(_) => true,
-        Declaration::NewService(_, _) => true,
-        Declaration::OldService(_) => true,
-        Declaration::NewSingleton(_) => true,
-        Declaration::OldSingleton(_) => true,
-    }
+    !matches!(body, Declaration::Forward)
 }
 
 pub(crate) fn is_interface(body: &Declaration) -> bool
     ensures { result ≡ is_interface_declaration (declaration_of body.now) }
 {
-    match body {
-        Declaration::Interface(_, _) => true,
-        Declaration::Forward => false,
-        Declaration::Struct(_, _) => false,
-        Declaration::Exception(_, _) => false,
-        Declaration::Enum(_) => false,
-        Declaration::Constants(_) => false,
-        Declaration::Typedef(_) => false,
-        Declaration::NewService(_, _) => false,
-        Declaration::OldService(_) => false,
-        Declaration::NewSingleton(_) => false,
-        Declaration::OldSingleton(_) => false,
-    }
+    matches!(body, Declaration::Interface(_, _))
 }

@@ -16,7 +16,7 @@ use uno_base::NoMemory;
 /// The numbers of paths that are opened beside those of what is declared: the interfaces and the exceptions that are in every registry,
 /// and constants and items.
 #[derive(Drop)]
-pub(crate) struct Opened {
+pub struct Opened {
     pub interfaces: Vec<u32>,
     pub exceptions: Vec<u32>,
     pub values: Vec<u32>,

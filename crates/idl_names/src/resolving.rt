@@ -7,10 +7,10 @@ ghost use Rattle.idl_meaning_model.specs.NameFaults.{IsResolved, declared_twice,
 ghost use Rattle.idl_meaning_model.specs.Uses.{uses};
 ghost use Rattle.idl_names.specs.Collected.{HasNumbers, IsCollected, declared_of};
 ghost use Rattle.idl_names.specs.Faults.{AddsFaults, fault_of};
-ghost use Rattle.idl_names.specs.Resolving.{TellsAll, IsRefused};
+ghost use Rattle.idl_names.specs.Resolving.{IsMadeOf, IsRefused, TellsAll};
 ghost use Rattle.idl_model.specs.Trees as tree;
 ghost use Rattle.idl_names.specs.Opened.{HasOpened};
-ghost use Rattle.idl_names.specs.Telling.{TellsUses, named_of};
+ghost use Rattle.idl_names.specs.Telling.{AreRight, Tells, named_of};
 ghost use Rattle.idl_trees.specs.Trees.{trees_of};
 
 use crate::collecting::{Collected, collect};
@@ -34,14 +34,15 @@ pub struct Resolved<'a> {
     pub paths: Paths<'a>,
     pub declared: Vec<Declared<'a>>,
     pub names: Vec<(Place, u32)>,
+    pub opened: Opened,
 }
 
 /// Tells what each name in these files stands for, or the fault that comes first of all.
 pub fn resolve<'a>(alloc: Global, trees: &'a [Tree]) -> Result<Resolved<'a>, NameError>
     requires { AreOfFiles (trees_of trees.now) }
     ensures resolved { IfOk result (λ resolved. IsResolved (trees_of trees.now) (Ok (named_of resolved.paths resolved.names.items))) }
-    ensures declared { IfOk result (λ resolved. map (declared_of resolved.paths) resolved.declared.items ≡ model.declarations (trees_of trees.now)) }
-    ensures numbered { IfOk result (λ resolved. AllByRecursion (HasNumbers resolved.paths) resolved.declared.items) }
+    ensures right { IfOk result (λ resolved. AreRight resolved.paths resolved.names.items) }
+    ensures made { IfOk result (λ resolved. IsMadeOf (model.declarations (trees_of trees.now)) resolved) }
     ensures refused { IfErr result (IsRefused (trees_of trees.now)) }
 {
     let collected = collect(alloc, trees)?;
@@ -50,7 +51,8 @@ pub fn resolve<'a>(alloc: Global, trees: &'a [Tree]) -> Result<Resolved<'a>, Nam
         declared,
     } = collected;
     let opened = open_others(alloc, &mut paths, declared.as_slice())?;
-    let told = tell_names(alloc, &paths, declared.as_slice(), &opened)?;
+    let marked = marks(alloc, &paths, declared.as_slice(), &opened)?;
+    let told = tell_names(alloc, &paths, declared.as_slice(), &opened, &marked)?;
     if let Some(fault) = earliest(told.faults.as_slice()) {
         return Err(refusal(fault));
     }
@@ -58,6 +60,7 @@ pub fn resolve<'a>(alloc: Global, trees: &'a [Tree]) -> Result<Resolved<'a>, Nam
         paths,
         declared,
         names: told.names,
+        opened,
     })
 }
 
@@ -71,51 +74,49 @@ fn refusal(fault: Fault) -> NameError
     }
 }
 
+/// Marks which numbers are those of entities, and which those of constants and items.
+fn marks(
+    alloc: Global,
+    paths: &Paths<'_>,
+    all: &[Declared<'_>],
+    opened: &Opened,
+) -> Result<Marked, NoMemory>
+    requires numbers { AllByRecursion (HasNumbers paths.now) all.now }
+    requires opened { HasOpened paths.now (map (declared_of paths.now) all.now) opened.now }
+    requires identifiers { list_all has_identifiers (map (declared_of paths.now) all.now) ≡ true }
+    ensures { IfOk result (λ marked. Tells paths.now marked (map (declared_of paths.now) all.now)) }
+{
+    let count = paths.len();
+    let entities = entity_marks(alloc, count, opened, all)?;
+    let values = value_marks(alloc, count, opened)?;
+    Ok(Marked { entities, values })
+}
+
 /// Tells all names that these declarations use, with all faults.
 fn tell_names<'a>(
     alloc: Global,
     paths: &Paths<'a>,
     all: &[Declared<'a>],
     opened: &Opened,
+    marked: &Marked,
 ) -> Result<Told, NoMemory>
     requires numbers { AllByRecursion (HasNumbers paths.now) all.now }
     requires opened { HasOpened paths.now (map (declared_of paths.now) all.now) opened.now }
     requires identifiers { list_all has_identifiers (map (declared_of paths.now) all.now) ≡ true }
     requires outermost { slice_get paths.now 0 ≡ Some [] }
     requires spelled { list_all is_spelled_use (uses (map (declared_of paths.now) all.now)) ≡ true }
+    requires marked { Tells paths.now marked.now (map (declared_of paths.now) all.now) }
     ensures { IfOk result (TellsAll paths.now (map (declared_of paths.now) all.now)) }
 {
     let mut told = Told {
         names: Vec::new(alloc),
         faults: Vec::new(alloc),
     };
-    add_uses(alloc, paths, all, opened, &mut told)?;
+    tell_all(alloc, paths, marked, all, &mut told)?;
     add_alone(alloc, paths, all, opened, &mut told.faults)?;
     add_twice(alloc, paths, all, opened, &mut told.faults)?;
     add_refused_types(alloc, &mut told.faults, all)?;
     Ok(told)
-}
-
-fn add_uses<'a>(
-    alloc: Global,
-    paths: &Paths<'a>,
-    all: &[Declared<'a>],
-    opened: &Opened,
-    told: &mut Told,
-) -> Result<(), NoMemory>
-    requires numbers { AllByRecursion (HasNumbers paths.now) all.now }
-    requires opened { HasOpened paths.now (map (declared_of paths.now) all.now) opened.now }
-    requires identifiers { list_all has_identifiers (map (declared_of paths.now) all.now) ≡ true }
-    requires outermost { slice_get paths.now 0 ≡ Some [] }
-    requires spelled { list_all is_spelled_use (uses (map (declared_of paths.now) all.now)) ≡ true }
-    ensures { OnOk result (TellsUses paths.now (map (declared_of paths.now) all.now) told.old (uses (map (declared_of paths.now) all.now)) told.new) }
-{
-    let count = paths.len();
-    let entities = entity_marks(alloc, count, opened, all)?;
-    let values = value_marks(alloc, count, opened)?;
-    let marked = Marked { entities, values };
-    tell_all(alloc, paths, &marked, all, told)?;
-    Ok(())
 }
 
 fn add_alone(

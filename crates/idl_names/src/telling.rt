@@ -1,12 +1,12 @@
 //! What each name that is used stands for, and the names that stand for nothing.
 ghost use Rattle.std.specs.List.{AllByRecursion, list_all};
-ghost use Rattle.std.specs.Prelude.{◌≡◌, [], List, OnOk, map, option_map, slice_get, Some, true};
+ghost use Rattle.std.specs.Prelude.{◌≡◌, [], List, OnOk, map, slice_get, Some, true};
 ghost use Rattle.idl_meaning_model.specs.Declarations as model;
 ghost use Rattle.idl_meaning_model.specs.Declarations.{scope_of};
 ghost use Rattle.idl_meaning_model.specs.FromFiles.{are_identifiers, has_identifiers, is_spelled_use};
 ghost use Rattle.idl_meaning_model.specs.Uses.{path_of, used_meant, uses, uses_of};
 ghost use Rattle.idl_names.specs.Collected.{HasNumbers, declared_of};
-ghost use Rattle.idl_names.specs.Standing.{name_at};
+ghost use Rattle.idl_names.specs.Standing.{Finds};
 ghost use Rattle.idl_names.specs.Telling.{Tells, TellsOne, TellsUses, uses_there};
 ghost use Rattle.idl_names.specs.Used.{used_of};
 ghost use Rattle.idl_trees.specs.Names as plain;
@@ -125,7 +125,7 @@ fn stands_for<'a>(
 ) -> Option<u32>
     requires numbers { HasNumbers paths.now declared.now }
     requires outermost { slice_get paths.now 0 ≡ Some [] }
-    ensures { (ds : List model.Declared) → Tells paths.now marked.now ds → has_identifiers (declared_of paths.now declared.now) ≡ true → are_identifiers (path_of (used_of used.now)).parts ≡ true → option_map (name_at paths.now) result ≡ used_meant ds (scope_of (declared_of paths.now declared.now)) (used_of used.now) }
+    ensures { (ds : List model.Declared) → Tells paths.now marked.now ds → has_identifiers (declared_of paths.now declared.now) ≡ true → are_identifiers (path_of (used_of used.now)).parts ≡ true → Finds paths.now result (used_meant ds (scope_of (declared_of paths.now declared.now)) (used_of used.now)) }
 {
     match used {
         Used::Entity(path) => named(paths, marked.entities.as_slice(), declared.modules, path),

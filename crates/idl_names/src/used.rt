@@ -34,6 +34,15 @@ pub fn used_in<'a>(alloc: Global, body: &'a Declaration) -> Result<Vec<Used<'a>>
     Ok(used)
 }
 
+/// The names that an expression uses.
+pub fn names_in<'a>(alloc: Global, expr: &'a Expr) -> Result<Vec<Used<'a>>, NoMemory>
+    ensures { IfOk result (λ used. all_used_of used.items ≡ values_used (model.expr_paths (expr_of expr.now))) }
+{
+    let mut used = Vec::new(alloc);
+    add_expr(&mut used, expr)?;
+    Ok(used)
+}
+
 #[tactic(auto, unfolding(idl_meaning_model::specs::Uses::used_in))]
 fn add_declaration<'a>(used: &mut Vec<Used<'a>>, body: &'a Declaration) -> Result<(), NoMemory>
     ensures { OnOk result (AddsUsed used.old.items (model.used_in (declaration_of body.now)) used.new.items) }

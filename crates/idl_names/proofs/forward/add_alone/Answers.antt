@@ -1,4 +1,4 @@
-use Rattle.std.proofs.Common.{◌≡◌, ◌∙◌, [], ◌∷◌, sym}
+use Rattle.std.proofs.Common.{◌∙◌, [], ◌∷◌, sym}
 use Rattle.idl_meaning_model.specs.NameFaults.{has_interface}
 use Rattle.idl_names.specs.Alone.{alone_among}
 use Rattle.idl_names.specs.Collected.{declared_of}

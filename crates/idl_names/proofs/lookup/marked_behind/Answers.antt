@@ -1,4 +1,4 @@
-use Rattle.std.proofs.Common.{◌≡◌, ◌∙◌, sym}
+use Rattle.std.proofs.Common.{◌∙◌, sym}
 use Rattle.idl_names.proofs.LookupLemmas.{there_none, there_not, there_is}
 use Rattle.idl_names.proofs.lookup.marked_behind.Goals as goal
 

@@ -1,4 +1,4 @@
-use Rattle.std.proofs.Common.{◌≡◌, ◌∙◌, sym}
+use Rattle.std.proofs.Common.{◌∙◌, sym}
 use Rattle.idl_names.proofs.LookupLemmas.{outwards_first, outwards_past, outwards_rest, outwards_seen}
 use Rattle.idl_names.proofs.lookup.named_outwards.Goals as goal
 

@@ -1,4 +1,3 @@
-use Rattle.std.proofs.Common.{◌≡◌, slice_get}
 use Rattle.std.proofs.lemmas.Option.{slice_get_within}
 use Rattle.idl_names.specs.Collected.{declared_of}
 use Rattle.idl_names.specs.Opened.{own_path}

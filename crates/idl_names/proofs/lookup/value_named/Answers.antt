@@ -1,4 +1,4 @@
-use Rattle.std.proofs.Common.{◌≡◌, ◌∙◌, ap, length, refl, sym}
+use Rattle.std.proofs.Common.{◌∙◌, ap, length, refl, sym}
 use Rattle.idl_names.specs.Collected.{declared_of}
 use Rattle.idl_names.proofs.LookupLemmas.{value_one, value_more}
 use Rattle.idl_names.proofs.lookup.value_named.Goals as goal

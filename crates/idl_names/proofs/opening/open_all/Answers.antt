@@ -1,4 +1,4 @@
-use Rattle.std.proofs.Common.{◌≡◌, length, ◌≤◌, map, arith, subst}
+use Rattle.std.proofs.Common.{length, ◌≤◌, arith}
 use Rattle.idl_names.proofs.OpenLemmas.{opens_none, opens_read, opens_all, opens_low}
 use Rattle.idl_names.proofs.opening.open_all.Goals as goal
 

@@ -1,5 +1,4 @@
-use Rattle.std.proofs.Common.{◌≡◌, map, slice_get, Some, take}
-use Rattle.idl_names.specs.Collected.{Keep}
+use Rattle.std.proofs.Common.{map, take}
 use Rattle.idl_names.proofs.OpenLemmas.{OpensTo}
 use Rattle.idl_names.proofs.opening.open_all.Given as goal
 

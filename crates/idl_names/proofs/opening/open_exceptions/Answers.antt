@@ -1,4 +1,4 @@
-use Rattle.std.proofs.Common.{[], ◌∷◌, ◌++◌, codes}
+use Rattle.std.proofs.Common.{[], ◌∷◌, codes}
 use Rattle.idl_names.specs.Opened.{star}
 use Rattle.idl_names.proofs.CollectedLemmas.{on_ok}
 use Rattle.idl_names.proofs.OpenLemmas.{first_kept, numbers_both}

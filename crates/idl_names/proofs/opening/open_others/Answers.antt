@@ -1,5 +1,3 @@
-use Rattle.std.proofs.Common.{◌∙◌, ap, map, refl, subst, sym}
-use Rattle.idl_names.specs.Collected.{declared_of}
 use Rattle.idl_names.proofs.CollectedLemmas.{all_numbers_kept, kept_both}
 use Rattle.idl_names.proofs.OpenLemmas.{first_kept, has_opened}
 use Rattle.idl_names.proofs.opening.open_others.Goals as goal

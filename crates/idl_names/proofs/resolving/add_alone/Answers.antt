@@ -1,4 +1,4 @@
-use Rattle.std.proofs.Common.{◌≡◌, ◌∙◌, map, sym, subst}
+use Rattle.std.proofs.Common.{map, sym, subst}
 use Rattle.idl_meaning_model.specs.NameFaults.{has_interface}
 use Rattle.idl_names.specs.Collected.{declared_of}
 use Rattle.idl_names.specs.Faults.{AddsFaults}

@@ -1,4 +1,4 @@
-use Rattle.std.proofs.Common.{◌≡◌, ◌∙◌, map, sym, subst}
+use Rattle.std.proofs.Common.{map, sym, subst}
 use Rattle.idl_meaning_model.specs.Scopes.{is_built_in}
 use Rattle.idl_names.specs.Alone.{HasLeasts}
 use Rattle.idl_names.specs.Collected.{declared_of}

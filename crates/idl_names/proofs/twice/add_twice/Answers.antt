@@ -1,8 +1,6 @@
-use Rattle.std.proofs.Common.{◌≡◌, ◌∙◌, [], ◌∷◌, None, Some, sym, ap, option_map}
-use Rattle.idl_meaning_model.specs.Declarations.{full_name}
-use Rattle.idl_meaning_model.specs.NameFaults.{first_before, places_declared, twice_by}
+use Rattle.std.proofs.Common.{◌∙◌, [], ◌∷◌, None, Some, sym, ap, option_map}
 use Rattle.idl_meaning_model.specs.Scopes.{is_built_in}
-use Rattle.idl_names.specs.Alone.{if_before, twice_among}
+use Rattle.idl_names.specs.Alone.{twice_among}
 use Rattle.idl_names.specs.Collected.{declared_of}
 use Rattle.idl_names.proofs.AloneLemmas.{adds_nothing, adds_one, answer_at, first_noted, twice_built_in, twice_first, twice_forward}
 use Rattle.idl_names.proofs.twice.add_twice.Goals as goal

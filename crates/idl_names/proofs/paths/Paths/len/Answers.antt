@@ -1,4 +1,4 @@
-use Rattle.std.proofs.Common.{◌≡◌, ◌+◌, ap, length, slice_get, Some, subst, suc, sym, arith}
+use Rattle.std.proofs.Common.{◌≡◌, ap, length, slice_get, Some, subst, sym, arith}
 use Rattle.std.proofs.lemmas.List.{length-map}
 use Rattle.idl_names.specs.Paths.{inside_of, paths_of}
 use Rattle.idl_names.proofs.PathLaws.{how_many, one_path}

@@ -1,9 +1,9 @@
-use Rattle.std.proofs.Common.{◌≡◌, ◌∙◌, map, length, sym, subst}
+use Rattle.std.proofs.Common.{map}
 use Rattle.idl_names.specs.Collected.{declared_of}
 use Rattle.idl_names.proofs.OpenLemmas.{at_low_for}
 use Rattle.idl_names.proofs.ResolveLemmas.{paths_low}
 use Rattle.idl_names.proofs.StandLemmas.{entity_answers, value_answers, value_paths_right}
-use Rattle.idl_names.proofs.resolving.add_uses.Goals as goal
+use Rattle.idl_names.proofs.resolving.marks.Goals as goal
 use Rattle.idl_names.specs.Opened.{built_in_exceptions, built_in_interfaces, value_paths}
 
 pub entity_marks-requires-clause-interfaces : goal.entity_marks-requires-clause-interfaces
@@ -22,11 +22,9 @@ value_marks-requires c =
 pub returns : goal.returns
 returns c =
     let ds = map (declared_of c.args.paths.now) c.args.all.now in
-    c.in_ok-tell_all.ensures ds
-    (record {
+    record {
       entities = entity_answers c.args.paths.now c.len-count.ensures.once c.args.all.now c.requires.numbers c.requires.identifiers c.args.opened.now c.requires.opened c.len-count.result c.in_ok-entities.entities.items c.in_ok-entities.ensures;
       values =
           value_answers c.args.paths.now c.len-count.ensures.once c.args.all.now c.requires.numbers c.requires.identifiers c.args.opened.now c.requires.opened c.len-count.result c.in_ok-values.values.items
           (value_paths_right ds c.requires.identifiers) c.in_ok-values.ensures;
-    })
-    c.requires.identifiers c.requires.spelled
+    }
