@@ -1,1 +1,1 @@
-mod ChoosingLemmas
+pub mod ChoosingLemmas

@@ -1,0 +1,7 @@
+use Rattle.std.proofs.Common.{◌≡◌}
+use Rattle.bridge_world.specs.Joined.{end_at}
+use Rattle.bridge_world.proofs.EndCalls.{seen_by}
+use Rattle.bridge_world.proofs.ends.WorldEnds.end.Goals as goal
+
+pub returns : goal.returns
+returns c = seen_by c.end_of.result.now (end_at c.args.self.now c.args.side) c.end_of.ensures.setting c.end_of.ensures.side (λ g s. c.end.result ≡ s.cause) c.end.ensures

@@ -1,0 +1,128 @@
+use Rattle.std.proofs.Common.{◌≡◌, ◌≢◌, refl, sym, subst, ℕ, ◌+◌, List, length, take, drop}
+use Rattle.bridge_endpoint.specs.Answering.{fed_told}
+use Rattle.bridge_endpoint.specs.Entering.{fed_by}
+use Rattle.bridge_endpoint.specs.Journals.{setting_at, side_at}
+use Rattle.bridge_model.specs.Answers.{feed_answer, next_cut, no_room}
+use Rattle.bridge_world.specs.Joined.{end_at, joined, taken_with}
+use Rattle.bridge_world.specs.Worlds.{IsWorld}
+use Rattle.bridge_world.proofs.EndCalls.{calls_a, calls_b, is_seen, marked_a, marked_b, world_a, world_b}
+use Rattle.bridge_world.proofs.PipingCalls.{fed_seen, goes_in, left_a, left_b, never_breaks, on_way_a, on_way_b, whole_at_a, whole_at_b}
+use Rattle.bridge_world.proofs.world.World.feed_first.Goals as goal
+
+pub returns-in-A-clause-answer : goal.returns-in-A-clause-answer
+returns-in-A-clause-answer c =
+    let w = c.self.inside in
+    let m = c.mark.new.end in
+    let before = marked_a w.a w.b w.to_a.items w.to_b.items c.self.invariant c.args.self.now c.self.view_is c.args.side c.in-A.is m c.mark.ensures in
+    subst (λ (ws : List ℕ). fed_told c.carry.result ≢ no_room → fed_told c.carry.result ≡ feed_answer (setting_at (end_at c.args.self.now c.args.side)) (side_at (end_at c.args.self.now c.args.side)) (take c.args.count ws)) (sym (on_way_a w.a w.b w.to_a.items w.to_b.items c.self.invariant c.args.self.now c.self.view_is c.args.side c.in-A.is))
+    (is_seen m (end_at c.args.self.now c.args.side) before (λ g z. fed_told c.carry.result ≢ no_room → fed_told c.carry.result ≡ feed_answer g z (take c.args.count w.to_a.items)) c.carry.ensures.answer)
+
+pub returns-in-A-clause-entered : goal.returns-in-A-clause-entered
+returns-in-A-clause-entered c =
+    let w = c.self.inside in
+    let m = c.mark.new.end in
+    let e = c.carry.new.end in
+    let r = c.carry.result in
+    let whole = whole_at_a w.a w.b w.to_a.items w.to_b.items c.self.invariant c.args.self.now c.self.view_is c.know.ensures.a c.know.ensures.b (length w.a.entries + length w.b.entries) m c.mark.ensures in
+    let goes = goes_in m w.to_a.items w.to_b.items (take c.args.count w.to_a.items) c.args.count (refl) r c.carry.ensures.answer whole e c.carry.ensures.entered in
+    let calls = calls_a w.a w.b w.to_a.items w.to_b.items c.self.invariant c.args.self.now c.self.view_is c.args.side c.in-A.is m c.mark.ensures e (drop (taken_with r) w.to_a.items) w.to_b.items goes in
+    subst (λ (ws : List ℕ). end_at (joined e w.b) c.args.side ≡ fed_by r (next_cut (side_at (end_at c.args.self.now c.args.side)) (take c.args.count ws)) (end_at c.args.self.now c.args.side)) (sym (on_way_a w.a w.b w.to_a.items w.to_b.items c.self.invariant c.args.self.now c.self.view_is c.args.side c.in-A.is)) (fed_seen c.args.side c.args.self.now (joined e w.b) m e calls r (take c.args.count w.to_a.items) c.carry.ensures.entered)
+
+pub returns-in-A-clause-left : goal.returns-in-A-clause-left
+returns-in-A-clause-left c =
+    let w = c.self.inside in
+    let m = c.mark.new.end in
+    let e = c.carry.new.end in
+    let r = c.carry.result in
+    let whole = whole_at_a w.a w.b w.to_a.items w.to_b.items c.self.invariant c.args.self.now c.self.view_is c.know.ensures.a c.know.ensures.b (length w.a.entries + length w.b.entries) m c.mark.ensures in
+    let goes = goes_in m w.to_a.items w.to_b.items (take c.args.count w.to_a.items) c.args.count (refl) r c.carry.ensures.answer whole e c.carry.ensures.entered in
+    left_a w.a w.b w.to_a.items w.to_b.items c.self.invariant c.args.self.now c.self.view_is c.args.side c.in-A.is e (taken_with r) w.to_b.items (world_a w.a w.b w.to_a.items w.to_b.items c.self.invariant c.args.self.now c.self.view_is c.args.side c.in-A.is m c.mark.ensures e (drop (taken_with r) w.to_a.items) w.to_b.items goes)
+
+pub returns-in-A-clause-unbroken : goal.returns-in-A-clause-unbroken
+returns-in-A-clause-unbroken c =
+    let w = c.self.inside in
+    let m = c.mark.new.end in
+    let e = c.carry.new.end in
+    let r = c.carry.result in
+    let whole = whole_at_a w.a w.b w.to_a.items w.to_b.items c.self.invariant c.args.self.now c.self.view_is c.know.ensures.a c.know.ensures.b (length w.a.entries + length w.b.entries) m c.mark.ensures in
+    never_breaks m w.to_a.items w.to_b.items (take c.args.count w.to_a.items) c.args.count refl r c.carry.ensures.answer whole
+
+pub returns-in-A-clause-history : goal.returns-in-A-clause-history
+returns-in-A-clause-history c =
+    let w = c.self.inside in
+    let m = c.mark.new.end in
+    let e = c.carry.new.end in
+    let r = c.carry.result in
+    let whole = whole_at_a w.a w.b w.to_a.items w.to_b.items c.self.invariant c.args.self.now c.self.view_is c.know.ensures.a c.know.ensures.b (length w.a.entries + length w.b.entries) m c.mark.ensures in
+    let goes = goes_in m w.to_a.items w.to_b.items (take c.args.count w.to_a.items) c.args.count (refl) r c.carry.ensures.answer whole e c.carry.ensures.entered in
+    let calls = calls_a w.a w.b w.to_a.items w.to_b.items c.self.invariant c.args.self.now c.self.view_is c.args.side c.in-A.is m c.mark.ensures e (drop (taken_with r) w.to_a.items) w.to_b.items goes in
+    calls.grows
+
+pub invariant_of-self : goal.invariant_of-self
+invariant_of-self c =
+    let w = c.self.inside in
+    let m = c.mark.new.end in
+    let e = c.carry.new.end in
+    let r = c.carry.result in
+    let whole = whole_at_a w.a w.b w.to_a.items w.to_b.items c.self.invariant c.args.self.now c.self.view_is c.know.ensures.a c.know.ensures.b (length w.a.entries + length w.b.entries) m c.mark.ensures in
+    let goes = goes_in m w.to_a.items w.to_b.items (take c.args.count w.to_a.items) c.args.count (refl) r c.carry.ensures.answer whole e c.carry.ensures.entered in
+    subst (λ (ws : List ℕ). IsWorld e w.b ws w.to_b.items) (sym c.carry.ensures.taken) (world_a w.a w.b w.to_a.items w.to_b.items c.self.invariant c.args.self.now c.self.view_is c.args.side c.in-A.is m c.mark.ensures e (drop (taken_with r) w.to_a.items) w.to_b.items goes)
+
+pub returns-in-B-clause-answer : goal.returns-in-B-clause-answer
+returns-in-B-clause-answer c =
+    let w = c.self.inside in
+    let m = c.mark-in-B.new.end in
+    let before = marked_b w.a w.b w.to_a.items w.to_b.items c.self.invariant c.args.self.now c.self.view_is c.args.side c.in-B.is m c.mark-in-B.ensures in
+    subst (λ (ws : List ℕ). fed_told c.carry-in-B.result ≢ no_room → fed_told c.carry-in-B.result ≡ feed_answer (setting_at (end_at c.args.self.now c.args.side)) (side_at (end_at c.args.self.now c.args.side)) (take c.args.count ws)) (sym (on_way_b w.a w.b w.to_a.items w.to_b.items c.self.invariant c.args.self.now c.self.view_is c.args.side c.in-B.is))
+    (is_seen m (end_at c.args.self.now c.args.side) before (λ g z. fed_told c.carry-in-B.result ≢ no_room → fed_told c.carry-in-B.result ≡ feed_answer g z (take c.args.count w.to_b.items)) c.carry-in-B.ensures.answer)
+
+pub returns-in-B-clause-entered : goal.returns-in-B-clause-entered
+returns-in-B-clause-entered c =
+    let w = c.self.inside in
+    let m = c.mark-in-B.new.end in
+    let e = c.carry-in-B.new.end in
+    let r = c.carry-in-B.result in
+    let whole = whole_at_b w.a w.b w.to_a.items w.to_b.items c.self.invariant c.args.self.now c.self.view_is c.know.ensures.a c.know.ensures.b (length w.b.entries + length w.a.entries) m c.mark-in-B.ensures in
+    let goes = goes_in m w.to_b.items w.to_a.items (take c.args.count w.to_b.items) c.args.count (refl) r c.carry-in-B.ensures.answer whole e c.carry-in-B.ensures.entered in
+    let calls = calls_b w.a w.b w.to_a.items w.to_b.items c.self.invariant c.args.self.now c.self.view_is c.args.side c.in-B.is m c.mark-in-B.ensures e (drop (taken_with r) w.to_b.items) w.to_a.items goes in
+    subst (λ (ws : List ℕ). end_at (joined w.a e) c.args.side ≡ fed_by r (next_cut (side_at (end_at c.args.self.now c.args.side)) (take c.args.count ws)) (end_at c.args.self.now c.args.side)) (sym (on_way_b w.a w.b w.to_a.items w.to_b.items c.self.invariant c.args.self.now c.self.view_is c.args.side c.in-B.is)) (fed_seen c.args.side c.args.self.now (joined w.a e) m e calls r (take c.args.count w.to_b.items) c.carry-in-B.ensures.entered)
+
+pub returns-in-B-clause-left : goal.returns-in-B-clause-left
+returns-in-B-clause-left c =
+    let w = c.self.inside in
+    let m = c.mark-in-B.new.end in
+    let e = c.carry-in-B.new.end in
+    let r = c.carry-in-B.result in
+    let whole = whole_at_b w.a w.b w.to_a.items w.to_b.items c.self.invariant c.args.self.now c.self.view_is c.know.ensures.a c.know.ensures.b (length w.b.entries + length w.a.entries) m c.mark-in-B.ensures in
+    let goes = goes_in m w.to_b.items w.to_a.items (take c.args.count w.to_b.items) c.args.count (refl) r c.carry-in-B.ensures.answer whole e c.carry-in-B.ensures.entered in
+    left_b w.a w.b w.to_a.items w.to_b.items c.self.invariant c.args.self.now c.self.view_is c.args.side c.in-B.is e (taken_with r) w.to_a.items (world_b w.a w.b w.to_a.items w.to_b.items c.self.invariant c.args.self.now c.self.view_is c.args.side c.in-B.is m c.mark-in-B.ensures e (drop (taken_with r) w.to_b.items) w.to_a.items goes)
+
+pub returns-in-B-clause-unbroken : goal.returns-in-B-clause-unbroken
+returns-in-B-clause-unbroken c =
+    let w = c.self.inside in
+    let m = c.mark-in-B.new.end in
+    let e = c.carry-in-B.new.end in
+    let r = c.carry-in-B.result in
+    let whole = whole_at_b w.a w.b w.to_a.items w.to_b.items c.self.invariant c.args.self.now c.self.view_is c.know.ensures.a c.know.ensures.b (length w.b.entries + length w.a.entries) m c.mark-in-B.ensures in
+    never_breaks m w.to_b.items w.to_a.items (take c.args.count w.to_b.items) c.args.count refl r c.carry-in-B.ensures.answer whole
+
+pub returns-in-B-clause-history : goal.returns-in-B-clause-history
+returns-in-B-clause-history c =
+    let w = c.self.inside in
+    let m = c.mark-in-B.new.end in
+    let e = c.carry-in-B.new.end in
+    let r = c.carry-in-B.result in
+    let whole = whole_at_b w.a w.b w.to_a.items w.to_b.items c.self.invariant c.args.self.now c.self.view_is c.know.ensures.a c.know.ensures.b (length w.b.entries + length w.a.entries) m c.mark-in-B.ensures in
+    let goes = goes_in m w.to_b.items w.to_a.items (take c.args.count w.to_b.items) c.args.count (refl) r c.carry-in-B.ensures.answer whole e c.carry-in-B.ensures.entered in
+    let calls = calls_b w.a w.b w.to_a.items w.to_b.items c.self.invariant c.args.self.now c.self.view_is c.args.side c.in-B.is m c.mark-in-B.ensures e (drop (taken_with r) w.to_b.items) w.to_a.items goes in
+    calls.grows
+
+pub invariant_of-self-in-B : goal.invariant_of-self-in-B
+invariant_of-self-in-B c =
+    let w = c.self.inside in
+    let m = c.mark-in-B.new.end in
+    let e = c.carry-in-B.new.end in
+    let r = c.carry-in-B.result in
+    let whole = whole_at_b w.a w.b w.to_a.items w.to_b.items c.self.invariant c.args.self.now c.self.view_is c.know.ensures.a c.know.ensures.b (length w.b.entries + length w.a.entries) m c.mark-in-B.ensures in
+    let goes = goes_in m w.to_b.items w.to_a.items (take c.args.count w.to_b.items) c.args.count (refl) r c.carry-in-B.ensures.answer whole e c.carry-in-B.ensures.entered in
+    subst (λ (ws : List ℕ). IsWorld w.a e w.to_a.items ws) (sym c.carry-in-B.ensures.taken) (world_b w.a w.b w.to_a.items w.to_b.items c.self.invariant c.args.self.now c.self.view_is c.args.side c.in-B.is m c.mark-in-B.ensures e (drop (taken_with r) w.to_b.items) w.to_a.items goes)

@@ -1,0 +1,5 @@
+pub mod Doing
+pub mod Joined
+pub mod Marks
+pub mod Playing
+pub mod Worlds

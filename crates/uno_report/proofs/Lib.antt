@@ -1,0 +1,4 @@
+pub mod Pieces
+pub mod Saying
+pub mod Summing
+pub mod Totals
