@@ -17,8 +17,8 @@ use Rattle.bridge_model.specs.Orders.{Working, begins_work, works_once, goes_on_
 use Rattle.bridge_model.specs.Settings.{Setting}
 use Rattle.bridge_model.specs.declared.cause.Cause.{Cause}
 use Rattle.bridge_model.specs.declared.cause.Cause.TheVariants as cause
-use Rattle.answer_laws.proofs.RestingLaws.{rests_once}
-use Rattle.answer_laws.specs.Working.{IsDone}
+use Rattle.bridge_laws.proofs.RestingLaws.{rests_once}
+use Rattle.bridge_laws.specs.Working.{IsDone}
 use Rattle.answering.specs.Answering.{AnsweredWhole, GoesOnTelling, Had, no_more, more, InputEnded, WasRead}
 use Rattle.command_words.specs.Names.{Text}
 use Rattle.uno_run.specs.Answer.{AnswerRun, FilesServed, IsIdle, IsOf, LacksPlan, OwnRun, RefusedPlan, Served, WasServed}
@@ -147,13 +147,13 @@ is_setting : (g : Setting) (tag : List ℕ) (registry : List Entity) (plan : Pla
     → g ≡ record { tag = tag; registry = registry; plan = plan }
 is_setting g tag registry plan tagged same planned = rw (sym tagged, sym same, sym planned) refl
 
-same_registry : (text : List ℕ) (one other : List Entity) → IsRegistryText text one → IsRegistryText text other → one ≡ other
+pub same_registry : (text : List ℕ) (one other : List Entity) → IsRegistryText text one → IsRegistryText text other → one ≡ other
 same_registry text one other a b =
     let x = a.accepted in
     let y = b.accepted in
     one_registry one other x.keeps y.keeps x.built_in y.built_in x.rising y.rising (x.text ∙ sym y.text)
 
-one_verdict : (reg : List Entity) (text : List ℕ) (out other : Result Plan Wrong) → IsVerdict reg text out → IsVerdict reg text other → out ≡ other
+pub one_verdict : (reg : List Entity) (text : List ℕ) (out other : Result Plan Wrong) → IsVerdict reg text out → IsVerdict reg text other → out ≡ other
 one_verdict reg text out other = texts_have_one reg text out other (says_one reg)
 
 one_setting : (types plan tag : List ℕ) (g h : Setting) → IsOf types plan tag g → IsOf types plan tag h → g ≡ h
@@ -183,7 +183,7 @@ module _ {I O : Type 0} (left : I → Option (List ℕ)) (reads : I → ℕ) (ta
   own_ends types plan tag is (inr none) = inr none.0
 
 -- what is told of a file is one
-one_text : (store : Option Stored) (name : Text) (files : Stored) (one other : Option (List ℕ)) → store ≡ Some files
+pub one_text : (store : Option Stored) (name : Text) (files : Stored) (one other : Option (List ℕ)) → store ≡ Some files
     → Tells store name one → Tells store name other → one ≡ other
 one_text store name files one other stores told there = sym (told files stores) ∙ there files stores
 

@@ -6,7 +6,7 @@ use Rattle.bridge_model.specs.Histories.{Told}
 use Rattle.bridge_model.specs.Settings.{Setting}
 use Rattle.bridge_model.specs.declared.cause.Cause.{Cause}
 use Rattle.bridge_model.specs.declared.cause.Cause.TheVariants as cause
-use Rattle.answer_laws.specs.Working.{IsDone}
+use Rattle.bridge_laws.specs.Working.{IsDone}
 use Rattle.answering.specs.Answering.{InputEnded}
 use Rattle.command_words.specs.Names.{Text}
 use Rattle.uno_run.specs.Answer.{IsOfFiles}

@@ -1,9 +1,13 @@
 pub mod Answer
+pub mod Drill
 pub mod Ending
 pub mod Idl
+pub mod Joining
 pub mod Lines
 pub mod Own
+pub mod Pair
 pub mod Printing
+pub mod Promises
 pub mod Reading
 pub mod Serving
 pub mod SettingUp

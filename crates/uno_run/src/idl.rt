@@ -50,7 +50,7 @@ fn print_registry<O: Sink>(alloc: Global, registry: &Registry, output: &mut O) -
 }
 
 /// Writes a text.
-fn write_text<O: Sink>(text: &[u8], output: &mut O) -> Status
+pub(crate) fn write_text<O: Sink>(text: &[u8], output: &mut O) -> Status
     ensures written { TextWritten text.now (O.taken output.old) (O.taken output.new) (O.faults output.old) (O.faults output.new) result }
     ensures no_words { result ≢ Status.Words }
     ensures stays { O.closed output.new ≡ O.closed output.old }

@@ -2,7 +2,7 @@
 ghost use Rattle.std.specs.Prelude.{◌≡◌, ◌⊎◌, ℕ, Bool, List};
 ghost use Rattle.bridge_model.specs.Histories.{Told};
 ghost use Rattle.bridge_model.specs.Settings.{Setting};
-ghost use Rattle.answer_laws.specs.Working.{IsDone};
+ghost use Rattle.bridge_laws.specs.Working.{IsDone};
 ghost use Rattle.answering.specs.Answering.{InputEnded};
 ghost use Rattle.command_words.specs.Names.{Text};
 ghost use Rattle.uno_run.specs.Answer.{AnswerRun, IsOf, OwnRun};

@@ -1,12 +1,17 @@
 //! The top call: what the command's words ask, over the outside that is handed in.
 #![tactic(auto)]
 
+mod drill;
+mod drill_plans;
 mod files;
 mod idl;
+mod joining;
 mod laws;
 mod lines;
 mod own;
+mod pair;
 mod reason;
+mod running;
 mod serving;
 mod setting_up;
 mod status;

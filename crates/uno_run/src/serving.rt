@@ -86,7 +86,7 @@ fn runs_of(alloc: Global, end: &Endpoint) -> Result<Vec<RootRun>, NoMemory>
 
 /// The roots of so many threads at their beginnings.
 #[tactic(auto, unfolding(bridge_model::specs::Orders::first_runs))]
-fn openings(alloc: Global, count: usize) -> Result<Vec<RootRun>, NoMemory>
+pub(crate) fn openings(alloc: Global, count: usize) -> Result<Vec<RootRun>, NoMemory>
     ensures { IfOk result (λ runs. (threads : List (List RootStatement)) → length threads ≡ count → map run_of runs.items ≡ first_runs 1 threads) }
 {
     let mut runs = Vec::new(alloc);

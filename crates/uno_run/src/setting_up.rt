@@ -71,7 +71,11 @@ pub(crate) fn end_of_files<F: Files>(
 }
 
 /// The registry whose text the first file is.
-fn registry_of<F: Files>(alloc: Global, types: &str, files: &mut F) -> Result<Registry, Status>
+pub(crate) fn registry_of<F: Files>(
+    alloc: Global,
+    types: &str,
+    files: &mut F,
+) -> Result<Registry, Status>
     ensures is_of { IfOk result (IsOfFile (F.stored files.old) types.now) }
     ensures sound { IfOk result IsSound }
     ensures names { IfOk result NamesDiffer }
@@ -86,7 +90,7 @@ fn registry_of<F: Files>(alloc: Global, types: &str, files: &mut F) -> Result<Re
 }
 
 /// The registry of a text.
-fn registry_in(alloc: Global, text: &[u8]) -> Result<Registry, Status>
+pub(crate) fn registry_in(alloc: Global, text: &[u8]) -> Result<Registry, Status>
     ensures is_of { IfOk result (IsRegistryText text.now) }
     ensures sound { IfOk result IsSound }
     ensures names { IfOk result NamesDiffer }

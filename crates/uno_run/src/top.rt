@@ -1,16 +1,20 @@
 //! The top call.
-ghost use Rattle.std.specs.Prelude.{◌≡◌, ◌≢◌, ◌↔◌, [], ◌∷◌, map, string_bytes, false, Some};
+ghost use Rattle.std.specs.Prelude.{◌≡◌, ◌≢◌, ◌↔◌, ℕ, [], ◌∷◌, map, string_bytes, false, Option, None, Some};
 ghost use Rattle.command_words.specs.Names.{Text};
-ghost use Rattle.command_words.specs.Forms.{answer, answer_plan, idl, order_in, order_of};
+ghost use Rattle.command_words.specs.Forms.{answer, answer_plan, drill, idl, order_in, order_of, pair};
 ghost use Rattle.uno_run.specs.Answer.{AnswerRun, OwnRun};
+ghost use Rattle.uno_run.specs.Drill.{DrillRun};
 ghost use Rattle.uno_run.specs.Idl.{IdlRun};
 ghost use Rattle.uno_run.specs.Lines.{line_of, Printed};
 ghost use Rattle.uno_run.specs.Own.{own_plan, own_types};
-ghost use Rattle.uno_run.specs.Words.{IsAnswer, IsAnswerPlan, IsIdl, files_of, is_served};
+ghost use Rattle.uno_run.specs.Pair.{PairRun};
+ghost use Rattle.uno_run.specs.Words.{IsAnswer, IsAnswerPlan, IsDrill, IsIdl, IsPair, files_of, is_served};
 
 use crate::Status;
+use crate::drill::drill;
 use crate::idl::idl;
 use crate::lines::report;
+use crate::pair::pair;
 use crate::serving::serve;
 use crate::setting_up::{end_of_files, own_end};
 use command_words::{Command, WordsError, read_words};
@@ -35,6 +39,8 @@ pub fn run<R, F: Files, I: Source, O: Sink, E: Sink>(
     ensures answer { IsAnswer words.now → (files.new ≡ files.old) × OwnRun I.left I.faults O.taken O.faults own_types own_plan tag.now input.old input.new output.old output.new result }
     ensures answer_plan { (types plan : Text) → IsAnswerPlan words.now types plan → AnswerRun F.stored F.faults I.left I.faults O.taken O.faults types plan tag.now files.old files.new input.old input.new output.old output.new result }
     ensures idl { (types : Text) → IsIdl words.now types → (input.new ≡ input.old) × IdlRun F.stored F.faults O.taken O.faults types files.old files.new output.old output.new result }
+    ensures pair { (types plan_a plan_b : Text) (seed : Option ℕ) (cut : ℕ) → IsPair words.now types plan_a plan_b seed cut → (input.new ≡ input.old) × PairRun F.stored F.faults O.taken O.faults types plan_a plan_b seed cut files.old files.new output.old output.new result }
+    ensures drill { (rounds seed : ℕ) → IsDrill words.now rounds seed → (files.new ≡ files.old) × (input.new ≡ input.old) × DrillRun O.taken O.faults rounds seed output.old output.new result }
     ensures stays { (O.closed output.new ≡ O.closed output.old) × (E.closed errors.new ≡ E.closed errors.old) }
     ensures line { Printed (E.faults errors.old) (E.faults errors.new) (E.taken errors.old) (E.taken errors.new) (line_of (files_of (order_of (map string_bytes words.now))) result) }
 {
@@ -61,6 +67,8 @@ fn obey<F: Files, I: Source, O: Sink, E: Sink>(
     ensures answer { Some (order_in command.now) ≡ Some answer → (files.new ≡ files.old) × OwnRun I.left I.faults O.taken O.faults own_types own_plan tag.now input.old input.new output.old output.new result }
     ensures answer_plan { (types plan : Text) → Some (order_in command.now) ≡ Some (answer_plan types plan) → AnswerRun F.stored F.faults I.left I.faults O.taken O.faults types plan tag.now files.old files.new input.old input.new output.old output.new result }
     ensures idl { (types : Text) → Some (order_in command.now) ≡ Some (idl types) → (input.new ≡ input.old) × IdlRun F.stored F.faults O.taken O.faults types files.old files.new output.old output.new result }
+    ensures pair { (types plan_a plan_b : Text) (seed : Option ℕ) (cut : ℕ) → Some (order_in command.now) ≡ Some (pair types plan_a plan_b seed cut None) → (input.new ≡ input.old) × PairRun F.stored F.faults O.taken O.faults types plan_a plan_b seed cut files.old files.new output.old output.new result }
+    ensures drill { (rounds seed : ℕ) → Some (order_in command.now) ≡ Some (drill rounds seed) → (files.new ≡ files.old) × (input.new ≡ input.old) × DrillRun O.taken O.faults rounds seed output.old output.new result }
     ensures stays { (O.closed output.new ≡ O.closed output.old) × (E.closed errors.new ≡ E.closed errors.old) }
     ensures line { Printed (E.faults errors.old) (E.faults errors.new) (E.taken errors.old) (E.taken errors.new) (line_of (files_of (Some (order_in command.now))) result) }
 {
@@ -78,10 +86,30 @@ fn obey<F: Files, I: Source, O: Sink, E: Sink>(
         ),
         Command::Idl { types } => run_idl(alloc, types.as_str(), files, output, errors),
         Command::Compile { .. } => unserved(alloc, errors),
-        Command::Pair { .. } => unserved(alloc, errors),
+        Command::Pair {
+            types,
+            plan_a,
+            plan_b,
+            seed,
+            cut,
+            threads,
+        } => match threads {
+            None => run_pair(
+                alloc,
+                types.as_str(),
+                plan_a.as_str(),
+                plan_b.as_str(),
+                *seed,
+                *cut,
+                files,
+                output,
+                errors,
+            ),
+            Some(_) => unserved(alloc, errors),
+        },
         Command::Serve { .. } => unserved(alloc, errors),
         Command::Call { .. } => unserved(alloc, errors),
-        Command::Drill { .. } => unserved(alloc, errors),
+        Command::Drill { rounds, seed } => run_drill(alloc, *rounds, *seed, output, errors),
     }
 }
 
@@ -109,6 +137,44 @@ fn run_idl<F: Files, O: Sink, E: Sink>(
 {
     let status = idl(alloc, types, files, output);
     report(alloc, &[types], status, errors)
+}
+
+/// `pair`, with its line.
+fn run_pair<F: Files, O: Sink, E: Sink>(
+    alloc: Global,
+    types: &str,
+    plan_a: &str,
+    plan_b: &str,
+    seed: Option<u64>,
+    cut: u64,
+    files: &mut F,
+    output: &mut O,
+    errors: &mut E,
+) -> Status
+    ensures run { PairRun F.stored F.faults O.taken O.faults types.now plan_a.now plan_b.now seed cut files.old files.new output.old output.new result }
+    ensures no_words { result ≢ Status.Words }
+    ensures stays { (O.closed output.new ≡ O.closed output.old) × (E.closed errors.new ≡ E.closed errors.old) }
+    ensures line { Printed (E.faults errors.old) (E.faults errors.new) (E.taken errors.old) (E.taken errors.new) (line_of (types.now ∷ plan_a.now ∷ plan_b.now ∷ []) result) }
+{
+    let status = pair(alloc, types, plan_a, plan_b, seed, cut, files, output);
+    report(alloc, &[types, plan_a, plan_b], status, errors)
+}
+
+/// `drill`, with its line.
+fn run_drill<O: Sink, E: Sink>(
+    alloc: Global,
+    rounds: u64,
+    seed: u64,
+    output: &mut O,
+    errors: &mut E,
+) -> Status
+    ensures run { DrillRun O.taken O.faults rounds seed output.old output.new result }
+    ensures no_words { result ≢ Status.Words }
+    ensures stays { (O.closed output.new ≡ O.closed output.old) × (E.closed errors.new ≡ E.closed errors.old) }
+    ensures line { Printed (E.faults errors.old) (E.faults errors.new) (E.taken errors.old) (E.taken errors.new) (line_of [] result) }
+{
+    let status = drill(alloc, rounds, seed, output);
+    report(alloc, &[], status, errors)
 }
 
 /// `answer` alone, with its line.
