@@ -55,7 +55,7 @@ leads_there reg a b (step from to has) = step_there reg from to (find_entity fro
 leads_there reg a b (on from next to has more) = step_there reg from next (find_entity from reg) refl has
 
 -- a way of names is a way of places
-leads_places : (reg : List Entity) (a b : List ℕ) (i j : ℕ) → Leads (leads_on_to reg) a b → place_of a reg ≡ Some i → place_of b reg ≡ Some j → Leads (steps reg) i j
+pub leads_places : (reg : List Entity) (a b : List ℕ) (i j : ℕ) → Leads (leads_on_to reg) a b → place_of a reg ≡ Some i → place_of b reg ≡ Some j → Leads (steps reg) i j
 leads_places reg a b i j (step from to has) at_a at_b = step i j (step_places reg from to i j has at_a at_b)
 leads_places reg a b i j (on from next to has more) at_a at_b =
     let mid = leads_there reg next to more in
@@ -76,12 +76,12 @@ step_names reg i j e f rising at_i at_j has =
     let at_found : Contains (leads_on reg (find_entity e.name reg)) found.0 = subst (λ o. Contains (leads_on reg o) found.0) (sym (named_there reg i e rising at_i)) found.1 in
     subst (λ n. Contains (leads_on reg (find_entity e.name reg)) n) name at_found
 
-place_there : (reg : List Entity) (i j : ℕ) → Leads (steps reg) i j → (e : Entity) × (slice_get reg i ≡ Some e)
+pub place_there : (reg : List Entity) (i j : ℕ) → Leads (steps reg) i j → (e : Entity) × (slice_get reg i ≡ Some e)
 place_there reg i j (step a b has) = row_there (row reg) reg a b has
 place_there reg i j (on a b d has more) = row_there (row reg) reg a b has
 
 -- a way of places is a way of names
-leads_names : (reg : List Entity) (i j : ℕ) (e f : Entity) → IsRising reg → slice_get reg i ≡ Some e → slice_get reg j ≡ Some f
+pub leads_names : (reg : List Entity) (i j : ℕ) (e f : Entity) → IsRising reg → slice_get reg i ≡ Some e → slice_get reg j ≡ Some f
     → Leads (steps reg) i j → Leads (leads_on_to reg) e.name f.name
 leads_names reg i j e f rising at_i at_j (step from to has) = step e.name f.name (step_names reg from to e f rising at_i at_j has)
 leads_names reg i j e f rising at_i at_j (on from next to has more) =
@@ -89,10 +89,10 @@ leads_names reg i j e f rising at_i at_j (on from next to has more) =
     on e.name mid.0.name f.name (step_names reg from next e mid.0 rising at_i mid.1 has) (leads_names reg next to mid.0 f rising mid.1 at_j more)
 
 -- an entity at a place is on a circle where its place is
-on_a_circle : (reg : List Entity) (i : ℕ) (e : Entity) → IsRising reg → slice_get reg i ≡ Some e → Leads (steps reg) i i → ¬ IsOnNoCircle reg e
+pub on_a_circle : (reg : List Entity) (i : ℕ) (e : Entity) → IsRising reg → slice_get reg i ≡ Some e → Leads (steps reg) i i → ¬ IsOnNoCircle reg e
 on_a_circle reg i e rising at way none = none (leads_names reg i i e e rising at at way)
 
-on_no_circle : (reg : List Entity) (i : ℕ) (e : Entity) → IsRising reg → slice_get reg i ≡ Some e → ¬ Leads (steps reg) i i → IsOnNoCircle reg e
+pub on_no_circle : (reg : List Entity) (i : ℕ) (e : Entity) → IsRising reg → slice_get reg i ≡ Some e → ¬ Leads (steps reg) i i → IsOnNoCircle reg e
 on_no_circle reg i e rising at none way =
     let place = place_is reg e.name i e rising at (named_there reg i e rising at) in
     none (leads_places reg e.name e.name i i way place place)

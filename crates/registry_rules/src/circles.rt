@@ -27,7 +27,7 @@ pub fn first_on_a_circle(alloc: Global, entities: &[Entity]) -> Result<Option<us
 }
 
 /// For each entity the places to which it leads.
-fn graph_of_places(alloc: Global, entities: &[Entity]) -> Result<Graph, NoMemory>
+pub fn graph_of_places(alloc: Global, entities: &[Entity]) -> Result<Graph, NoMemory>
     requires { IsRising (entities_of entities.now) }
     ensures { IfOk result (λ graph. graph ≡ rows_of (entities_of entities.now)) }
 {

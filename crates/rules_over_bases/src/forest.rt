@@ -25,7 +25,7 @@ struct Forest {
 }
 
 /// The places of all entities in that order.
-pub(crate) fn bases_first(alloc: Global, entities: &[Entity]) -> Result<Vec<usize>, NoMemory>
+pub fn bases_first(alloc: Global, entities: &[Entity]) -> Result<Vec<usize>, NoMemory>
     requires { IsRising (entities_of entities.now) }
 {
     let forest = forest_of(alloc, entities)?;

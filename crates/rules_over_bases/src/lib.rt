@@ -13,5 +13,8 @@ mod twins;
 mod walk;
 mod whole;
 
+pub use forest::bases_first;
+pub use member::{carrying_base, has_member, needs_base};
+pub use standing::{Standing, standing_of};
 pub use twins::first_with_twins;
 pub use whole::first_not_whole;

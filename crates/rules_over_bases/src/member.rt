@@ -12,7 +12,7 @@ use uno_entities::{Body, Entity, Name, place_in};
 
 /// Whether the entity at a place has a member, if it is a struct or an exception. Where it has, so it is known of all that stand
 /// between it and the one that declares a member.
-pub(crate) fn has_member(entities: &[Entity], place: usize, known: &mut [bool]) -> bool
+pub fn has_member(entities: &[Entity], place: usize, known: &mut [bool]) -> bool
     requires rising { IsRising (entities_of entities.now) }
     requires no_circle { HasNoCircle (leads_to (entities_of entities.now)) }
     requires place { place < length entities.now }
@@ -76,7 +76,7 @@ fn mark_climb(entities: &[Entity], place: usize, known: &mut [bool])
 }
 
 /// Whether it is a struct or an exception with no member of its own.
-fn needs_base(body: &Body) -> bool
+pub fn needs_base(body: &Body) -> bool
     ensures { result ≡ needs_base (body_of body.now) }
 {
     match body {
@@ -86,7 +86,7 @@ fn needs_base(body: &Body) -> bool
 }
 
 /// The place of the base of a struct or an exception, if it is one too.
-fn carrying_base(entities: &[Entity], body: &Body) -> Option<usize>
+pub fn carrying_base(entities: &[Entity], body: &Body) -> Option<usize>
     requires { IsRising (entities_of entities.now) }
     ensures { ClimbsTo (entities_of entities.now) (bases_in (body_of body.now)) result }
 {

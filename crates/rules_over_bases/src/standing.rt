@@ -9,7 +9,7 @@ use uno_entities::{Base, Body, Entity, Name, place_in};
 
 /// On what an entity stands, its optional bases left out.
 #[derive(Clone, Copy)]
-pub(crate) enum Standing {
+pub enum Standing {
     OnNone,
     /// On the one at this place alone.
     OnOne(usize),
@@ -17,7 +17,7 @@ pub(crate) enum Standing {
     Otherwise,
 }
 
-pub(crate) fn standing_of(entities: &[Entity], entity: &Entity) -> Standing
+pub fn standing_of(entities: &[Entity], entity: &Entity) -> Standing
     requires { IsRising (entities_of entities.now) }
     ensures { IsStanding (entities_of entities.now) (stands_on_body (Some (entity_of entity.now))) result }
 {

@@ -13,5 +13,7 @@ mod threads;
 mod walk;
 
 pub use function::{Function, FunctionRef, ParamRef};
+pub use met::Met;
 pub use numbered::function_numbered;
 pub use table::{TableError, function_table};
+pub use walk::interfaces_of;

@@ -10,7 +10,7 @@ use uno_base::NoMemory;
 
 /// Names in the order in which they were met.
 #[derive(Drop)]
-pub(crate) struct Met<'a> {
+pub struct Met<'a> {
     order: Vec<&'a str>,
     set: BTreeSet<&'a str>,
 }
@@ -59,7 +59,7 @@ impl<'a> Met<'a> {
     }
 
     /// All of them, in order.
-    pub(crate) fn names(&self) -> &[&'a str]
+    pub fn names(&self) -> &[&'a str]
         ensures { names_at result.now ≡ self.now }
     {
         self.order.as_slice()

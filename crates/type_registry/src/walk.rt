@@ -19,8 +19,9 @@ pub(crate) enum Task<'a> {
     Leave(&'a str),
 }
 
-/// The interfaces whose functions an interface has, in the order in which they are numbered.
-pub(crate) fn interfaces_of<'a>(
+/// The interfaces whose functions an interface has, in the order in which they are numbered, itself the last. A struct or an exception comes behind those
+/// on which it stands.
+pub fn interfaces_of<'a>(
     alloc: Global,
     registry: &'a Registry,
     name: &'a str,

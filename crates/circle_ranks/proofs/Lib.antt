@@ -1,0 +1,4 @@
+pub mod LeastLemmas
+pub mod LoopLemmas
+pub mod NumberLemmas
+pub mod OrderLemmas

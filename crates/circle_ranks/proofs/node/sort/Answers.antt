@@ -1,0 +1,6 @@
+use Rattle.std.proofs.Common.{rules}
+use Rattle.std.proofs.lemmas.List.Sorted.{IsNonDecreasingBy-from_sort_by_key}
+use Rattle.circle_ranks.proofs.node.sort.Goals as goal
+
+pub returns-clause-rise : goal.returns-clause-rise
+returns-clause-rise c = IsNonDecreasingBy-from_sort_by_key (λ n. n.rank) _ c.sort_unstable_by_key.ensures.sorted (λ a r q k. search rules)

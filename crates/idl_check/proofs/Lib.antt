@@ -1,0 +1,7 @@
+mod ChangedLemmas
+mod EachLemmas
+mod FileLemmas
+mod GraphLemmas
+mod RegistryLemmas
+mod ToldLemmas
+mod VerdictLemmas

@@ -1,0 +1,10 @@
+use Rattle.std.proofs.Common.{◌≡◌, map, take}
+use Rattle.std.specs.List.{flat_map}
+use Rattle.idl_check.specs.Broken.{broken_told}
+use Rattle.idl_places.specs.Places.{places_of}
+use Rattle.registry_text_model.specs.Rules as rule
+use Rattle.uno_entities.specs.Entities.{entities_of}
+use Rattle.idl_check.proofs.each.wrong_base.Given as goal
+
+abbrev pub invariant-loop-meanings : goal.invariant-loop-meanings
+invariant-loop-meanings g l = places_of l.places.items ≡ flat_map (broken_told rule.bases (entities_of l.entities)) (map g.M.Meanings.telling (take l.meanings-index l.all))

@@ -1,0 +1,5 @@
+pub mod Apart
+pub mod Asked
+pub mod Broken
+pub mod Judging
+pub mod Meant

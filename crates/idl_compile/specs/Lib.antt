@@ -1,0 +1,3 @@
+pub mod Checking
+pub mod Errors
+pub mod Refusing

@@ -1,0 +1,10 @@
+pub mod KindLemmas
+pub mod LoopLemmas
+pub mod MeantLemmas
+pub mod NameLemmas
+pub mod NumberLemmas
+pub mod ShapeLemmas
+pub mod StandingLemmas
+pub mod TypedEnds
+pub mod UseLemmas
+pub mod ValueLemmas

@@ -1,0 +1,11 @@
+pub mod Matching
+pub mod Meant
+pub mod Naming
+pub mod Numbering
+pub mod Owning
+pub mod Resolving
+pub mod Shaping
+pub mod Starting
+pub mod Telling
+pub mod Typing
+pub mod Using

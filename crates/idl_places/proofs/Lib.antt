@@ -1,0 +1,6 @@
+mod ClassLemmas
+mod LeastLemmas
+pub mod Steps
+pub mod TestLemmas
+mod TypeLemmas
+mod ValueLemmas

@@ -1,0 +1,8 @@
+use Rattle.std.proofs.Common.{◌≡◌, ◌++◌, drop, map}
+use Rattle.idl_places.specs.Places.{places_of}
+use Rattle.idl_places.specs.ValuedNames.{judged_constant, wrong_values}
+use Rattle.idl_places.proofs.values.add_constants.Given as goal
+
+abbrev pub invariant-loop-place : goal.invariant-loop-place
+invariant-loop-place g l = places_of l.places.items ++ wrong_values (drop l.place (map (judged_constant (g.M.Meanings.telling l.meanings)) l.constants)) (drop l.place l.values)
+    ≡ places_of l.fn.places.items ++ wrong_values (map (judged_constant (g.M.Meanings.telling l.meanings)) l.constants) l.values

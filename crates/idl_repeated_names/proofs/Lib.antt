@@ -1,0 +1,9 @@
+pub mod AlikeLaws
+mod ChainLemmas
+mod KeyLemmas
+mod MeetingLemmas
+mod NameLemmas
+mod OwnerLemmas
+mod RepeatedLemmas
+pub mod SecondLaws
+mod TwinsLemmas

@@ -1,0 +1,5 @@
+use Rattle.idl_repeated_names.proofs.MeetingLemmas.{asks_one}
+use Rattle.idl_repeated_names.proofs.lists.ask_members.Goals as goal
+
+pub returns : goal.returns
+returns c = asks_one c.args.twins.now c.forget.new.self c.meet_members.new.twins _ c.forget.ensures.met c.forget.ensures.own c.forget.ensures.least c.in_ok-meet_members.ensures

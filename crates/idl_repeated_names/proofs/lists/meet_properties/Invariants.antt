@@ -1,0 +1,8 @@
+use Rattle.std.proofs.Common.{map, take}
+use Rattle.std.specs.List.{flat_map}
+use Rattle.idl_repeated_names.specs.Meeting.{Meets, property_named}
+use Rattle.idl_trees.specs.Members.{service_member_of}
+use Rattle.idl_repeated_names.proofs.lists.meet_properties.Given as goal
+
+abbrev pub invariant-loop-member : goal.invariant-loop-member
+invariant-loop-member l = Meets l.fn.twins l.twins (flat_map property_named (map service_member_of (take l.member-index l.members)))

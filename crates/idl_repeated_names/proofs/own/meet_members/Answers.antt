@@ -1,0 +1,21 @@
+use Rattle.std.proofs.Common.{List, ◌≤◌, length, arith}
+use Rattle.std.specs.List.{flat_map}
+use Rattle.uno_model.specs.Entities as uno
+use Rattle.idl_places.proofs.Steps.{joined_tells}
+use Rattle.idl_repeated_names.proofs.MeetingLemmas.{meets_all, meets_none, meets_on}
+use Rattle.idl_repeated_names.specs.Meeting.{method_named}
+use Rattle.uno_entities.specs.Entities.{member_of}
+use Rattle.idl_repeated_names.proofs.own.meet_members.Goals as goal
+
+pub loop-member-init : goal.loop-member-init
+loop-member-init c = meets_none c.args.twins.now
+
+pub loop-member-preserved : goal.loop-member-preserved
+loop-member-preserved c =
+    meets_on (λ (ys : List uno.Member). flat_map method_named ys) method_named (joined_tells method_named) member_of c.args.members.now c.loop-member.member-index c.member-item.result c.args.twins.now c.loop-member.twins
+    c.meet_member.new.twins c.loop-member-test.true c.member-item.is c.loop-member.invariant c.in_ok-meet_member.ensures
+
+pub returns : goal.returns
+returns c =
+    let end : length c.args.members.now ≤ c.loop-member.member-index = omega (arith, c.loop-member-test.false) in
+    meets_all (λ (ys : List uno.Member). flat_map method_named ys) member_of c.args.members.now c.loop-member.member-index c.args.twins.now c.loop-member.twins end c.loop-member.invariant

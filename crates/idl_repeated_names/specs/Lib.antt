@@ -1,0 +1,4 @@
+pub mod Meeting
+pub mod Over
+pub mod Tables
+pub mod Twins

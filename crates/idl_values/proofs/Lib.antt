@@ -1,0 +1,6 @@
+pub mod LoopLemmas
+pub mod OrderLemmas
+pub mod PlaceLemmas
+pub mod ToldLemmas
+pub mod ValueLaws
+pub mod WorkLemmas
