@@ -3,12 +3,12 @@ use Rattle.std.proofs.Common.{◌≡◌, ◌≢◌, ◌⊎◌, ℕ, true, List, 
 use Rattle.uno_io.specs.Files.{Stored}
 use Rattle.bridge_model.specs.Settings.{Setting}
 use Rattle.command_words.specs.Names.{Text}
-use Rattle.uno_run.specs.Answer.{AnswerRun, EndsServing, FilesServed, HasServed, IsIdle, IsOf, IsOfFiles, OwnRun, Served}
+use Rattle.uno_run.specs.Answer.{AnswerRun, EndsAnswering, EndsServing, FilesServed, HasServed, IsIdle, IsOf, IsOfFiles, OwnRun, Served}
 use Rattle.uno_run.specs.Lines.{has_own_line}
 use Rattle.uno_run.specs.Serving.{ServedOrNot}
 use Rattle.uno_run.specs.SettingUp.{NotSetUp}
 use Rattle.uno_run.specs.declared.status.Status.{Status}
-use Rattle.uno_run.specs.declared.status.Status.TheVariants.{Done, Words, BadRegistry, BadPlan, ReadFault, WriteFault, Broken, Cut, Full, NoFile, NoMemory}
+use Rattle.uno_run.specs.declared.status.Status.TheVariants.{Done, Words, BadUnoidl, BadRegistry, BadPlan, ReadFault, WriteFault, Broken, Cut, Full, NoFile, NoMemory}
 use Rattle.uno_run.proofs.Keeping.{Kept, kept_so, own_differs}
 use Rattle.uno_run.proofs.ServedRuns.{lost_served}
 
@@ -16,6 +16,7 @@ use Rattle.uno_run.proofs.ServedRuns.{lost_served}
 not_served : (store : Option Stored) (types plan : Text) (before now : ℕ) (status : Status) → NotSetUp store types plan before now status → HasServed status → ⊥
 not_served store types plan before now Done none h = none
 not_served store types plan before now Words none h = none
+not_served store types plan before now (BadUnoidl file byte reason) none h = none
 not_served store types plan before now (BadRegistry file line reason) none h = h
 not_served store types plan before now (BadPlan file line reason) none h = h
 not_served store types plan before now ReadFault none h = h
@@ -29,6 +30,7 @@ not_served store types plan before now NoMemory none h = h
 same_readings : (store : Option Stored) (types plan : Text) (before now : ℕ) (status : Status) → NotSetUp store types plan before now status → status ≢ ReadFault → now ≡ before
 same_readings store types plan before now Done none no_fault = absurd none
 same_readings store types plan before now Words none no_fault = absurd none
+same_readings store types plan before now (BadUnoidl file byte reason) none no_fault = absurd none
 same_readings store types plan before now (BadRegistry file line reason) none no_fault = none.2
 same_readings store types plan before now (BadPlan file line reason) none no_fault = none.2
 same_readings store types plan before now ReadFault none no_fault = absurd (no_fault refl)
@@ -46,9 +48,39 @@ no_words status ends e = subst EndsServing e ends
 pub none_no_words : (store : Option Stored) (types plan : Text) (before now : ℕ) (status : Status) → NotSetUp store types plan before now status → status ≡ Words → ⊥
 none_no_words store types plan before now status none e = subst (NotSetUp store types plan before now) e none
 
+-- the statuses where no endpoint was set up, and where one was
+none_only : (store : Option Stored) (types plan : Text) (before now : ℕ) (status : Status) → NotSetUp store types plan before now status → EndsAnswering status
+none_only store types plan before now Done none = tt
+none_only store types plan before now Words none = none
+none_only store types plan before now (BadUnoidl file byte reason) none = none
+none_only store types plan before now (BadRegistry file line reason) none = tt
+none_only store types plan before now (BadPlan file line why) none = tt
+none_only store types plan before now ReadFault none = tt
+none_only store types plan before now WriteFault none = tt
+none_only store types plan before now (Broken why place) none = tt
+none_only store types plan before now Cut none = tt
+none_only store types plan before now Full none = tt
+none_only store types plan before now (NoFile file) none = tt
+none_only store types plan before now NoMemory none = tt
+
+served_only : (status : Status) → EndsServing status → EndsAnswering status
+served_only Done ends = tt
+served_only Words ends = ends
+served_only (BadUnoidl file byte reason) ends = ends
+served_only (BadRegistry file line reason) ends = tt
+served_only (BadPlan file line why) ends = tt
+served_only ReadFault ends = tt
+served_only WriteFault ends = tt
+served_only (Broken why place) ends = tt
+served_only Cut ends = tt
+served_only Full ends = tt
+served_only (NoFile file) ends = tt
+served_only NoMemory ends = tt
+
 ended_so : {A : Type 0} (status : Status) → EndsServing status → HasServed status ⊎ ((status ≡ ReadFault) ⊎ (status ≡ NoMemory)) ⊎ A
 ended_so Done ends = inl tt
 ended_so Words ends = absurd ends
+ended_so (BadUnoidl file byte reason) ends = absurd ends
 ended_so (BadRegistry file line reason) ends = absurd ends
 ended_so (BadPlan file line reason) ends = absurd ends
 ended_so ReadFault ends = inr (inl (inl refl))
@@ -83,7 +115,7 @@ module _ {F I O : Type 0} (stored : F → Option Stored) (readings : F → ℕ) 
   run_none status none =
       let as_is = λ (s : Status) (e : status ≡ s). subst (NotSetUp (stored files_old) types plan (readings files_old) (readings files_new)) e none in
       record {
-        no_words = none_no_words (stored files_old) types plan (readings files_old) (readings files_new) status none;
+        only = none_only (stored files_old) types plan (readings files_old) (readings files_new) status none;
         served = λ h. absurd (not_served (stored files_old) types plan (readings files_old) (readings files_new) status none h);
         read_fault = λ e. inl (as_is ReadFault e, (refl, refl));
         no_memory = λ e. inl (refl, refl);
@@ -110,7 +142,7 @@ module _ {F I O : Type 0} (stored : F → Option Stored) (readings : F → ℕ) 
     run_served g status is same ends (inl served) =
         let was = files_served g status is served in
         record {
-          no_words = no_words status ends;
+          only = served_only status ends;
           served = λ h. was;
           read_fault = λ e. inr (same, was);
           no_memory = λ e. inr was;
@@ -122,7 +154,7 @@ module _ {F I O : Type 0} (stored : F → Option Stored) (readings : F → ℕ) 
         }
     run_served g status is same ends (inr none) =
         record {
-          no_words = no_words status ends;
+          only = served_only status ends;
           served = λ h. let bad : ⊥ = subst HasServed none.0 h in absurd bad;
           read_fault = λ e. let lost = none.0 in let bad : ⊥ = cc in absurd bad;
           no_memory = λ e. inl none.1;
@@ -150,7 +182,7 @@ module _ {F I O : Type 0} (stored : F → Option Stored) (readings : F → ℕ) 
     lost_run : (status : Status) → has_own_line status ≡ true → AnswerRun stored readings left reads taken writes types plan tag files_old files_new input_old input_new output_old output_new status
         → AnswerRun stored readings left reads taken writes types plan tag files_old files_new input_old input_new output_old output_new NoMemory
     lost_run status own run = record {
-      no_words = λ e. let bad : ⊥ = cc in absurd bad;
+      only = tt;
       served = λ h. absurd h;
       read_fault = λ e. let bad : ⊥ = cc in absurd bad;
       no_memory = λ e. lost_memory status own run.served run.idle;

@@ -7,7 +7,7 @@ use Rattle.uno_run.specs.Drill.{AreOfDrill, Drilled, DrillKeeps, DrillLimited, D
 use Rattle.uno_run.specs.Joining.{NotDrilled, StopsSo}
 use Rattle.uno_run.specs.Printing.{TextWritten}
 use Rattle.uno_run.specs.declared.status.Status.{Status}
-use Rattle.uno_run.specs.declared.status.Status.TheVariants.{Done, Words, BadRegistry, BadPlan, ReadFault, WriteFault, Broken, Cut, Full, NoFile, NoMemory}
+use Rattle.uno_run.specs.declared.status.Status.TheVariants.{Done, Words, BadUnoidl, BadRegistry, BadPlan, ReadFault, WriteFault, Broken, Cut, Full, NoFile, NoMemory}
 use Rattle.uno_run.specs.Lines.{has_own_line}
 use Rattle.uno_run.proofs.Keeping.{Kept}
 use Rattle.uno_run.proofs.Promises.{keeps_promise}
@@ -68,6 +68,7 @@ module _ (rounds seed : ℕ) where
     pub none_ran : (output : O) (status : Status) → NotDrilled rounds seed status → DrillRun taken writes rounds seed output output status
     none_ran output Done n = absurd n
     none_ran output Words n = absurd n
+    none_ran output (BadUnoidl file byte reason) n = absurd n
     none_ran output (BadRegistry file line reason) n = absurd n
     none_ran output (BadPlan file line why) n = absurd n
     none_ran output ReadFault n = absurd n
@@ -113,6 +114,7 @@ module _ (rounds seed : ℕ) where
           → DrillRun taken writes rounds seed output_old output_new status
       written_ran Done w = done_ran w
       written_ran Words w = absurd w
+      written_ran (BadUnoidl file byte reason) w = absurd w
       written_ran (BadRegistry file line reason) w = absurd w
       written_ran (BadPlan file line why) w = absurd w
       written_ran ReadFault w = absurd w
@@ -130,6 +132,7 @@ ends_without_words status only e = subst EndsDrilling e only
 no_line : (status : Status) → EndsDrilling status → has_own_line status ≡ true → ⊥
 no_line Done only own = cc
 no_line Words only own = only
+no_line (BadUnoidl file byte reason) only own = only
 no_line (BadRegistry file line reason) only own = only
 no_line (BadPlan file line why) only own = only
 no_line ReadFault only own = only
@@ -148,6 +151,7 @@ kept_run taken writes rounds seed output_old output_new result status (inr gone)
 pub stopped_so : (rounds seed : ℕ) (g : Settings) → AreOfDrill rounds seed g → AreReady g → (status : Status) → StopsSo g (Some seed) 65536 status → NotDrilled rounds seed status
 stopped_so rounds seed g are ready Done n = n
 stopped_so rounds seed g are ready Words n = n
+stopped_so rounds seed g are ready (BadUnoidl file byte reason) n = n
 stopped_so rounds seed g are ready (BadRegistry file line reason) n = n
 stopped_so rounds seed g are ready (BadPlan file line why) n = n
 stopped_so rounds seed g are ready ReadFault n = n

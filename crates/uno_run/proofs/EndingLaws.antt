@@ -26,7 +26,7 @@ use Rattle.uno_run.specs.Ending.{AreWell, EndsAs, IsUnhindered}
 use Rattle.uno_run.specs.Idl.{IsRefused, IsRegistryText, Refused, Tells}
 use Rattle.uno_run.specs.declared.reason.RegistryReason.{RegistryReason}
 use Rattle.uno_run.specs.declared.status.Status.{Status}
-use Rattle.uno_run.specs.declared.status.Status.TheVariants.{Done, Words, BadRegistry, BadPlan, ReadFault, WriteFault, Broken, Cut, Full, NoFile, NoMemory}
+use Rattle.uno_run.specs.declared.status.Status.TheVariants.{Done, Words, BadUnoidl, BadRegistry, BadPlan, ReadFault, WriteFault, Broken, Cut, Full, NoFile, NoMemory}
 use Rattle.uno_run.proofs.IdlRuns.{not_refused}
 
 -- ---- the order ends in one way
@@ -131,6 +131,7 @@ module _ {I O : Type 0} (left : I → Option (List ℕ)) (reads : I → ℕ) (ta
           → ReadOf (left input_old) (left input_new) bytes → EndsAs g bytes told.side.cause status ⊎ (status ≡ NoMemory)
       by_status Done s r = inl (done_so r (s.done refl r.front r.was))
       by_status Words s r = absurd s.only
+      by_status (BadUnoidl file byte reason) s r = absurd s.only
       by_status (BadRegistry file line reason) s r = absurd s.only
       by_status (BadPlan file line reason) s r = absurd s.only
       by_status ReadFault s r = absurd (un.read (s.read_fault refl))
@@ -249,7 +250,8 @@ module _ {F I O : Type 0} (stored : F → Option Stored) (readings : F → ℕ) 
         → AnswerRun stored readings left reads taken writes types plan tag files_old files_new input_old input_new output_old output_new status
         → EndsAs g bytes told.side.cause status ⊎ (status ≡ NoMemory)
     run_ends Done run = files_end Done (run.served tt)
-    run_ends Words run = absurd (run.no_words refl)
+    run_ends Words run = absurd run.only
+    run_ends (BadUnoidl file byte reason) run = absurd run.only
     run_ends (BadRegistry file line reason) run = let bad = run.bad_registry file line reason refl in absurd (types_kept line reason bad.1)
     run_ends (BadPlan file line why) run = let bad = run.bad_plan file line why refl in absurd (plan_kept line why bad.1)
     run_ends ReadFault run = absurd (by_fault (run.read_fault refl))

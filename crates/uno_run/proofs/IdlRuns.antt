@@ -12,13 +12,14 @@ use Rattle.uno_run.specs.Lines.{has_own_line}
 use Rattle.uno_run.specs.declared.reason.RegistryReason.{RegistryReason}
 use Rattle.uno_run.specs.declared.reason.RegistryReason.TheVariants as reason
 use Rattle.uno_run.specs.declared.status.Status.{Status}
-use Rattle.uno_run.specs.declared.status.Status.TheVariants.{Done, Words, BadRegistry, BadPlan, ReadFault, WriteFault, Broken, Cut, Full, NoFile, NoMemory}
+use Rattle.uno_run.specs.declared.status.Status.TheVariants.{Done, Words, BadUnoidl, BadRegistry, BadPlan, ReadFault, WriteFault, Broken, Cut, Full, NoFile, NoMemory}
 use Rattle.uno_run.proofs.Keeping.{Kept, kept_so, own_differs}
 
 -- the output did not fail, but where it is said so
 quiet : (text : List ℕ) (old new : Option (List ℕ)) (before now : ℕ) (status : Status) → TextPrinted text old new before now status → status ≢ WriteFault → now ≡ before
 quiet text old new before now Done p no_fault = p.printed.1
 quiet text old new before now Words p no_fault = absurd p
+quiet text old new before now (BadUnoidl file byte reason) p no_fault = absurd p
 quiet text old new before now (BadRegistry file line reason) p no_fault = p.3
 quiet text old new before now (BadPlan file line reason) p no_fault = absurd p
 quiet text old new before now ReadFault p no_fault = absurd p
@@ -43,6 +44,7 @@ not_refused text registry is line (reason.Rule number) refused =
 text_only : (text : List ℕ) (old new : Option (List ℕ)) (before now : ℕ) (status : Status) → TextPrinted text old new before now status → EndsPrinting status
 text_only text old new before now Done p = tt
 text_only text old new before now Words p = p
+text_only text old new before now (BadUnoidl file byte reason) p = p
 text_only text old new before now (BadRegistry file line reason) p = tt
 text_only text old new before now (BadPlan file line reason) p = p
 text_only text old new before now ReadFault p = tt
@@ -58,6 +60,7 @@ well_printed : (text : List ℕ) (old new : Option (List ℕ)) (before now : ℕ
     → ((line : ℕ) (reason : RegistryReason) → IsRefused text line reason → ⊥) → (Rose before now → ⊥) → (status ≡ Done) ⊎ (status ≡ NoMemory)
 well_printed text old new before now Done p none no_fault = inl refl
 well_printed text old new before now Words p none no_fault = absurd p
+well_printed text old new before now (BadUnoidl file byte reason) p none no_fault = absurd p
 well_printed text old new before now (BadRegistry file line reason) p none no_fault = absurd (none line reason p.1)
 well_printed text old new before now (BadPlan file line reason) p none no_fault = absurd p
 well_printed text old new before now ReadFault p none no_fault = absurd p
@@ -72,6 +75,7 @@ well_printed text old new before now NoMemory p none no_fault = inr refl
 unread_same : (store : Option Stored) (name : Text) (place before now : ℕ) (status : Status) → Unread store name place before now status → status ≢ ReadFault → now ≡ before
 unread_same store name place before now Done u no_fault = absurd u
 unread_same store name place before now Words u no_fault = absurd u
+unread_same store name place before now (BadUnoidl file byte reason) u no_fault = absurd u
 unread_same store name place before now (BadRegistry file line reason) u no_fault = absurd u
 unread_same store name place before now (BadPlan file line reason) u no_fault = absurd u
 unread_same store name place before now ReadFault u no_fault = absurd (no_fault refl)
@@ -85,6 +89,7 @@ unread_same store name place before now NoMemory u no_fault = u
 unread_only : (store : Option Stored) (name : Text) (place before now : ℕ) (status : Status) → Unread store name place before now status → EndsPrinting status
 unread_only store name place before now Done u = tt
 unread_only store name place before now Words u = u
+unread_only store name place before now (BadUnoidl file byte reason) u = u
 unread_only store name place before now (BadRegistry file line reason) u = tt
 unread_only store name place before now (BadPlan file line reason) u = u
 unread_only store name place before now ReadFault u = tt
@@ -100,6 +105,7 @@ unread_well : (store : Option Stored) (name : Text) (place before now : ℕ) (st
     → read_at name files ≡ Some text → (Rose before now → ⊥) → status ≡ NoMemory
 unread_well store name place before now Done u files text stores reads no_fault = absurd u
 unread_well store name place before now Words u files text stores reads no_fault = absurd u
+unread_well store name place before now (BadUnoidl file byte reason) u files text stores reads no_fault = absurd u
 unread_well store name place before now (BadRegistry file line reason) u files text stores reads no_fault = absurd u
 unread_well store name place before now (BadPlan file line reason) u files text stores reads no_fault = absurd u
 unread_well store name place before now ReadFault u files text stores reads no_fault = absurd (no_fault u)

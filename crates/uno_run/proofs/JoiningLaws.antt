@@ -17,7 +17,7 @@ use Rattle.uno_run.specs.Pair.{AreOf, AreOfFiles, HasPlan, MissingOf}
 use Rattle.uno_run.specs.Reading.{Unread}
 use Rattle.uno_run.specs.SettingUp.{NotSetUp}
 use Rattle.uno_run.specs.declared.status.Status.{Status}
-use Rattle.uno_run.specs.declared.status.Status.TheVariants.{Done, Words, BadRegistry, BadPlan, ReadFault, WriteFault, Broken, Cut, Full, NoFile, NoMemory}
+use Rattle.uno_run.specs.declared.status.Status.TheVariants.{Done, Words, BadUnoidl, BadRegistry, BadPlan, ReadFault, WriteFault, Broken, Cut, Full, NoFile, NoMemory}
 
 -- ---- both
 
@@ -59,6 +59,7 @@ has_plan store types plan tag registry g first a = record { registry = registry;
 pub types_none : (store : Option Stored) (types plan_a plan_b : Text) (before now : ℕ) (status : Status) → NotSetUp store types plan_a before now status → NotJoined store types plan_a plan_b before now status
 types_none store types plan_a plan_b before now Done n = n
 types_none store types plan_a plan_b before now Words n = n
+types_none store types plan_a plan_b before now (BadUnoidl file byte reason) n = n
 types_none store types plan_a plan_b before now (BadRegistry file line reason) n = n
 types_none store types plan_a plan_b before now (BadPlan file line why) n = (inl (n.0, n.1), n.2)
 types_none store types plan_a plan_b before now ReadFault n = n
@@ -80,6 +81,7 @@ pub unread_end : (store : Option Stored) (registry : List Entity) (plan : Text) 
     → NoEnd store registry plan place before now status
 unread_end store registry plan place before now Done u = u
 unread_end store registry plan place before now Words u = u
+unread_end store registry plan place before now (BadUnoidl file byte reason) u = u
 unread_end store registry plan place before now (BadRegistry file line reason) u = u
 unread_end store registry plan place before now (BadPlan file line why) u = absurd u
 unread_end store registry plan place before now ReadFault u = u
@@ -95,6 +97,7 @@ pub refused_end : (store : Option Stored) (registry : List Entity) (plan : Text)
     → RefusedAt registry text place status → NoEnd store registry plan place before now status
 refused_end store registry plan place before now text Done told same r = r
 refused_end store registry plan place before now text Words told same r = r
+refused_end store registry plan place before now text (BadUnoidl file byte reason) told same r = r
 refused_end store registry plan place before now text (BadRegistry file line reason) told same r = r
 refused_end store registry plan place before now text (BadPlan file line why) told same r = (r.0, record { text = text; told = told; refused = r.1 }, same)
 refused_end store registry plan place before now text ReadFault told same r = absurd r
@@ -110,6 +113,7 @@ pub no_first : (store : Option Stored) (types plan_a plan_b : Text) (before now 
     → NoEnd store registry plan_a 1 before now status → NotJoined store types plan_a plan_b before now status
 no_first store types plan_a plan_b before now registry Done first n = n
 no_first store types plan_a plan_b before now registry Words first n = n
+no_first store types plan_a plan_b before now registry (BadUnoidl file byte reason) first n = n
 no_first store types plan_a plan_b before now registry (BadRegistry file line reason) first n = absurd n
 no_first store types plan_a plan_b before now registry (BadPlan file line why) first n =
     (inl (n.0, record { registry = registry; is_of = first; plan_text = n.1.text; plan_told = n.1.told; refused = n.1.refused }), n.2)
@@ -126,6 +130,7 @@ pub no_second : (store : Option Stored) (types plan_a plan_b : Text) (before bet
     → HasPlan store types plan_a → between ≡ before → NoEnd store registry plan_b 2 between now status → NotJoined store types plan_a plan_b before now status
 no_second store types plan_a plan_b before between now registry Done first a same n = n
 no_second store types plan_a plan_b before between now registry Words first a same n = n
+no_second store types plan_a plan_b before between now registry (BadUnoidl file byte reason) first a same n = n
 no_second store types plan_a plan_b before between now registry (BadRegistry file line reason) first a same n = absurd n
 no_second store types plan_a plan_b before between now registry (BadPlan file line why) first a same n =
     (inr (n.0, a, record { registry = registry; is_of = first; plan_text = n.1.text; plan_told = n.1.told; refused = n.1.refused }), n.2 ∙ same)

@@ -1,6 +1,9 @@
 pub mod AnswerRuns
+pub mod CompileLaws
+pub mod CompileRuns
 pub mod DrillRuns
 pub mod EndingLaws
+pub mod FilesRead
 pub mod FilesWell
 pub mod IdlRuns
 pub mod JoinLaws

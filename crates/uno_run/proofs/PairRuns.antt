@@ -10,7 +10,7 @@ use Rattle.uno_run.specs.Lines.{has_own_line}
 use Rattle.uno_run.specs.Pair.{AreOfFiles, EndsPairing, FilesKeep, FilesLimited, FilesReported, PairRun}
 use Rattle.uno_run.specs.Printing.{TextWritten}
 use Rattle.uno_run.specs.declared.status.Status.{Status}
-use Rattle.uno_run.specs.declared.status.Status.TheVariants.{Done, Words, BadRegistry, BadPlan, ReadFault, WriteFault, Broken, Cut, Full, NoFile, NoMemory}
+use Rattle.uno_run.specs.declared.status.Status.TheVariants.{Done, Words, BadUnoidl, BadRegistry, BadPlan, ReadFault, WriteFault, Broken, Cut, Full, NoFile, NoMemory}
 use Rattle.uno_run.proofs.FilesWell.{none_missing, plans_kept, types_kept}
 use Rattle.uno_run.proofs.Keeping.{Kept, kept_so, own_differs}
 use Rattle.uno_run.proofs.Promises.{keeps_promise}
@@ -41,6 +41,7 @@ module _ (store : Option Stored) (types plan_a plan_b : Text) (seed : Option ℕ
     none_only : (status : Status) → NotReported store types plan_a plan_b seed cut before now status → EndsPairing status
     none_only Done n = tt
     none_only Words n = n
+    none_only (BadUnoidl file byte reason) n = n
     none_only (BadRegistry file line reason) n = tt
     none_only (BadPlan file line why) n = tt
     none_only ReadFault n = tt
@@ -54,6 +55,7 @@ module _ (store : Option Stored) (types plan_a plan_b : Text) (seed : Option ℕ
     none_same : (status : Status) → NotReported store types plan_a plan_b seed cut before now status → status ≢ ReadFault → now ≡ before
     none_same Done n no_fault = absurd n
     none_same Words n no_fault = absurd n
+    none_same (BadUnoidl file byte reason) n no_fault = absurd n
     none_same (BadRegistry file line reason) n no_fault = n.2
     none_same (BadPlan file line why) n no_fault = n.1
     none_same ReadFault n no_fault = absurd (no_fault refl)
@@ -68,6 +70,7 @@ module _ (store : Option Stored) (types plan_a plan_b : Text) (seed : Option ℕ
         → NotReported store types plan_a plan_b seed cut before now status → (status ≡ Done) ⊎ ((status ≡ Full) ⊎ (status ≡ NoMemory))
     none_well files g stores are no_fault Done n = absurd n
     none_well files g stores are no_fault Words n = absurd n
+    none_well files g stores are no_fault (BadUnoidl file byte reason) n = absurd n
     none_well files g stores are no_fault (BadRegistry file line reason) n = absurd (types_kept store files stores types plan_a plan_b g are line reason n.1)
     none_well files g stores are no_fault (BadPlan file line why) n = absurd (plans_kept store files stores types plan_a plan_b g are file line why n.0)
     none_well files g stores are no_fault ReadFault n = absurd (no_fault n)
@@ -157,6 +160,7 @@ module _ {F O : Type 0} (stored : F → Option Stored) (reads : F → ℕ) (take
           → PairRun stored reads taken writes types plan_a plan_b seed cut files_old files_new output_old output_new status
       written_ran Done w = done_ran w
       written_ran Words w = absurd w
+      written_ran (BadUnoidl file byte reason) w = absurd w
       written_ran (BadRegistry file line reason) w = absurd w
       written_ran (BadPlan file line why) w = absurd w
       written_ran ReadFault w = absurd w
@@ -212,6 +216,7 @@ pub not_joined : (store : Option Stored) (types plan_a plan_b : Text) (seed : Op
     → NotReported store types plan_a plan_b seed cut before now status
 not_joined store types plan_a plan_b seed cut before now Done n = n
 not_joined store types plan_a plan_b seed cut before now Words n = n
+not_joined store types plan_a plan_b seed cut before now (BadUnoidl file byte reason) n = n
 not_joined store types plan_a plan_b seed cut before now (BadRegistry file line reason) n = n
 not_joined store types plan_a plan_b seed cut before now (BadPlan file line why) n = n
 not_joined store types plan_a plan_b seed cut before now ReadFault n = n
@@ -226,6 +231,7 @@ pub stopped_so : (store : Option Stored) (types plan_a plan_b : Text) (seed : Op
     → (status : Status) → StopsSo g seed cut status → NotReported store types plan_a plan_b seed cut before now status
 stopped_so store types plan_a plan_b seed cut before now g are ready same Done n = n
 stopped_so store types plan_a plan_b seed cut before now g are ready same Words n = n
+stopped_so store types plan_a plan_b seed cut before now g are ready same (BadUnoidl file byte reason) n = n
 stopped_so store types plan_a plan_b seed cut before now g are ready same (BadRegistry file line reason) n = absurd n
 stopped_so store types plan_a plan_b seed cut before now g are ready same (BadPlan file line why) n = absurd n
 stopped_so store types plan_a plan_b seed cut before now g are ready same ReadFault n = absurd n

@@ -12,7 +12,7 @@ use Rattle.answering.specs.declared.stopped.Stopped.TheVariants as stopped
 use Rattle.uno_run.specs.Answer.{EndsServing, Served}
 use Rattle.uno_run.specs.Lines.{has_own_line}
 use Rattle.uno_run.specs.declared.status.Status.{Status}
-use Rattle.uno_run.specs.declared.status.Status.TheVariants.{Done, Words, BadRegistry, BadPlan, ReadFault, WriteFault, Broken, Cut, Full, NoFile, NoMemory}
+use Rattle.uno_run.specs.declared.status.Status.TheVariants.{Done, Words, BadUnoidl, BadRegistry, BadPlan, ReadFault, WriteFault, Broken, Cut, Full, NoFile, NoMemory}
 use Rattle.uno_run.proofs.Keeping.{own_differs}
 
 -- what an endpoint did that stopped so
@@ -57,6 +57,7 @@ module _ {I O : Type 0} (left : I → Option (List ℕ)) (reads : I → ℕ) (ta
       → status ≢ ReadFault → status ≢ WriteFault → status ≢ NoMemory → reads input_new ≡ reads input_old
   no_read_fault why Done a n no_read no_write enough = same_at_end why a (n.done refl)
   no_read_fault why Words a n no_read no_write enough = absurd n.ends
+  no_read_fault why (BadUnoidl file byte reason) a n no_read no_write enough = absurd n.ends
   no_read_fault why (BadRegistry file line reason) a n no_read no_write enough = absurd n.ends
   no_read_fault why (BadPlan file line reason) a n no_read no_write enough = absurd n.ends
   no_read_fault why ReadFault a n no_read no_write enough = absurd (no_read refl)

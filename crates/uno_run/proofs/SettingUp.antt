@@ -10,7 +10,7 @@ use Rattle.uno_run.specs.Idl.{IsOfFile, IsRegistryText, Tells}
 use Rattle.uno_run.specs.Reading.{Unread}
 use Rattle.uno_run.specs.SettingUp.{NotSetUp, RefusedRegistry, RefusedText}
 use Rattle.uno_run.specs.declared.status.Status.{Status}
-use Rattle.uno_run.specs.declared.status.Status.TheVariants.{Done, Words, BadRegistry, BadPlan, ReadFault, WriteFault, Broken, Cut, Full, NoFile, NoMemory}
+use Rattle.uno_run.specs.declared.status.Status.TheVariants.{Done, Words, BadUnoidl, BadRegistry, BadPlan, ReadFault, WriteFault, Broken, Cut, Full, NoFile, NoMemory}
 
 pub is_of : (types plan tag : List ℕ) (registry : List Entity) (g : Setting) → IsRegistryText types registry → g.tag ≡ tag → g.registry ≡ registry
     → IsTextOf registry plan g.plan → IsOf types plan tag g
@@ -30,6 +30,7 @@ short_text x e text long = let within : 4194304 < length text → ⊥ = λ above
 pub unread_types : (store : Option Stored) (types plan : Text) (before now : ℕ) (status : Status) → Unread store types 0 before now status → NotSetUp store types plan before now status
 unread_types store types plan before now Done u = absurd u
 unread_types store types plan before now Words u = absurd u
+unread_types store types plan before now (BadUnoidl file byte reason) u = absurd u
 unread_types store types plan before now (BadRegistry file line reason) u = absurd u
 unread_types store types plan before now (BadPlan file line reason) u = absurd u
 unread_types store types plan before now ReadFault u = u
@@ -45,6 +46,7 @@ pub refused_types : (store : Option Stored) (types plan : Text) (before now : �
     → RefusedRegistry text status → NotSetUp store types plan before now status
 refused_types store types plan before now text Done told same r = absurd r
 refused_types store types plan before now text Words told same r = absurd r
+refused_types store types plan before now text (BadUnoidl file byte reason) told same r = absurd r
 refused_types store types plan before now text (BadRegistry file line reason) told same r = (r.0, record { text = text; told = told; refused = r.1 }, same)
 refused_types store types plan before now text (BadPlan file line reason) told same r = absurd r
 refused_types store types plan before now text ReadFault told same r = absurd r
@@ -61,6 +63,7 @@ pub unread_plan : (store : Option Stored) (types plan : Text) (before now : ℕ)
     → Unread store plan 1 before now status → NotSetUp store types plan before now status
 unread_plan store types plan before now registry Done first u = absurd u
 unread_plan store types plan before now registry Words first u = absurd u
+unread_plan store types plan before now registry (BadUnoidl file byte reason) first u = absurd u
 unread_plan store types plan before now registry (BadRegistry file line reason) first u = absurd u
 unread_plan store types plan before now registry (BadPlan file line reason) first u = absurd u
 unread_plan store types plan before now registry ReadFault first u = u
@@ -75,6 +78,7 @@ pub refused_plan : (store : Option Stored) (types plan : Text) (before now : ℕ
     → Tells store plan (Some text) → now ≡ before → RefusedText registry text status → NotSetUp store types plan before now status
 refused_plan store types plan before now registry text Done first told same r = absurd r
 refused_plan store types plan before now registry text Words first told same r = absurd r
+refused_plan store types plan before now registry text (BadUnoidl file byte reason) first told same r = absurd r
 refused_plan store types plan before now registry text (BadRegistry file line reason) first told same r = absurd r
 refused_plan store types plan before now registry text (BadPlan file line reason) first told same r =
     (r.0, record { registry = registry; is_of = first; plan_text = text; plan_told = told; refused = r.1 }, same)

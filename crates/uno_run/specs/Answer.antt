@@ -14,7 +14,7 @@ use Rattle.answering.specs.Answering.{AnsweredPart, AnsweredWhole, GoesOnTelling
 use Rattle.uno_run.specs.Idl.{IsOfFile, IsRegistryText, Refused, Tells}
 use Rattle.uno_run.specs.declared.reason.RegistryReason.{RegistryReason}
 use Rattle.uno_run.specs.declared.status.Status.{Status}
-use Rattle.uno_run.specs.declared.status.Status.TheVariants.{Done, Words, BadRegistry, BadPlan, ReadFault, WriteFault, Broken, Cut, Full, NoFile, NoMemory}
+use Rattle.uno_run.specs.declared.status.Status.TheVariants.{Done, BadRegistry, BadPlan, ReadFault, WriteFault, Broken, Cut, Full, NoFile, NoMemory}
 
 -- the setting of an endpoint with this tag: the registry and the plan of two texts
 pub record IsOf (types plan tag : List ℕ) (g : Setting) : Type 0 where
@@ -110,10 +110,24 @@ pub record LacksPlan (store : Option Stored) (types plan : Text) : Type 0 where
   pub is_of : IsOfFile store types registry
   pub plan_told : Tells store plan None
 
+-- the statuses of `answer` on two files
+abbrev pub EndsAnswering : Status → Type 0
+EndsAnswering Done = Unit
+EndsAnswering (BadRegistry file line reason) = Unit
+EndsAnswering (BadPlan file line why) = Unit
+EndsAnswering ReadFault = Unit
+EndsAnswering WriteFault = Unit
+EndsAnswering (Broken why place) = Unit
+EndsAnswering Cut = Unit
+EndsAnswering Full = Unit
+EndsAnswering (NoFile file) = Unit
+EndsAnswering NoMemory = Unit
+EndsAnswering status = ⊥
+
 -- a run of `answer` on two files
 pub record AnswerRun {F I O : Type 0} (stored : F → Option Stored) (readings : F → ℕ) (left : I → Option (List ℕ)) (reads : I → ℕ) (taken : O → Option (List ℕ)) (writes : O → ℕ)
     (types plan : Text) (tag : List ℕ) (files_old files_new : F) (input_old input_new : I) (output_old output_new : O) (status : Status) : Type 0 where
-  pub no_words : status ≢ Words
+  pub only : EndsAnswering status
   pub served : HasServed status → FilesServed left reads taken writes (stored files_old) types plan tag input_old input_new output_old output_new status
   -- a file failed, or the files were read and the input failed
   pub read_fault : status ≡ ReadFault → (Rose (readings files_old) (readings files_new) × IsIdle input_old input_new output_old output_new)

@@ -1,4 +1,6 @@
 pub mod Answer
+pub mod Compile
+pub mod Compiling
 pub mod Drill
 pub mod Ending
 pub mod Idl

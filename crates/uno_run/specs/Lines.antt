@@ -6,12 +6,14 @@ use Rattle.uno_base.specs.Causes.{Rose}
 use Rattle.uno_io.specs.Fronts.{AppendsFront}
 use Rattle.urp_model.specs.declared.reason.Reason.{Reason}
 use Rattle.urp_model.specs.declared.reason.Reason.TheVariants as broken
+use Rattle.idl_compile.specs.declared.error.Reason as unoidl
+use Rattle.idl_compile.specs.declared.error.Reason.TheVariants as idl
 use Rattle.plan_model.specs.declared.line_reason.LineReason.{LineReason}
 use Rattle.plan_model.specs.declared.line_reason.LineReason.TheVariants as plan
 use Rattle.uno_run.specs.declared.reason.RegistryReason.{RegistryReason}
 use Rattle.uno_run.specs.declared.reason.RegistryReason.TheVariants as reason
 use Rattle.uno_run.specs.declared.status.Status.{Status}
-use Rattle.uno_run.specs.declared.status.Status.TheVariants.{Done, Words, BadRegistry, BadPlan, ReadFault, WriteFault, Broken, Cut, Full, NoFile, NoMemory}
+use Rattle.uno_run.specs.declared.status.Status.TheVariants.{Done, Words, BadUnoidl, BadRegistry, BadPlan, ReadFault, WriteFault, Broken, Cut, Full, NoFile, NoMemory}
 
 -- a reason's name
 abbrev pub name_of : Reason → List ℕ
@@ -53,6 +55,19 @@ reason_of reason.Order = codes "Order"
 reason_of (reason.Rule rule) = codes "Rule " ++ decimal rule
 reason_of reason.TooLong = codes "TooLong"
 
+-- why UNOIDL is refused
+abbrev pub unoidl_reason : unoidl.Reason → List ℕ
+unoidl_reason idl.BadUtf8 = codes "BadUtf8"
+unoidl_reason idl.BadToken = codes "BadToken"
+unoidl_reason idl.OpenComment = codes "OpenComment"
+unoidl_reason idl.TooLong = codes "TooLong"
+unoidl_reason idl.Unexpected = codes "Unexpected"
+unoidl_reason idl.Nested = codes "Nested"
+unoidl_reason idl.Unknown = codes "Unknown"
+unoidl_reason idl.Twice = codes "Twice"
+unoidl_reason idl.FloatRefused = codes "FloatRefused"
+unoidl_reason (idl.Rule rule) = codes "Rule " ++ decimal rule
+
 -- why a line of a plan is wrong
 abbrev pub line_reason : LineReason → List ℕ
 line_reason plan.Form = codes "Form"
@@ -66,6 +81,7 @@ line_reason plan.Open = codes "Open"
 abbrev pub line_of : List (List ℕ) → Status → List ℕ
 line_of files Done = []
 line_of files Words = codes "uno: words\n"
+line_of files (BadUnoidl file byte reason) = file_at files file ++ (codes ":" ++ (decimal byte ++ (codes ": " ++ (unoidl_reason reason ++ 10 ∷ []))))
 line_of files (BadRegistry file line reason) = file_at files file ++ (codes ":" ++ (decimal line ++ (codes ": " ++ (reason_of reason ++ 10 ∷ []))))
 line_of files (BadPlan file line reason) = file_at files file ++ (codes ":" ++ (decimal line ++ (codes ": " ++ (line_reason reason ++ 10 ∷ []))))
 line_of files ReadFault = codes "uno: read fault\n"
@@ -78,6 +94,7 @@ line_of files NoMemory = codes "uno: no memory\n"
 
 -- the line has a name or a number in it, and is made for the status
 abbrev pub has_own_line : Status → Bool
+has_own_line (BadUnoidl file byte reason) = true
 has_own_line (BadRegistry file line reason) = true
 has_own_line (BadPlan file line reason) = true
 has_own_line (Broken reason place) = true
@@ -88,6 +105,7 @@ has_own_line _ = false
 abbrev pub code_of : Status → ℕ
 code_of Done = 0
 code_of Words = 1
+code_of (BadUnoidl file byte reason) = 2
 code_of (BadRegistry file line reason) = 3
 code_of (BadPlan file line reason) = 3
 code_of ReadFault = 4

@@ -1,7 +1,7 @@
 -- What the command's words ask of a run.
 use Rattle.std.specs.Prelude.{◌≡◌, Bool, true, false, List, [], ◌∷◌, String, string_bytes, map, ℕ, Option, None, Some}
 use Rattle.command_words.specs.Names.{Text}
-use Rattle.command_words.specs.Forms.{Order, order_of, answer, answer_plan, drill, idl, pair}
+use Rattle.command_words.specs.Forms.{Order, order_of, answer, answer_plan, compile, drill, idl, pair}
 
 -- the words ask for `answer`, with no registry and no plan
 abbrev pub IsAnswer : {A : Type 0} → List (String A) → Type 0
@@ -15,6 +15,10 @@ IsAnswerPlan words types plan = order_of (map string_bytes words) ≡ Some (answ
 abbrev pub IsIdl : {A : Type 0} → List (String A) → Text → Type 0
 IsIdl words types = order_of (map string_bytes words) ≡ Some (idl types)
 
+-- the words ask for the registry that these files mean together
+abbrev pub IsCompile : {A : Type 0} → List (String A) → List Text → Type 0
+IsCompile words files = order_of (map string_bytes words) ≡ Some (compile files)
+
 -- the words ask for two ends, with the registry and the plans in these files, by a seed, if there is one, and a cut; on one thread
 abbrev pub IsPair : {A : Type 0} → List (String A) → (types plan_a plan_b : Text) → (seed : Option ℕ) → (cut : ℕ) → Type 0
 IsPair words types plan_a plan_b seed cut = order_of (map string_bytes words) ≡ Some (pair types plan_a plan_b seed cut None)
@@ -27,6 +31,7 @@ IsDrill words rounds seed = order_of (map string_bytes words) ≡ Some (drill ro
 abbrev pub is_served : Option Order → Bool
 is_served (Some answer) = true
 is_served (Some (answer_plan types plan)) = true
+is_served (Some (compile files)) = true
 is_served (Some (idl types)) = true
 is_served (Some (pair types plan_a plan_b seed cut None)) = true
 is_served (Some (drill rounds seed)) = true
@@ -35,6 +40,7 @@ is_served _ = false
 -- the files that a served command names, in order
 abbrev pub files_of : Option Order → List Text
 files_of (Some (answer_plan types plan)) = types ∷ plan ∷ []
+files_of (Some (compile files)) = files
 files_of (Some (idl types)) = types ∷ []
 files_of (Some (pair types plan_a plan_b seed cut None)) = types ∷ plan_a ∷ plan_b ∷ []
 files_of _ = []

@@ -1,12 +1,21 @@
 //! Laws of how a run ends: each function has an empty body, and its clauses are the law.
-ghost use Rattle.std.specs.Prelude.{◌≡◌, ◌⊎◌, ℕ, Bool, List};
+ghost use Rattle.std.specs.Prelude.{◌≡◌, ◌⊎◌, ◌≤◌, ℕ, Bool, List, length, Ok, Some};
+ghost use Rattle.std.specs.Io.KnownBytes.{Appends};
+ghost use Rattle.uno_base.specs.Causes.{Rose};
+ghost use Rattle.uno_io.specs.Files.{Stored, read_at};
+ghost use Rattle.uno_model.specs.Entities.{Entity};
+ghost use Rattle.registry_text_model.specs.Canonical.{canonical_unoidl};
+ghost use Rattle.registry_text_model.specs.Lines.{registry_text};
+ghost use Rattle.idl_compiled_model.specs.Compiling.{IsCompiled};
 ghost use Rattle.bridge_model.specs.Histories.{Told};
 ghost use Rattle.bridge_model.specs.Settings.{Setting};
 ghost use Rattle.bridge_laws.specs.Working.{IsDone};
 ghost use Rattle.answering.specs.Answering.{InputEnded};
 ghost use Rattle.command_words.specs.Names.{Text};
 ghost use Rattle.uno_run.specs.Answer.{AnswerRun, IsOf, OwnRun};
+ghost use Rattle.uno_run.specs.Compile.{AllTell, CompileRun};
 ghost use Rattle.uno_run.specs.Ending.{AreWell, EndsAs, IsUnhindered};
+ghost use Rattle.uno_run.specs.Idl.{IdlRun, IsRegistryText};
 ghost use Rattle.uno_run.specs.declared.status.Status.{Status as How};
 
 use crate::Status;
@@ -34,4 +43,25 @@ pub fn a_run_that_nothing_hinders_ends_as_the_order_of_work<F: Files, I: Source,
         → (g : Setting) → AreWell F.stored F.faults types plan tag files_old files_new g
         → (bytes : List ℕ) (told : Told) → IsUnhindered I.left I.faults O.faults g input_old input_new output_old output_new bytes told
         → EndsAs g bytes told.side.cause status ⊎ (status ≡ Status.NoMemory) }
+{}
+
+/// Where the files are there and mean a registry together, and nothing fails, `compile` writes the text of that registry and all is done, or memory was wanted.
+pub fn a_run_that_nothing_hinders_compiles_its_files<F: Files, O: Sink>()
+    ensures { (names : List Text) (files_old files_new : F) (output_old output_new : O) (status : How)
+        → CompileRun F.stored F.faults O.taken O.faults names files_old files_new output_old output_new status
+        → (files : Stored) (texts : List (List ℕ)) (registry : List Entity) → F.stored files_old ≡ Some files → AllTell (Some files) names texts → IsCompiled texts (Ok registry)
+        → ¬ Rose (F.faults files_old) (F.faults files_new) → ¬ Rose (O.faults output_old) (O.faults output_new)
+        → ((status ≡ Status.Done) × Appends (O.taken output_old) (O.taken output_new) (registry_text registry)) ⊎ (status ≡ Status.NoMemory) }
+{}
+
+/// What `compile` writes is the text of the registry that its files mean, if it is not too long for a file; so `idl` over it, where nothing fails, writes canonical UNOIDL
+/// of that registry, or memory was wanted.
+pub fn what_compile_writes_is_read_as_that_registry<F: Files, O: Sink>()
+    ensures read { (texts : List (List ℕ)) (registry : List Entity) → IsCompiled texts (Ok registry) → length (registry_text registry) ≤ 4194304
+        → IsRegistryText (registry_text registry) registry }
+    ensures idl { (name : Text) (files_old files_new : F) (output_old output_new : O) (status : How)
+        → IdlRun F.stored F.faults O.taken O.faults name files_old files_new output_old output_new status
+        → (files : Stored) (texts : List (List ℕ)) (registry : List Entity) → F.stored files_old ≡ Some files → read_at name files ≡ Some (registry_text registry) → IsCompiled texts (Ok registry)
+        → length (registry_text registry) ≤ 4194304 → ¬ Rose (F.faults files_old) (F.faults files_new) → ¬ Rose (O.faults output_old) (O.faults output_new)
+        → ((status ≡ Status.Done) × Appends (O.taken output_old) (O.taken output_new) (canonical_unoidl registry)) ⊎ (status ≡ Status.NoMemory) }
 {}

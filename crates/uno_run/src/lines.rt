@@ -1,10 +1,12 @@
 //! The line on `errors` that says how a run ended.
 ghost use Rattle.std.specs.Prelude.{◌≡◌, ◌≢◌, ◌⊎◌, ℕ, List, [], ◌∷◌, ◌++◌, IfOk, codes, map, string_bytes, true, false};
 ghost use Rattle.std.specs.Fmt.{decimal};
-ghost use Rattle.uno_run.specs.Lines.{file_at, has_own_line, line_of, line_reason, name_of, reason_of, Printed};
+ghost use Rattle.uno_run.specs.Lines.{file_at, has_own_line, line_of, line_reason, name_of, reason_of, unoidl_reason, Printed};
+ghost use Rattle.idl_compile.specs.declared.error.Reason.TheVariants as unoidl;
 ghost use Rattle.uno_run.specs.declared.reason.RegistryReason.TheVariants.{Rule};
 
 use crate::{RegistryReason, Status};
+use idl_compile::Reason as UnoidlReason;
 use plan_model::LineReason;
 use std::alloc::Global;
 use uno_base::NoMemory;
@@ -49,6 +51,7 @@ fn has_own_line(status: Status) -> bool
     ensures { result ≡ has_own_line status }
 {
     match status {
+        Status::BadUnoidl { .. } => true,
         Status::BadRegistry { .. } => true,
         Status::BadPlan { .. } => true,
         Status::Broken(..) => true,
@@ -70,6 +73,7 @@ fn plain_line(status: Status) -> &'static str
         Status::Cut => "uno: cut\n",
         Status::Full => "uno: full\n",
         Status::NoMemory => "uno: no memory\n",
+        Status::BadUnoidl { .. } => unreachable!(),
         Status::BadRegistry { .. } => unreachable!(),
         Status::BadPlan { .. } => unreachable!(),
         Status::Broken(..) => unreachable!(),
@@ -83,6 +87,9 @@ fn own_line(alloc: Global, files: &[&str], status: Status) -> Result<String, NoM
     ensures { IfOk result (λ line. string_bytes line ≡ line_of (map (λ s. s.now) files.now) status) }
 {
     match status {
+        Status::BadUnoidl { file, byte, reason } => {
+            unoidl_line(alloc, file_at(files, file), byte, reason)
+        }
         Status::BadRegistry { file, line, reason } => {
             registry_line(alloc, file_at(files, file), line, reason)
         }
@@ -102,6 +109,43 @@ fn file_at<'a>(files: &[&'a str], place: u32) -> &'a str
     match files.get(place as usize) {
         Some(name) => name,
         None => "",
+    }
+}
+
+/// The line of refused UNOIDL.
+fn unoidl_line(
+    alloc: Global,
+    name: &str,
+    byte: u32,
+    reason: UnoidlReason,
+) -> Result<String, NoMemory>
+    ensures { IfOk result (λ text. string_bytes text ≡ name.now ++ (codes ":" ++ (decimal byte ++ (codes ": " ++ (unoidl_reason reason ++ 10 ∷ []))))) }
+{
+    if let UnoidlReason::Rule(rule) = reason {
+        let text = format!(in alloc; "{name}:{byte}: Rule {rule}\n")?;
+        return Ok(text);
+    }
+    let reason = unoidl_reason(reason);
+    let text = format!(in alloc; "{name}:{byte}: {reason}\n")?;
+    Ok(text)
+}
+
+/// The name of a reason that is no rule.
+fn unoidl_reason(reason: UnoidlReason) -> &'static str
+    requires { (rule : ℕ) → reason ≢ unoidl.Rule rule }
+    ensures { result.now ≡ unoidl_reason reason }
+{
+    match reason {
+        UnoidlReason::BadUtf8 => "BadUtf8",
+        UnoidlReason::BadToken => "BadToken",
+        UnoidlReason::OpenComment => "OpenComment",
+        UnoidlReason::TooLong => "TooLong",
+        UnoidlReason::Unexpected => "Unexpected",
+        UnoidlReason::Nested => "Nested",
+        UnoidlReason::Unknown => "Unknown",
+        UnoidlReason::Twice => "Twice",
+        UnoidlReason::FloatRefused => "FloatRefused",
+        UnoidlReason::Rule(_) => unreachable!(),
     }
 }
 

@@ -3,6 +3,7 @@ ghost use Rattle.std.specs.Prelude.{◌≡◌};
 ghost use Rattle.uno_run.specs.Lines.{code_of};
 
 use crate::RegistryReason;
+use idl_compile::Reason as UnoidlReason;
 use plan_model::LineReason;
 use urp_model::Reason;
 
@@ -12,6 +13,12 @@ pub enum Status {
     Done,
     /// The words are in none of the forms.
     Words,
+    /// A file is not UNOIDL that is served, or the files together are not, at this byte.
+    BadUnoidl {
+        file: u32,
+        byte: u32,
+        reason: UnoidlReason,
+    },
     /// A file is not the text of a registry, first at this line.
     BadRegistry {
         file: u32,
@@ -46,6 +53,7 @@ impl Status {
         match self {
             Status::Done => 0,
             Status::Words => 1,
+            Status::BadUnoidl { .. } => 2,
             Status::BadRegistry { .. } => 3,
             Status::BadPlan { .. } => 3,
             Status::ReadFault => 4,

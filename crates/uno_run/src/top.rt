@@ -1,16 +1,18 @@
 //! The top call.
-ghost use Rattle.std.specs.Prelude.{◌≡◌, ◌≢◌, ◌↔◌, ℕ, [], ◌∷◌, map, string_bytes, false, Option, None, Some};
+ghost use Rattle.std.specs.Prelude.{◌≡◌, ◌≢◌, ◌↔◌, ℕ, List, [], ◌∷◌, IfOk, map, string_bytes, false, Option, None, Some};
 ghost use Rattle.command_words.specs.Names.{Text};
-ghost use Rattle.command_words.specs.Forms.{answer, answer_plan, drill, idl, order_in, order_of, pair};
+ghost use Rattle.command_words.specs.Forms.{answer, answer_plan, compile, drill, idl, order_in, order_of, pair};
 ghost use Rattle.uno_run.specs.Answer.{AnswerRun, OwnRun};
+ghost use Rattle.uno_run.specs.Compile.{CompileRun};
 ghost use Rattle.uno_run.specs.Drill.{DrillRun};
 ghost use Rattle.uno_run.specs.Idl.{IdlRun};
 ghost use Rattle.uno_run.specs.Lines.{line_of, Printed};
 ghost use Rattle.uno_run.specs.Own.{own_plan, own_types};
 ghost use Rattle.uno_run.specs.Pair.{PairRun};
-ghost use Rattle.uno_run.specs.Words.{IsAnswer, IsAnswerPlan, IsDrill, IsIdl, IsPair, files_of, is_served};
+ghost use Rattle.uno_run.specs.Words.{IsAnswer, IsAnswerPlan, IsCompile, IsDrill, IsIdl, IsPair, files_of, is_served};
 
 use crate::Status;
+use crate::compile::compile;
 use crate::drill::drill;
 use crate::idl::idl;
 use crate::lines::report;
@@ -38,6 +40,7 @@ pub fn run<R, F: Files, I: Source, O: Sink, E: Sink>(
     ensures idle { result ≡ Status.Words → (files.new ≡ files.old) × (input.new ≡ input.old) × (output.new ≡ output.old) }
     ensures answer { IsAnswer words.now → (files.new ≡ files.old) × OwnRun I.left I.faults O.taken O.faults own_types own_plan tag.now input.old input.new output.old output.new result }
     ensures answer_plan { (types plan : Text) → IsAnswerPlan words.now types plan → AnswerRun F.stored F.faults I.left I.faults O.taken O.faults types plan tag.now files.old files.new input.old input.new output.old output.new result }
+    ensures compile { (names : List Text) → IsCompile words.now names → (input.new ≡ input.old) × CompileRun F.stored F.faults O.taken O.faults names files.old files.new output.old output.new result }
     ensures idl { (types : Text) → IsIdl words.now types → (input.new ≡ input.old) × IdlRun F.stored F.faults O.taken O.faults types files.old files.new output.old output.new result }
     ensures pair { (types plan_a plan_b : Text) (seed : Option ℕ) (cut : ℕ) → IsPair words.now types plan_a plan_b seed cut → (input.new ≡ input.old) × PairRun F.stored F.faults O.taken O.faults types plan_a plan_b seed cut files.old files.new output.old output.new result }
     ensures drill { (rounds seed : ℕ) → IsDrill words.now rounds seed → (files.new ≡ files.old) × (input.new ≡ input.old) × DrillRun O.taken O.faults rounds seed output.old output.new result }
@@ -66,6 +69,7 @@ fn obey<F: Files, I: Source, O: Sink, E: Sink>(
     ensures idle { result ≡ Status.Words → (files.new ≡ files.old) × (input.new ≡ input.old) × (output.new ≡ output.old) }
     ensures answer { Some (order_in command.now) ≡ Some answer → (files.new ≡ files.old) × OwnRun I.left I.faults O.taken O.faults own_types own_plan tag.now input.old input.new output.old output.new result }
     ensures answer_plan { (types plan : Text) → Some (order_in command.now) ≡ Some (answer_plan types plan) → AnswerRun F.stored F.faults I.left I.faults O.taken O.faults types plan tag.now files.old files.new input.old input.new output.old output.new result }
+    ensures compile { (names : List Text) → Some (order_in command.now) ≡ Some (compile names) → (input.new ≡ input.old) × CompileRun F.stored F.faults O.taken O.faults names files.old files.new output.old output.new result }
     ensures idl { (types : Text) → Some (order_in command.now) ≡ Some (idl types) → (input.new ≡ input.old) × IdlRun F.stored F.faults O.taken O.faults types files.old files.new output.old output.new result }
     ensures pair { (types plan_a plan_b : Text) (seed : Option ℕ) (cut : ℕ) → Some (order_in command.now) ≡ Some (pair types plan_a plan_b seed cut None) → (input.new ≡ input.old) × PairRun F.stored F.faults O.taken O.faults types plan_a plan_b seed cut files.old files.new output.old output.new result }
     ensures drill { (rounds seed : ℕ) → Some (order_in command.now) ≡ Some (drill rounds seed) → (files.new ≡ files.old) × (input.new ≡ input.old) × DrillRun O.taken O.faults rounds seed output.old output.new result }
@@ -85,7 +89,9 @@ fn obey<F: Files, I: Source, O: Sink, E: Sink>(
             errors,
         ),
         Command::Idl { types } => run_idl(alloc, types.as_str(), files, output, errors),
-        Command::Compile { .. } => unserved(alloc, errors),
+        Command::Compile { files: names } => {
+            run_compile(alloc, names.as_slice(), files, output, errors)
+        }
         Command::Pair {
             types,
             plan_a,
@@ -120,6 +126,53 @@ fn unserved<E: Sink>(alloc: Global, errors: &mut E) -> Status
     ensures line { Printed (E.faults errors.old) (E.faults errors.new) (E.taken errors.old) (E.taken errors.new) (line_of [] result) }
 {
     report(alloc, &[], Status::Words, errors)
+}
+
+/// `compile`, with its line.
+fn run_compile<F: Files, O: Sink, E: Sink>(
+    alloc: Global,
+    names: &[String],
+    files: &mut F,
+    output: &mut O,
+    errors: &mut E,
+) -> Status
+    ensures run { CompileRun F.stored F.faults O.taken O.faults (map string_bytes names.now) files.old files.new output.old output.new result }
+    ensures no_words { result ≢ Status.Words }
+    ensures stays { (O.closed output.new ≡ O.closed output.old) × (E.closed errors.new ≡ E.closed errors.old) }
+    ensures line { Printed (E.faults errors.old) (E.faults errors.new) (E.taken errors.old) (E.taken errors.new) (line_of (map string_bytes names.now) result) }
+{
+    match names_in(alloc, names) {
+        Ok(names) => compile_named(alloc, names.as_slice(), files, output, errors),
+        Err(NoMemory) => report(alloc, &[], Status::NoMemory, errors),
+    }
+}
+
+/// The same of names that are borrowed.
+fn compile_named<F: Files, O: Sink, E: Sink>(
+    alloc: Global,
+    names: &[&str],
+    files: &mut F,
+    output: &mut O,
+    errors: &mut E,
+) -> Status
+    ensures run { CompileRun F.stored F.faults O.taken O.faults (map (λ s. s.now) names.now) files.old files.new output.old output.new result }
+    ensures no_words { result ≢ Status.Words }
+    ensures stays { (O.closed output.new ≡ O.closed output.old) × (E.closed errors.new ≡ E.closed errors.old) }
+    ensures line { Printed (E.faults errors.old) (E.faults errors.new) (E.taken errors.old) (E.taken errors.new) (line_of (map (λ s. s.now) names.now) result) }
+{
+    let status = compile(alloc, names, files, output);
+    report(alloc, names, status, errors)
+}
+
+/// Words, borrowed.
+fn names_in(alloc: Global, words: &[String]) -> Result<Vec<&str>, NoMemory>
+    ensures { IfOk result (λ names. map (λ s. s.now) names.items ≡ map string_bytes words.now) }
+{
+    let mut names = Vec::new(alloc);
+    for word in words {
+        names.push(word.as_str())?;
+    }
+    Ok(names)
 }
 
 /// `idl`, with its line.

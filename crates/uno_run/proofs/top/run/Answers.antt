@@ -1,5 +1,6 @@
 use Rattle.std.proofs.Common.{refl, sym, ◌∙◌, inr}
 use Rattle.uno_run.proofs.AnswerRuns.{idle_run}
+use Rattle.uno_run.proofs.CompileRuns as compile
 use Rattle.uno_run.proofs.DrillRuns as drill
 use Rattle.uno_run.proofs.Keeping.{for_memory}
 use Rattle.uno_run.proofs.PairRuns as pair
@@ -35,3 +36,13 @@ returns-in-Err-NoMemory-clause-pair g c = λ types plan_a plan_b seed cut is. (
 pub returns-in-Err-NoMemory-clause-drill : goal.returns-in-Err-NoMemory-clause-drill
 returns-in-Err-NoMemory-clause-drill g c = λ rounds seed is.
     (refl, refl, drill.idle_ran rounds seed g.O.Sink.taken g.O.Sink.faults _ c.report-in-Err-NoMemory.result (for_memory _ c.report-in-Err-NoMemory.ensures.kept))
+
+pub returns-in-Ok-clause-compile : goal.returns-in-Ok-clause-compile
+returns-in-Ok-clause-compile g c = λ names is. c.obey.ensures.compile names (sym c.in-Ok.ensures ∙ is)
+
+pub returns-in-Err-NoMemory-clause-compile : goal.returns-in-Err-NoMemory-clause-compile
+returns-in-Err-NoMemory-clause-compile g c = λ names is. (
+  refl,
+  compile.idle_ran g.F.Files.stored g.F.Files.faults g.O.Sink.taken g.O.Sink.faults names _ _ _ c.report-in-Err-NoMemory.result refl
+      (for_memory _ c.report-in-Err-NoMemory.ensures.kept),
+)
