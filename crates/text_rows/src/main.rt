@@ -5,6 +5,7 @@
 
 mod answer;
 mod commands;
+mod compiled;
 mod entities;
 mod judging;
 mod made;

@@ -3,7 +3,9 @@ ghost use Rattle.uno_model.specs.Sound.{IsSound};
 
 use crate::answer::Answer;
 use crate::texts::cut;
-use crate::{commands, entities, made, messages, misfits, plans, streams, unoidl, values};
+use crate::{
+    commands, compiled, entities, made, messages, misfits, plans, streams, unoidl, values,
+};
 use std::alloc::Global;
 use uno_types::{Registry, Tag, is_entity_name, is_identifier};
 
@@ -28,6 +30,8 @@ pub(crate) fn answer_row(registry: &Registry, row: &str, answer: &mut Answer)
         "tree" => unoidl::tree(registry.allocator(), text, answer),
         "value" => unoidl::value(registry.allocator(), text, answer),
         "names" => unoidl::names(registry.allocator(), text, answer),
+        "compile" => compiled::compiled(registry.allocator(), text, answer),
+        "again" => compiled::again(registry, answer),
         "members" => entities::members(registry, text, answer),
         "functions" => entities::functions(registry, text, answer),
         "function" => entities::function(registry, text, answer),

@@ -1,9 +1,12 @@
-//! Each status of `idl`, and which of two files `answer` tells, over files and streams in memory.
+//! Each status of `idl` and `compile`, and which of two files `answer` tells, over files and streams in memory.
 use crate::judging::see;
 use crate::running::{EMPTY, Row, goes, see_runs};
+use idl_compile::Reason;
 use plan_model::LineReason;
 use uno_run::RegistryReason;
-use uno_run::Status::{BadPlan, BadRegistry, Done, NoFile, ReadFault, Words, WriteFault};
+use uno_run::Status::{
+    BadPlan, BadRegistry, BadUnoidl, Done, NoFile, ReadFault, Words, WriteFault,
+};
 
 /// A constant group, and its canonical UNOIDL.
 const GROUP: &[u8] = b"unoreg 1\nconstants demo.Limits\nconst LEAST -1 long\nend\n";
@@ -46,10 +49,6 @@ const ENDED: &[Row] = &[
     },
     Row {
         words: &["idl", "-x"],
-        ..OTHER_WORDS
-    },
-    Row {
-        words: &["compile", "x.idl"],
         ..OTHER_WORDS
     },
     Row {
@@ -103,6 +102,88 @@ const REFUSED: &[Row] = &[
         },
         line: "x.reg:4: Rule 9\n",
         ..IDL
+    },
+];
+
+/// A run on a file of UNOIDL that is taken.
+const COMPILE: Row = Row {
+    words: &["compile", "x.reg"],
+    text: UNOIDL,
+    ..EMPTY
+};
+
+/// A run of which a reading fails.
+const COMPILE_UNREAD: Row = Row {
+    status: ReadFault,
+    line: "uno: read fault\n",
+    ..COMPILE
+};
+
+/// How `compile` ends: all files are read, in the order of the words, before one is judged.
+const COMPILED: &[Row] = &[
+    Row {
+        output: &[GROUP],
+        ..COMPILE
+    },
+    Row {
+        text: b"",
+        output: &[b"unoreg 1\n"],
+        ..COMPILE
+    },
+    Row {
+        text: b"struct S { double x; };",
+        status: BadUnoidl {
+            file: 0,
+            byte: 11,
+            reason: Reason::FloatRefused,
+        },
+        line: "x.reg:11: FloatRefused\n",
+        ..COMPILE
+    },
+    Row {
+        words: &["compile", "x.reg", "x.plan"],
+        plan: b"struct S { };",
+        status: BadUnoidl {
+            file: 1,
+            byte: 7,
+            reason: Reason::Rule(11),
+        },
+        line: "x.plan:7: Rule 11\n",
+        ..COMPILE
+    },
+    Row {
+        words: &["compile", "bad.reg", "none", "x.reg"],
+        status: NoFile(1),
+        line: "uno: no file none\n",
+        ..COMPILE
+    },
+    Row {
+        words: &["compile", "bad.reg", "none"],
+        readings: &[1],
+        ..COMPILE_UNREAD
+    },
+    Row {
+        words: &["compile", "none", "x.reg"],
+        readings: &[1],
+        status: NoFile(0),
+        line: "uno: no file none\n",
+        ..COMPILE
+    },
+    Row {
+        readings: &[0],
+        ..COMPILE_UNREAD
+    },
+    Row {
+        failing: [&[], &[0], &[]],
+        status: WriteFault,
+        line: "uno: write fault\n",
+        ..COMPILE
+    },
+    Row {
+        words: &["compile"],
+        status: Words,
+        line: "uno: words\n",
+        ..COMPILE
     },
 ];
 
@@ -259,6 +340,7 @@ const TOO_LONG: Row = Row {
 fn a_run_over_files_ends_as_its_row_says(rt: HostRuntime) {
     see_runs(&rt, rt.alloc(), "how idl ends", ENDED);
     see_runs(&rt, rt.alloc(), "texts that are refused", REFUSED);
+    see_runs(&rt, rt.alloc(), "how compile ends", COMPILED);
     see_runs(&rt, rt.alloc(), "which file is told", TOLD);
     see_runs(&rt, rt.alloc(), "in which order", IN_ORDER);
 }

@@ -4,7 +4,7 @@
 //! the one to the other, and with each of the cuts. A line has `status N`. Behind the line `errors`, where there is one, stands what the
 //! run must write on its errors, and behind the line `output` what it must write.
 ghost use Rattle.std.specs.Prelude.{◌≡◌};
-ghost use Rattle.pair_rows.specs.Wanted.{is_wanted};
+ghost use Rattle.run_rows.specs.Wanted.{is_wanted};
 
 /// A row.
 #[derive(Clone, Copy)]

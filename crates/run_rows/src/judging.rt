@@ -1,6 +1,6 @@
 //! Whether rows come out as they should.
 ghost use Rattle.std.specs.Prelude.{◌≡◌, ◌+◌, ◌-◌, ◌^◌, ◌==◌, min, true, false, IfOk};
-ghost use Rattle.pair_rows.specs.Wanted.{is_wanted};
+ghost use Rattle.run_rows.specs.Wanted.{is_wanted};
 
 use crate::row::Row;
 use crate::running::{bytes_in, run_line};
