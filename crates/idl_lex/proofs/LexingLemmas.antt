@@ -1,9 +1,10 @@
 -- How far a file is lexed: the tokens so far, and what is left of the file, make up its tokens.
 use Rattle.std.proofs.Common.{◌≡◌, ℕ, zero, suc, ◌+◌, ◌-◌, ◌<◌, ◌≤◌, ◌==◌, Bool, true, false, List, [], ◌∷◌, ◌++◌, length, Option, None, Some, option_map}
-use Rattle.std.proofs.Common.{Result, Ok, Err, IfOk, refl, sym, ap, subst, ◌∙◌, arith}
+use Rattle.std.proofs.Common.{Result, Ok, Err, IfOk, IsTrue, refl, sym, ap, subst, ◌∙◌, arith}
 use Rattle.std.proofs.lemmas.Bool.{le-ltb, eqb-true}
 use Rattle.std.proofs.lemmas.Str.{is_utf8-from_IsUtf8}
 use Rattle.std.proofs.lemmas.List.{append_assoc, append-nil, length-append}
+use Rattle.std.specs.List.{list_all}
 use Rattle.std.specs.Str.{IsUtf8}
 use Rattle.idl_model.specs.PlacedTokens.{PlacedToken, in_file}
 use Rattle.idl_text_model.proofs.FileLaws.{pieces_back, pieces_said, piece_long}
@@ -21,7 +22,8 @@ use Rattle.idl_trees.specs.Tokens as seen
 use Rattle.idl_trees.specs.declared.token.Token as seen_token
 use Rattle.std.specs.declared.alloc.Global.{Global}
 use Rattle.std.specs.declared.vec.Vec.{Vec}
-use Rattle.idl_lex.specs.Lexing.{found_of, refusal_at, word_at, worded, pieces_verdict, AreLexed, IsRefused}
+use Rattle.idl_lex.proofs.GuessLemmas.{all_say}
+use Rattle.idl_lex.specs.Lexing.{found_of, has_its_word, refusal_at, word_at, worded, pieces_verdict, AreLexed, IsRefused}
 use Rattle.idl_lex.specs.declared.error.LexError.{LexError}
 use Rattle.idl_lex.specs.declared.piece.Found.{Found}
 
@@ -76,6 +78,7 @@ pub record IsLexing (file : ℕ) (text : List ℕ) (tokens : List PlacedToken) (
   pub same : tokens ++ in_file file (tokens_from (length text - length left) (pieces_at left).0) ≡ in_file file (tokens_of (start_at text).0 (pieces_at (start_at text).1).0)
   pub rest : (pieces_at left).1 ≡ (pieces_at (start_at text).1).1
   pub short : length left ≤ length text
+  pub words : IsTrue (list_all has_its_word tokens)
 
 start_length : (text : List ℕ) → length text ≡ length (start_text (start_at text).0) + length (start_at text).1
 start_length text =
@@ -92,6 +95,7 @@ lexing_begins file text =
       same = ap (λ n. in_file file (tokens_from n (pieces_at (start_at text).1).0)) byte;
       rest = refl;
       short = omega (arith, whole);
+      words = refl;
     }
 
 pub lexing_starts : (file : ℕ) (text left : List ℕ) (tokens : List PlacedToken) → tokens ≡ [] → left ≡ (start_at text).1 → IsLexing file text tokens left
@@ -146,6 +150,7 @@ lexing_on file text tokens left word behind far is =
       same = ap (λ x. (tokens ++ x) ++ others) sized ∙ append_assoc tokens front others ∙ ap (λ x. tokens ++ x) (sym parts) ∙ far.same;
       rest = sym (ap (λ (x : List Piece × List ℕ). x.1) pieces) ∙ far.rest;
       short = omega (arith, long.0, far.short);
+      words = all_say file tokens p word byte (length left - length behind) far.words has.says;
     }
 
 -- ---- the end

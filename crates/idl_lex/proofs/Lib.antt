@@ -1,3 +1,4 @@
+mod GuessLemmas
 mod LexingLemmas
 mod MarkLemmas
 mod NumberLemmas

@@ -1,12 +1,14 @@
 -- What calls of the lexer give.
-use Rattle.std.specs.Prelude.{◌≡◌, ◌<◌, ◌≤◌, ℕ, zero, suc, length, Bool, true, false, List, Option, None, Some, option_map, take, drop, Result, Ok, Err, ◌==◌, codes}
+use Rattle.std.specs.Prelude.{◌≡◌, ◌<◌, ◌≤◌, ℕ, zero, suc, length, Bool, true, false, not, List, Option, None, Some, option_map, take, drop, Result, Ok, Err, ◌==◌, codes}
 use Rattle.std.specs.List.{list_any}
 use Rattle.idl_model.specs.PlacedTokens.{PlacedToken, in_file}
 use Rattle.idl_text_model.specs.LexVerdicts.{LexFault, too_long, bad_utf8, bad_token, open_comment, IsLexed}
 use Rattle.idl_text_model.specs.Pieces.{Piece, mark, is_mark}
 use Rattle.idl_text_model.specs.Readings.{start_at, pieces_at, piece_at, mark_at, verdict_of}
 use Rattle.idl_text_model.specs.Tokens.{Word, Token, word_of}
+use Rattle.idl_text_model.specs.Tokens as plain
 use Rattle.idl_trees.specs.Tokens as seen
+use Rattle.uno_model.specs.Names.{is_identifier}
 use Rattle.idl_lex.specs.declared.error.LexError.{LexError}
 use Rattle.idl_lex.specs.declared.error.LexError.TheVariants as error
 use Rattle.idl_lex.specs.declared.piece.Found.{Found}
@@ -37,6 +39,17 @@ pub record IsLongestMark (text : List ℕ) (n : ℕ) : Type 0 where
 -- a byte that is a mark by itself
 unfoldable pub is_single : ℕ → Bool
 is_single c = list_any (λ m. c == m) (codes "{}()[]<>:;,=+-*/%~&|^")
+
+-- ---- words that were met
+
+-- whether a word says what its text does as letters, digits and `_`, where it is no number and no mark
+abbrev pub says_its_word : Word → Bool
+says_its_word (plain.identifier name) = is_identifier name
+says_its_word (plain.quoted text) = not (is_identifier text)
+says_its_word _ = true
+
+abbrev pub has_its_word : PlacedToken → Bool
+has_its_word t = says_its_word t.word
 
 -- ---- a file
 

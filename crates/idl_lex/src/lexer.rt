@@ -7,6 +7,7 @@ ghost use Rattle.idl_text_model.specs.Tokens.{in_front};
 ghost use Rattle.idl_trees.specs.Tokens.{tokens_of, word_of};
 ghost use Rattle.idl_lex.specs.Lexing.{AreLexed, IsRefused, refusal_at};
 
+use crate::guesses::Guesses;
 use crate::piece::{Found, piece};
 use crate::run::{begins, behind_line_start};
 use crate::{LexError, Place, Token};
@@ -15,7 +16,12 @@ use std::alloc::Global;
 use uno_base::NoMemory;
 
 /// All tokens of a file that is UTF-8 and not too long.
-pub(crate) fn tokens(alloc: Global, file: u32, text: &[u8]) -> Result<Vec<Token>, LexError>
+pub(crate) fn tokens(
+    alloc: Global,
+    guesses: &mut Guesses,
+    file: u32,
+    text: &[u8],
+) -> Result<Vec<Token>, LexError>
     requires short { length text.now ≤ 4194304 }
     requires utf8 { IsUtf8 text.now }
     ensures tokens { IfOk result (λ tokens. AreLexed file text.now (tokens_of tokens.items)) }
@@ -24,7 +30,7 @@ pub(crate) fn tokens(alloc: Global, file: u32, text: &[u8]) -> Result<Vec<Token>
     let mut tokens = Vec::new(alloc);
     let mut left = behind_line_start(text);
     while !left.is_empty() {
-        let found = piece(alloc, left)?;
+        let found = piece(alloc, guesses, tokens.as_slice(), left)?;
         let Some(Found { word, behind }) = found else {
             return Err(refusal(file, text, left));
         };

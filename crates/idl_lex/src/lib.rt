@@ -6,12 +6,14 @@ ghost use Rattle.idl_trees.specs.Tokens.{tokens_of, EndInFile};
 ghost use Rattle.idl_lex.specs.Lexing.{AreLexed, IsRefused};
 
 mod error;
+mod guesses;
 mod lexer;
 mod number;
 mod piece;
 mod run;
 
 pub use error::LexError;
+use guesses::Guesses;
 pub use idl_trees::{Place, Token, Word};
 use std::alloc::Global;
 
@@ -37,5 +39,6 @@ pub fn lex(alloc: Global, file: u32, bytes: &[u8]) -> Result<Vec<Token>, LexErro
             byte: error.valid_up_to() as u32,
         }));
     }
-    lexer::tokens(alloc, file, bytes)
+    let mut guesses = Guesses::none(alloc)?;
+    lexer::tokens(alloc, &mut guesses, file, bytes)
 }

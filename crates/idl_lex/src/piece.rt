@@ -1,21 +1,24 @@
 //! The pieces of a file: white space, directives, comments and words.
-ghost use Rattle.std.specs.Prelude.{◌≡◌, ◌≤◌, None, Some, drop, length, option_map, IfOk};
+ghost use Rattle.std.specs.Prelude.{◌≡◌, ◌≤◌, None, Some, drop, length, option_map, IfOk, IsTrue};
+ghost use Rattle.std.specs.List.{list_all};
 ghost use Rattle.idl_text_model.specs.Numbers.{number_of_word};
 ghost use Rattle.idl_text_model.specs.Pieces.{is_in_line};
 ghost use Rattle.idl_text_model.specs.Readings.{comment_at, mark_at};
 ghost use Rattle.idl_text_model.specs.Tokens as plain;
 ghost use Rattle.literal_model.specs.Shapes.{run_of, behind_run};
 ghost use Rattle.uno_model.specs.Names.{goes_on_identifier};
-ghost use Rattle.idl_trees.specs.Tokens.{word_of};
-ghost use Rattle.idl_lex.specs.Lexing.{found_of, is_single, word_at, worded, IsLongestMark};
+ghost use Rattle.idl_trees.specs.Tokens.{tokens_of};
+ghost use Rattle.idl_lex.specs.Lexing.{found_of, has_its_word, is_single, word_at, worded, IsLongestMark};
 ghost use Rattle.idl_lex.specs.Runs.{test_of};
 
+use crate::Token;
+use crate::guesses::Guesses;
 use crate::number::number_of_word;
-use crate::run::{Run, as_text, begins, behind_line_start, goes_on, split_run};
+use crate::run::{Run, begins, behind_line_start, goes_on, split_run};
 use idl_trees::Word;
 use std::alloc::Global;
 use uno_base::NoMemory;
-use uno_entities::{Name, Text, begins_identifier, is_identifier};
+use uno_entities::begins_identifier;
 
 /// A piece in front of what is left of a file: the word that it is, if it is one, and what is behind it.
 #[derive(Drop)]
@@ -24,8 +27,14 @@ pub(crate) struct Found<'t> {
     pub(crate) behind: &'t [u8],
 }
 
-/// The piece that a text begins with.
-pub(crate) fn piece(alloc: Global, text: &[u8]) -> Result<Option<Found<'_>>, NoMemory>
+/// The piece that a text begins with, behind these tokens.
+pub(crate) fn piece<'t>(
+    alloc: Global,
+    guesses: &mut Guesses,
+    tokens: &[Token],
+    text: &'t [u8],
+) -> Result<Option<Found<'t>>, NoMemory>
+    requires { IsTrue (list_all has_its_word (tokens_of tokens.now)) }
     ensures { IfOk result (λ found. option_map found_of found ≡ word_at text.now) }
 {
     let Some((first, behind)) = text.split_first() else {
@@ -41,7 +50,7 @@ pub(crate) fn piece(alloc: Global, text: &[u8]) -> Result<Option<Found<'_>>, NoM
         }));
     }
     if begins_identifier(*first) {
-        return name(alloc, text);
+        return name(alloc, guesses, tokens, text);
     }
     if first.is_ascii_digit() {
         return Ok(numeral(text));
@@ -52,7 +61,7 @@ pub(crate) fn piece(alloc: Global, text: &[u8]) -> Result<Option<Found<'_>>, NoM
     if begins(text, b"/*") {
         return Ok(block_comment(text));
     }
-    mark(alloc, text)
+    mark(alloc, guesses, tokens, text)
 }
 
 /// A piece up to the end of a run.
@@ -64,26 +73,22 @@ fn without_word(run: Run, text: &[u8]) -> Found<'_>
 }
 
 /// An identifier, or a word that is none.
-fn name(alloc: Global, text: &[u8]) -> Result<Option<Found<'_>>, NoMemory>
+fn name<'t>(
+    alloc: Global,
+    guesses: &mut Guesses,
+    tokens: &[Token],
+    text: &'t [u8],
+) -> Result<Option<Found<'t>>, NoMemory>
+    requires { IsTrue (list_all has_its_word (tokens_of tokens.now)) }
     ensures { IfOk result (λ found. option_map found_of found
         ≡ Some (Some (plain.word_named (run_of goes_on_identifier text.now)), behind_run goes_on_identifier text.now)) }
 {
     let (run, behind) = split_run(Run::Word, text);
-    let word = word_named(alloc, as_text(run))?;
+    let word = guesses.word(alloc, tokens, run)?;
     Ok(Some(Found {
         word: Some(word),
         behind,
     }))
-}
-
-/// What letters, digits and `_` say.
-fn word_named(alloc: Global, word: &str) -> Result<Word, NoMemory>
-    ensures { IfOk result (λ w. word_of w ≡ plain.word_named word.now) }
-{
-    if is_identifier(word) {
-        return Ok(Word::Identifier(Name::of(alloc, word)?));
-    }
-    Ok(Word::Quoted(Text::of(alloc, word)?))
 }
 
 /// A word that begins with a digit is a number as a whole.
@@ -134,7 +139,12 @@ fn behind_comment(text: &[u8]) -> Option<&[u8]>
 }
 
 /// The longest mark.
-fn mark(alloc: Global, text: &[u8]) -> Result<Option<Found<'_>>, NoMemory>
+fn mark<'t>(
+    alloc: Global,
+    guesses: &mut Guesses,
+    tokens: &[Token],
+    text: &'t [u8],
+) -> Result<Option<Found<'t>>, NoMemory>
     ensures { IfOk result (λ found. option_map found_of found ≡ worded (mark_at text.now)) }
 {
     let length = mark_length(text);
@@ -142,9 +152,9 @@ fn mark(alloc: Global, text: &[u8]) -> Result<Option<Found<'_>>, NoMemory>
         return Ok(None);
     }
     let (mark, behind) = text.split_at(length);
-    let mark = Text::of(alloc, as_text(mark))?;
+    let word = guesses.mark(alloc, tokens, mark)?;
     Ok(Some(Found {
-        word: Some(Word::Mark(mark)),
+        word: Some(word),
         behind,
     }))
 }
