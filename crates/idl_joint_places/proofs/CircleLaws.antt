@@ -5,7 +5,7 @@ use Rattle.std.proofs.lemmas.Bool.Decides.{nat_tests}
 use Rattle.std.proofs.lemmas.List.Elements.{Contains-append_cases, Contains-append_left, Contains-append_right}
 use Rattle.std.proofs.lemmas.Option.{slice_get-get_or}
 use Rattle.std.specs.List.{filter, filter_map, flat_map, list_any}
-use Rattle.uno_model.specs.Circles.{Leads, step, on}
+use Rattle.uno_model.specs.Circles.{HasNoCircle, Leads, step, on}
 use Rattle.uno_model.specs.Entities.{Entity}
 use Rattle.uno_model.specs.Places as uno
 use Rattle.uno_model.specs.Registry.{IsRising}
@@ -132,6 +132,18 @@ module _ (reg : List Entity) (rising : IsRising reg) where
       flat_same : (es : List Declared) → flat_map (λ d. if_back (back d) (place d)) es ≡ flat_map (entity_circle reg) es
       flat_same [] = refl
       flat_same (e ∷ es) = ap₂ (λ xs ys. xs ++ ys) (circle_is e) (flat_same es)
+
+  not_back : (graph : List (List ℕ)) → graph ≡ rows_of reg → HasNoCircle (targets graph) → (d : Declared) → entity_circle reg d ≡ []
+  not_back graph is none d = sym (circle_is d) ∙ by_test (back d) refl
+    where
+      by_test : (b : Bool) → back d ≡ b → if_back b (place d) ≡ []
+      by_test true back_is = absurd (brought d back_is (λ n node way. none n (subst (λ g. Leads (targets g) n n) (sym is) way)))
+      by_test false back_is = refl
+
+  -- where the graph has no circle
+  pub no_entity : (graph : List (List ℕ)) → graph ≡ rows_of reg → HasNoCircle (targets graph) → (ds : List Declared) → flat_map (entity_circle reg) ds ≡ []
+  no_entity graph is none [] = refl
+  no_entity graph is none (d ∷ ds) = ap₂ (λ xs ys. xs ++ ys) (not_back graph is none d) (no_entity graph is none ds)
 
 -- ---- constants and items
 

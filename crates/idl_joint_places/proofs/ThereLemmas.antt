@@ -1,7 +1,10 @@
 -- The entity of a declaration, found by the name that its path has.
-use Rattle.std.proofs.Common.{◌≡◌, refl, ap, ◌∙◌, ℕ, ◌<◌, Bool, true, false, List, [], length, get_or, None, Some, arith}
-use Rattle.std.proofs.lemmas.List.{length-map}
+use Rattle.std.proofs.Common.{◌≡◌, refl, sym, ap, ap₂, subst, ◌∙◌, ℕ, suc, ◌+◌, ◌<◌, ◌≤◌, inl, inr, Bool, true, false, List, [], ◌∷◌, ◌++◌, length, get_or, None, Some, if◌then◌else◌, arith}
+use Rattle.std.proofs.lemmas.Bool.{cases_lt}
+use Rattle.std.proofs.lemmas.List.{get_or_past, length-map}
 use Rattle.std.proofs.lemmas.Option.{get_or_from_slice_get, slice_get_within}
+use Rattle.std.specs.List.{flat_map}
+use Rattle.std.specs.Str.{bytes_eq}
 use Rattle.uno_entities.specs.Entities.{entities_of, entity_of}
 use Rattle.uno_entities.specs.Finding.{IsPlaceOf}
 use Rattle.uno_entities.specs.declared.entity.Entity as types
@@ -11,7 +14,7 @@ use Rattle.uno_model.specs.Places as uno
 use Rattle.uno_model.specs.Registry.{IsRising, find_entity}
 use Rattle.uno_model.proofs.PlaceLaws.{place_is, place_none}
 use Rattle.idl_joint_places.specs.Circles.{node_there}
-use Rattle.idl_joint_places.specs.There.{failing_there}
+use Rattle.idl_joint_places.specs.There.{failing_there, passes}
 use Rattle.idl_meaning_model.specs.Declarations as model
 use Rattle.idl_meaning_model.specs.Declarations.{dotted, full_name, is_forward}
 use Rattle.idl_model.specs.Places as plain
@@ -49,6 +52,47 @@ marked test es d place b e marks kind there are is =
     let found : find_entity (full_name d) reg ≡ Some one.0 = there.found ∙ one.1 in
     let says : b ≡ test one.0 = mark_keeps test es place b e marks (let low = there.within in omega (arith, low, long)) are is one.0 one.1 in
     rw (kind, found) (ap (at_unless d.name.place) says)
+
+-- ---- all marks
+
+pub one_more_marked : (marks : List Bool) (n : ℕ) → get_or marks n true ≡ true → ((place : ℕ) → place < n → get_or marks place true ≡ true) → (place : ℕ) → place < n + 1
+    → get_or marks place true ≡ true
+one_more_marked marks n right so_far place before = elim (cases_lt place n) [
+  | inl less ↦ so_far place less
+  | inr least ↦ let same : place ≡ n = omega (arith, before, least) in ap (λ k. get_or marks k true) same ∙ right
+]
+
+pub all_so_far : (marks : List Bool) (n : ℕ) → length marks ≤ n → ((place : ℕ) → place < n → get_or marks place true ≡ true) → (place : ℕ) → get_or marks place true ≡ true
+all_so_far marks n end so_far place = elim (cases_lt place n) [
+  | inl less ↦ so_far place less
+  | inr least ↦ get_or_past marks place true (omega (arith, end, least))
+]
+
+all_pass : (test : Entity → Bool) (es : List types.Entity) → ((place : ℕ) → get_or (marks_of test es) place true ≡ true) → (name : List ℕ) → passes test (find_entity name (entities_of es)) ≡ true
+unfolding find_entity
+all_pass test [] all name = refl
+all_pass test (e ∷ es) all name = by_name (bytes_eq name (entity_of e).name) (all_pass test es (λ place. all (suc place)) name)
+  where
+    by_name : (b : Bool) → passes test (find_entity name (entities_of es)) ≡ true → passes test (if b then Some (entity_of e) else find_entity name (entities_of es)) ≡ true
+    by_name true rest = all 0
+    by_name false rest = rest
+
+not_failing : (test : Entity → Bool) (reg : List Entity) (d : model.Declared) → passes test (find_entity (full_name d) reg) ≡ true → failing_there test reg d ≡ []
+unfolding failing_there
+not_failing test reg d right = by_kind (is_forward d.body)
+  where
+    by_kind : (b : Bool) → (if b then [] else at_unless d.name.place (passes test (find_entity (full_name d) reg))) ≡ []
+    by_kind true = refl
+    by_kind false = ap (at_unless d.name.place) right
+
+-- where all entities are marked
+pub none_failing : (test : Entity → Bool) (es : List types.Entity) (marks : List Bool) → marks ≡ marks_of test es → ((place : ℕ) → get_or marks place true ≡ true) → (ds : List model.Declared)
+    → flat_map (failing_there test (entities_of es)) ds ≡ []
+none_failing test es marks are all [] = refl
+none_failing test es marks are all (d ∷ ds) =
+    ap₂ (λ xs ys. xs ++ ys)
+    (not_failing test (entities_of es) d (all_pass test es (subst (λ (ms : List Bool). (place : ℕ) → get_or ms place true ≡ true) are all) (full_name d)))
+    (none_failing test es marks are all ds)
 
 -- ---- its node
 

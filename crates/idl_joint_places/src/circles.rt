@@ -15,13 +15,14 @@ ghost use Rattle.idl_rules_model.specs.Circles.{on_circles};
 ghost use Rattle.idl_trees.specs.Members.{constant_of, item_of};
 ghost use Rattle.idl_trees.specs.Names.{place_of};
 ghost use Rattle.idl_trees.specs.Trees.{declaration_of};
+ghost use Rattle.registry_rules.specs.Graphs.{rows_of};
 ghost use Rattle.uno_entities.specs.Entities.{entities_of};
 ghost use Rattle.uno_model.specs.Registry.{IsRising};
 
 use crate::found::{is_forward, place_there};
 use crate::ranks::{place_ranked, rank_of};
 use circle_ranks::{Node, least_on_circle};
-use circle_search::Graph;
+use circle_search::{Graph, has_no_circle};
 use idl_names::{Declared, Paths};
 use idl_places::{add_place, is_before};
 use idl_trees::{Constant, Declaration, Id, Item, Place};
@@ -73,6 +74,7 @@ fn earlier_of(place: Place, second: Option<Place>) -> Place
 
 // ---- entities
 
+/// Where no entity is on a circle, no declaration is sought.
 fn entity_on_circle(
     alloc: Global,
     paths: &Paths<'_>,
@@ -83,9 +85,29 @@ fn entity_on_circle(
     requires numbers { AllByRecursion (HasNumbers paths.now) all.now }
     ensures { IfOk result (FindsLeast (flat_map (entity_circle (entities_of entities.now)) (map (declared_of paths.now) all.now))) }
 {
-    let nodes = entity_nodes(alloc, paths, all, entities)?;
     let graph = graph_of_places(alloc, entities)?;
-    least_place(alloc, &graph, nodes.as_slice())
+    let free = has_no_circle(alloc, &graph)?;
+    if free {
+        return Ok(None);
+    }
+    least_entity(alloc, paths, all, entities, &graph)
+}
+
+/// The least place of a declaration whose entity is on a circle of the graph, which has the entities as its nodes.
+fn least_entity(
+    alloc: Global,
+    paths: &Paths<'_>,
+    all: &[Declared<'_>],
+    entities: &[Entity],
+    graph: &Graph,
+) -> Result<Option<Place>, NoMemory>
+    requires rising { IsRising (entities_of entities.now) }
+    requires numbers { AllByRecursion (HasNumbers paths.now) all.now }
+    requires graph { graph.now ≡ rows_of (entities_of entities.now) }
+    ensures { IfOk result (FindsLeast (flat_map (entity_circle (entities_of entities.now)) (map (declared_of paths.now) all.now))) }
+{
+    let nodes = entity_nodes(alloc, paths, all, entities)?;
+    least_place(alloc, graph, nodes.as_slice())
 }
 
 /// Of each declaration the place of its entity, and its own place.

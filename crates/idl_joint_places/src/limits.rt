@@ -1,6 +1,6 @@
 //! The eleventh rule: entities are whole and within the limits.
 ghost use Rattle.std.specs.List.{AllByRecursion, flat_map};
-ghost use Rattle.std.specs.Prelude.{◌≡◌, map, OnOk};
+ghost use Rattle.std.specs.Prelude.{◌≡◌, ℕ, get_or, map, OnOk, true};
 ghost use Rattle.idl_joint_places.specs.There.{AreKept, failing_there};
 ghost use Rattle.idl_meaning_model.specs.Declarations.{entities_declared};
 ghost use Rattle.idl_names.specs.Collected.{HasNumbers, declared_of};
@@ -38,8 +38,38 @@ pub fn add_past_limits(
     add_unmarked(alloc, paths, all, entities, whole.as_slice(), places)
 }
 
-/// The places of declarations whose entities are not marked as whole.
+/// The places of declarations whose entities are not marked as whole. Where all are, no declaration is sought.
 fn add_unmarked(
+    alloc: Global,
+    paths: &Paths<'_>,
+    all: &[Declared<'_>],
+    entities: &[Entity],
+    marks: &[bool],
+    places: &mut Vec<Place>,
+) -> Result<(), NoMemory>
+    requires rising { IsRising (entities_of entities.now) }
+    requires numbers { AllByRecursion (HasNumbers paths.now) all.now }
+    requires marks { marks.now ≡ map (λ e. is_whole_within_limits (entities_of entities.now) (entity_of e)) entities.now }
+    ensures { OnOk result (AddsPlaces places.old.items (flat_map (failing_there (is_whole_within_limits (entities_of entities.now)) (entities_of entities.now)) (map (declared_of paths.now) all.now)) places.new.items) }
+{
+    if are_all_marked(marks) {
+        return Ok(());
+    }
+    add_each_unmarked(alloc, paths, all, entities, marks, places)
+}
+
+fn are_all_marked(marks: &[bool]) -> bool
+    ensures { result ≡ true → (place : ℕ) → get_or marks.now place true ≡ true }
+{
+    for place in 0..marks.len() {
+        if !is_marked(marks, place) {
+            return false;
+        }
+    }
+    true
+}
+
+fn add_each_unmarked(
     alloc: Global,
     paths: &Paths<'_>,
     all: &[Declared<'_>],

@@ -1,3 +1,4 @@
+pub mod FullNameLemmas
 pub mod KindLemmas
 pub mod LoopLemmas
 pub mod MeantLemmas

@@ -54,6 +54,10 @@ pub told_kind : {P : Type 0} (result : Result TypeName NoMemory) (k : Kind) → 
 told_kind (Ok made) k it f = ∥∥₁_elim it (Coded-set kind_code (kind_of made) k) f
 told_kind (Err e) k it f = tt
 
+pub told_name : {P : Type 0} (result : Result (List ℕ) NoMemory) (a : List ℕ) → ∥ P ∥₁ → (P → IfOk result (λ name. name ≡ a)) → IfOk result (λ name. name ≡ a)
+told_name (Ok name) a it f = ∥∥₁_elim it (hlevel props) f
+told_name (Err e) a it f = tt
+
 pub none_of : {P : Type 0} → ∥ P ∥₁ → (P → ⊥) → ⊥
 none_of it f = ∥∥₁_elim it (hlevel props) f
 

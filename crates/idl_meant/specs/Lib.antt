@@ -1,3 +1,4 @@
+pub mod FullNames
 pub mod Matching
 pub mod Meant
 pub mod Naming

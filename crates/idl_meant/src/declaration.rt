@@ -87,8 +87,7 @@ impl<'a, 'b, 'c> Meanings for DeclarationMeaning<'a, 'b, 'c> {
     ghost telling = { λ d. telling_in d.meaning.now.resolved.now d.declared };
 
     fn full_name(&self) -> Result<Name, NoMemory> {
-        let paths = &self.meaning.resolved.paths;
-        paths.full_name(self.meaning.alloc, self.declared.path)
+        self.meaning.full_name(self.declared.path)
     }
 
     fn is_published(&self) -> bool {
@@ -101,8 +100,7 @@ impl<'a, 'b, 'c> Meanings for DeclarationMeaning<'a, 'b, 'c> {
 
     fn name(&self, path: &Path) -> Result<Name, NoMemory> {
         let number = self.number_of(path)?;
-        let paths = &self.meaning.resolved.paths;
-        paths.full_name(self.meaning.alloc, number)
+        self.meaning.full_name(number)
     }
 
     fn kind(&self, written: &WrittenType) -> Result<TypeName, NoMemory> {

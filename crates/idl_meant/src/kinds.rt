@@ -1,6 +1,7 @@
 //! Types that are made of their shapes.
 ghost use Rattle.std.specs.Prelude.{◌≡◌, ◌<◌, ◌≤◌, IfOk, length, option_map, unwrap_or};
 ghost use Rattle.idl_meaning_model.specs.Meaning.{simple_meant};
+ghost use Rattle.idl_meant.specs.FullNames.{AreFullNames};
 ghost use Rattle.idl_meant.specs.Shaping.{bound_of};
 ghost use Rattle.idl_meant.specs.Typing.{end_kind, leaf_kind, shape_kind};
 ghost use Rattle.idl_trees.specs.Trees.{declaration_of};
@@ -14,6 +15,7 @@ ghost use Rattle.uno_model.specs.Kinds as kd;
 ghost use Rattle.uno_model.specs.NamedTypes.{kind_of_body, kind_of_entity};
 ghost use Rattle.uno_model.specs.Registry.{find_entity};
 
+use crate::full_names::full_name;
 use crate::owners::owner;
 use crate::shapes::{Leaf, Shape};
 use idl_names::{Declared, Paths};
@@ -22,11 +24,12 @@ use std::alloc::Global;
 use uno_base::NoMemory;
 use uno_entities::{Body, Entity, Name, TypeName};
 
-/// What types are made of: the paths by number, the declarations, those of entities by the numbers of their paths, and what is built in.
+/// What types are made of: the paths by number, with names of theirs, the declarations, those of entities by the numbers of their paths, and what is built in.
 #[derive(Clone, Copy)]
 pub(crate) struct Types<'a, 'c> {
     pub alloc: Global,
     pub paths: &'c Paths<'a>,
+    pub full_names: &'c [Option<Name>],
     pub all: &'c [Declared<'a>],
     pub owners: &'c [Option<u32>],
     pub built_in: &'c [Entity],
@@ -36,7 +39,7 @@ impl<'a, 'c> Types<'a, 'c> {
     /// The type of this shape.
     pub(crate) fn made(&self, shape: Shape) -> Result<TypeName, NoMemory>
         requires { bound_of shape.leaf ≤ length self.now.paths.now }
-        ensures { entities_of self.now.built_in.now ≡ built_in → IfOk result (λ kind. kind_of kind ≡ shape_kind self.now.paths.now self.now.all.now self.now.owners.now shape) }
+        ensures { AreFullNames self.now.paths.now self.now.full_names.now → entities_of self.now.built_in.now ≡ built_in → IfOk result (λ kind. kind_of kind ≡ shape_kind self.now.paths.now self.now.all.now self.now.owners.now shape) }
     {
         let leaf = self.leaf(shape.leaf)?;
         sequences(self.alloc, leaf, shape.sequences)
@@ -44,7 +47,7 @@ impl<'a, 'c> Types<'a, 'c> {
 
     fn leaf(&self, leaf: Leaf) -> Result<TypeName, NoMemory>
         requires { bound_of leaf ≤ length self.now.paths.now }
-        ensures { entities_of self.now.built_in.now ≡ built_in → IfOk result (λ kind. kind_of kind ≡ leaf_kind self.now.paths.now self.now.all.now self.now.owners.now leaf) }
+        ensures { AreFullNames self.now.paths.now self.now.full_names.now → entities_of self.now.built_in.now ≡ built_in → IfOk result (λ kind. kind_of kind ≡ leaf_kind self.now.paths.now self.now.all.now self.now.owners.now leaf) }
     {
         match leaf {
             Leaf::Simple(simple) => Ok(simple_type(simple)),
@@ -56,9 +59,9 @@ impl<'a, 'c> Types<'a, 'c> {
     /// The type at the end of a chain of typedefs.
     fn end(&self, number: u32) -> Result<TypeName, NoMemory>
         requires { number < length self.now.paths.now }
-        ensures { entities_of self.now.built_in.now ≡ built_in → IfOk result (λ kind. kind_of kind ≡ end_kind self.now.paths.now self.now.all.now self.now.owners.now number) }
+        ensures { AreFullNames self.now.paths.now self.now.full_names.now → entities_of self.now.built_in.now ≡ built_in → IfOk result (λ kind. kind_of kind ≡ end_kind self.now.paths.now self.now.all.now self.now.owners.now number) }
     {
-        let name = self.paths.full_name(self.alloc, number)?;
+        let name = full_name(self.alloc, self.paths, self.full_names, number)?;
         match owner(self.all, self.owners, number) {
             Some(declared) => Ok(declared_type(declared.body, name)),
             None => Ok(built_in_type(self.built_in, name)),
@@ -67,10 +70,10 @@ impl<'a, 'c> Types<'a, 'c> {
 
     fn endless(&self, number: u32) -> Result<TypeName, NoMemory>
         requires { number < length self.now.paths.now }
-        ensures { IfOk result (λ kind. kind_of kind ≡ leaf_kind self.now.paths.now self.now.all.now self.now.owners.now (Leaf.Endless number)) }
+        ensures { AreFullNames self.now.paths.now self.now.full_names.now → IfOk result (λ kind. kind_of kind ≡ leaf_kind self.now.paths.now self.now.all.now self.now.owners.now (Leaf.Endless number)) }
     {
-        let name = self.paths.full_name(self.alloc, number)?;
-        Ok(TypeName::Struct(name))
+        let name = full_name(self.alloc, self.paths, self.full_names, number)?;
+        Ok(struct_type(name))
     }
 }
 

@@ -2,6 +2,7 @@
 #![tactic(auto)]
 
 mod declaration;
+mod full_names;
 mod kinds;
 mod meaning;
 mod names;

@@ -1,10 +1,12 @@
 //! What resolved files mean.
-ghost use Rattle.std.specs.Prelude.{◌≡◌, IfOk};
+ghost use Rattle.std.specs.Prelude.{◌≡◌, ◌<◌, IfOk, length};
 ghost use Rattle.idl_meaning_model.specs.Declarations.{all_valued};
 ghost use Rattle.idl_meant.specs.Meant.{IsMeant};
 ghost use Rattle.idl_meant.specs.Numbering.{IsValueGraph};
 ghost use Rattle.idl_meant.specs.Resolving.{AreTold, all_in};
+ghost use Rattle.idl_names.specs.Standing.{name_at};
 
+use crate::full_names::{full_name, full_names};
 use crate::kinds::Types;
 use crate::names::{Names, names_meant};
 use crate::numbers::{Numbers, numbers_meant};
@@ -12,7 +14,7 @@ use circle_search::Graph;
 use idl_names::Resolved;
 use std::alloc::Global;
 use uno_base::NoMemory;
-use uno_entities::{Entity, built_in_entities};
+use uno_entities::{Entity, Name, built_in_entities};
 
 /// What the names, types and numbers of resolved files mean.
 #[derive(Drop)]
@@ -21,8 +23,9 @@ pub struct Meaning<'a, 'b> {
     pub(crate) resolved: &'b Resolved<'a>,
     pub(crate) names: Names<'a>,
     pub(crate) numbers: Numbers,
+    pub(crate) full_names: Vec<Option<Name>>,
     pub(crate) built_in: Vec<Entity>,
-    pub ghost right: { ∥ IsMeant resolved.now names numbers built_in.items ∥₁ },
+    pub ghost right: { ∥ IsMeant resolved.now names numbers full_names.items built_in.items ∥₁ },
 }
 
 impl<'a, 'b> Meaning<'a, 'b> {
@@ -33,12 +36,14 @@ impl<'a, 'b> Meaning<'a, 'b> {
     {
         let names = names_meant(alloc, resolved)?;
         let numbers = numbers_meant(alloc, resolved, &names.told)?;
+        let full_names = full_names(alloc, resolved)?;
         let built_in = built_in_entities(alloc)?;
         Ok(Meaning {
             alloc,
             resolved,
             names,
             numbers,
+            full_names,
             built_in,
         })
     }
@@ -50,9 +55,19 @@ impl<'a, 'b> Meaning<'a, 'b> {
         &self.numbers.graph
     }
 
+    /// The full name of the path of this number.
+    pub(crate) fn full_name(&self, number: u32) -> Result<Name, NoMemory>
+        requires { number < length self.now.resolved.now.paths }
+        ensures { IfOk result (λ name. name ≡ name_at self.now.resolved.now.paths number) }
+    {
+        let paths = &self.resolved.paths;
+        full_name(self.alloc, paths, self.full_names.as_slice(), number)
+    }
+
     /// What types are made of.
     pub(crate) fn types(&self) -> Types<'a, '_>
         ensures paths { result.paths.now ≡ self.now.resolved.now.paths }
+        ensures full_names { result.full_names.now ≡ self.now.full_names.items }
         ensures all { result.all.now ≡ self.now.resolved.now.declared.items }
         ensures owners { result.owners.now ≡ self.now.names.owners.items }
         ensures built_in { result.built_in.now ≡ self.now.built_in.items }
@@ -60,6 +75,7 @@ impl<'a, 'b> Meaning<'a, 'b> {
         Types {
             alloc: self.alloc,
             paths: &self.resolved.paths,
+            full_names: self.full_names.as_slice(),
             all: self.resolved.declared.as_slice(),
             owners: self.names.owners.as_slice(),
             built_in: self.built_in.as_slice(),

@@ -1,13 +1,12 @@
-use Rattle.std.proofs.Common.{◌∙◌, ap, map}
-use Rattle.std.proofs.lemmas.Result.{IfOk-weaker}
+use Rattle.std.proofs.Common.{map}
 use Rattle.uno_entities.specs.Entities.{entities_of}
 use Rattle.idl_names.specs.Collected.{declared_of}
-use Rattle.idl_joint_places.specs.Circles.{nodes_of}
-use Rattle.idl_joint_places.proofs.CircleLaws.{entity_found}
+use Rattle.idl_joint_places.proofs.CircleLaws.{no_entity}
 use Rattle.idl_joint_places.proofs.circles.entity_on_circle.Goals as goal
 
-pub returns : goal.returns
-returns c =
-    IfOk-weaker c.least_place.result _ _
-    (λ found ranked. entity_found (entities_of c.args.entities.now) c.requires.rising (map (declared_of c.args.paths.now) c.args.all.now) c.as_slice.result.now c.in_ok-graph.graph found
-    c.in_ok-graph.ensures (ap nodes_of c.as_slice.ensures.value ∙ c.in_ok-nodes.ensures) ranked) c.least_place.ensures
+pub least_entity-requires-clause-graph : goal.least_entity-requires-clause-graph
+least_entity-requires-clause-graph c = c.in_ok-graph.ensures
+
+pub returns-then-free : goal.returns-then-free
+returns-then-free c =
+    no_entity (entities_of c.args.entities.now) c.requires.rising c.in_ok-graph.graph c.in_ok-graph.ensures (c.in_ok-free.ensures.0 c.if-free.true) (map (declared_of c.args.paths.now) c.args.all.now)

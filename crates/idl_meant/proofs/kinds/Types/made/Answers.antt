@@ -4,5 +4,5 @@ use Rattle.uno_entities.specs.TypeNames.{kind_of}
 use Rattle.idl_meant.proofs.kinds.Types.made.Goals as goal
 
 pub returns : goal.returns
-returns c = λ built.
-    subst (λ k. IfOk c.sequences.result (λ made. kind_of made ≡ sequences c.args.shape.sequences k)) (c.in_ok-leaf.ensures built) c.sequences.ensures
+returns c = λ names built.
+    subst (λ k. IfOk c.sequences.result (λ made. kind_of made ≡ sequences c.args.shape.sequences k)) (c.in_ok-leaf.ensures names built) c.sequences.ensures

@@ -5,7 +5,7 @@ use Rattle.registry_text_model.specs.WholeWithinLimits.{is_whole_within_limits}
 use Rattle.idl_names.specs.Collected.{declared_of}
 use Rattle.idl_places.specs.Places.{AddsPlaces}
 use Rattle.idl_joint_places.specs.There.{failing_there}
-use Rattle.idl_joint_places.proofs.limits.add_unmarked.Given as goal
+use Rattle.idl_joint_places.proofs.limits.add_each_unmarked.Given as goal
 
 abbrev pub invariant-loop-declared : goal.invariant-loop-declared
 invariant-loop-declared l =
