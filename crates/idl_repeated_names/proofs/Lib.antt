@@ -7,3 +7,5 @@ mod OwnerLemmas
 mod RepeatedLemmas
 pub mod SecondLaws
 mod TwinsLemmas
+mod WalkLemmas
+mod WayLemmas

@@ -1,5 +1,5 @@
 -- Names that are met, and lists that are asked, one behind the other.
-use Rattle.std.proofs.Common.{◌≡◌, refl, sym, ap, subst, ◌∙◌, ℕ, zero, suc, ◌+◌, ◌<◌, ◌≤◌, inl, inr, true, false, List, [], ◌∷◌, ◌++◌, length, map, take, get_or, append-nil, append_assoc, Option, None, Some, Contains, if◌then◌else◌, arith}
+use Rattle.std.proofs.Common.{◌≡◌, refl, sym, ap, ap₂, subst, ◌∙◌, ℕ, zero, suc, ◌+◌, ◌<◌, ◌≤◌, inl, inr, true, false, List, [], ◌∷◌, ◌++◌, length, map, take, get_or, append-nil, append_assoc, Option, None, Some, Contains, if◌then◌else◌, arith}
 use Rattle.std.proofs.lemmas.List.{map-append, take_all}
 use Rattle.std.proofs.lemmas.List.Elements.{Contains-append_cases, Contains-append_left, Contains-append_right}
 use Rattle.std.proofs.lemmas.Grind.{flat_map-append}
@@ -10,10 +10,10 @@ use Rattle.idl_model.specs.Places.{Place}
 use Rattle.idl_model.specs.Trees.{Attribute}
 use Rattle.idl_places.proofs.Steps.{Tells, told_behind}
 use Rattle.idl_repeated_names.specs.Meeting.{Asks, Meets, at_accessor, attribute_named, members_named, methods_named}
-use Rattle.idl_repeated_names.specs.Tables.{all_seconds, seconds}
-use Rattle.idl_repeated_names.specs.Twins.{HasMet, HaveKeys, IsKey, Named, name_at}
+use Rattle.idl_repeated_names.specs.Tables.{IsWithin, all_seconds, seconds}
+use Rattle.idl_repeated_names.specs.Twins.{HasMet, HaveKeys, IsKey, Named, NeedsNoOwn, name_at}
 use Rattle.idl_repeated_names.specs.declared.twins.Twins.{Twins}
-use Rattle.idl_repeated_names.proofs.SecondLaws.{IsWithin, more_has, more_in}
+use Rattle.idl_repeated_names.proofs.SecondLaws.{more_has, more_in}
 use Rattle.idl_rules_model.specs.NamesDiffer.{NameAt, second_names}
 use Rattle.idl_trees.specs.Names.{place_of}
 use Rattle.idl_trees.specs.declared.place.Place as code
@@ -50,20 +50,22 @@ meets_none t =
     record {
       met = λ ns has. subst (HasMet t) (sym (append-nil ns)) has;
       own = refl;
+      bare = λ so. (so, λ ns own has have more. refl);
       least = λ ns ps has have more finds. subst (λ qs. FindsLeast qs t.least) (sym (append-nil ps)) finds;
     }
 
 pub meets_nothing : (t : Twins) (more : List Named) → more ≡ [] → Meets t t more
 meets_nothing t more none = subst (Meets t t) (sym none) (meets_none t)
 
-pub meets_one : (old new : Twins) (n : Named) → ((ns : List Named) → HasMet old ns → HasMet new (ns ++ n ∷ [])) → new.own ≡ old.own
+pub meets_one : (old new : Twins) (n : Named) → ((ns : List Named) → HasMet old ns → HasMet new (ns ++ n ∷ [])) → new.own ≡ old.own → NeedsNoOwn old new n
     → ((ns : List Named) (ps : List Place) → HasMet old ns → HaveKeys ns → IsKey n.key → FindsLeast ps old.least → FindsLeast (ps ++ seconds (place_of old.own) (map name_at ns) (name_at n)) new.least)
     → Meets old new (n ∷ [])
 unfolding all_seconds
-meets_one old new n met own least =
+meets_one old new n met own bare least =
     record {
       met = met;
       own = own;
+      bare = λ so. let needs = bare so in (needs.0, λ ns other has have more. ap (λ qs. qs ++ []) (needs.1 ns other has have more.0));
       least = λ ns ps has have more finds.
           subst (λ qs. FindsLeast (ps ++ qs) new.least) (sym (append-nil (seconds (place_of old.own) (map name_at ns) (name_at n)))) (least ns ps has have more.0 finds);
     }
@@ -73,6 +75,22 @@ meets_then old mid new xs ys first next =
     record {
       met = λ ns has. subst (HasMet new) (append_assoc ns xs ys) (next.met (ns ++ xs) (first.met ns has));
       own = next.own ∙ first.own;
+      bare = λ so.
+          let later = next.bare so in
+          let was = first.bare later.0 in (
+            was.0,
+            λ ns own has have more.
+                let one = keys_first xs ys more in
+                let each : Place → List Place = λ p. all_seconds p (map name_at ns) (map name_at (xs ++ ys)) in
+                let parts : Place → List Place = λ p. all_seconds p (map name_at ns) (map name_at xs) ++ all_seconds p (map name_at (ns ++ xs)) (map name_at ys) in
+                let split : (p : Place) → each p ≡ parts p = λ p.
+                ap (all_seconds p (map name_at ns)) (map-append name_at xs ys) ∙ seconds_then p (map name_at ns) (map name_at xs) (map name_at ys)
+                ∙ ap (λ ms. all_seconds p (map name_at ns) (map name_at xs) ++ all_seconds p ms (map name_at ys)) (sym (map-append name_at ns xs)) in
+                split own
+                ∙ ap₂ (λ qs rs. qs ++ rs) (was.1 ns own has have one)
+                (later.1 (ns ++ xs) own (first.met ns has) (keys_both ns xs have one) (keys_then xs ys more) ∙ ap (λ (o : code.Place). all_seconds (place_of o) (map name_at (ns ++ xs)) (map name_at ys)) first.own)
+                ∙ sym (split (place_of old.own)),
+          );
       least = λ ns ps has have more finds.
           let own : Place = place_of old.own in
           let firsts = all_seconds own (map name_at ns) (map name_at xs) in

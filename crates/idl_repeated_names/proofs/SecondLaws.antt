@@ -5,14 +5,11 @@ use Rattle.std.proofs.lemmas.List.Elements.{Contains-append_cases, Contains-appe
 use Rattle.std.specs.List.{flat_map}
 use Rattle.idl_model.specs.Places.{Place}
 use Rattle.idl_rules_model.specs.NamesDiffer.{NameAt, place_of_second, second_names}
-use Rattle.idl_repeated_names.specs.Tables.{all_seconds, seconds}
+use Rattle.idl_repeated_names.specs.Tables.{IsWithin, all_seconds, seconds}
 
 -- ---- what is in one list is in another
 
-abbrev pub IsWithin : List Place → List Place → Type 0
-IsWithin ps qs = (p : Place) → Contains ps p → Contains qs p
-
-in_none : (qs : List Place) → IsWithin [] qs
+pub in_none : (qs : List Place) → IsWithin [] qs
 in_none qs p has = absurd (omega (arith, has.1))
 
 pub in_both : (ps qs rs : List Place) → IsWithin ps rs → IsWithin qs rs → IsWithin (ps ++ qs) rs

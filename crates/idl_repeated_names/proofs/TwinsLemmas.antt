@@ -1,7 +1,8 @@
--- Names that are met one after the other.
-use Rattle.std.proofs.Common.{◌≡◌, ◌≢◌, refl, sym, ap, ap₂, subst, ◌∙◌, ℕ, zero, suc, ◌==◌, nat_lt, Bool, true, false, ◌&&◌, List, [], ◌∷◌, ◌++◌, map, append-nil, append_assoc, Option, None, Some, unwrap_or, option_map, Contains, inl, inr, cond, if◌then◌else◌, arith}
+-- Names that are met one after the other, and taken back.
+use Rattle.std.proofs.Common.{◌≡◌, ◌≢◌, refl, sym, ap, ap₂, subst, ◌∙◌, ℕ, zero, suc, ◌<◌, ◌≤◌, ◌==◌, nat_lt, Bool, true, false, ◌&&◌, List, [], ◌∷◌, ◌++◌, length, map, append-nil, append_assoc, Option, None, Some, unwrap_or, option_map, Contains, inl, inr, cond, if◌then◌else◌, arith}
 use Rattle.std.proofs.lemmas.Bool.{eqb-true, ltb-true}
 use Rattle.std.proofs.lemmas.Bool.Decides.{nat_tests}
+use Rattle.std.proofs.lemmas.List.{length-append, length-map, map-append}
 use Rattle.std.proofs.lemmas.List.Elements.{Contains-append_cases, Contains-append_left, Contains-append_right}
 use Rattle.std.proofs.lemmas.Map.Text.{is_eq-slice_cmp}
 use Rattle.std.proofs.lemmas.Slice.Eq.{bytes_eq-Decides}
@@ -9,6 +10,7 @@ use Rattle.std.specs.Borrow.{Bor}
 use Rattle.std.specs.BTreeMap as tree
 use Rattle.std.specs.BTreeMap.{BTreeMap}
 use Rattle.std.specs.Cmp.Lexicographic.{slice_cmp, bytes_decides}
+use Rattle.std.specs.List.{flat_map}
 use Rattle.std.specs.Option.{option_or}
 use Rattle.std.specs.Ordering.{nat_cmp, ordering_then, is_eq}
 use Rattle.std.specs.Str.{bytes_eq}
@@ -17,10 +19,12 @@ use Rattle.std.specs.declared.cmp.Ordering.TheVariants.{Less, Equal, Greater}
 use Rattle.idl_joint_places.specs.Circles.{FindsLeast}
 use Rattle.idl_model.specs.Places.{Place, IsLeast, is_before}
 use Rattle.idl_names.specs.Paths.{Inside, is_same}
+use Rattle.idl_names.proofs.PathLaws.{same_end}
 use Rattle.idl_repeated_names.specs.Tables.{seconds}
-use Rattle.idl_repeated_names.specs.Twins.{HasMet, HaveKeys, IsKey, Named, counted, known_at, known_from, lesser, name_at, named, text_of}
+use Rattle.idl_repeated_names.specs.Twins.{ForgetsLast, Has, HasMet, HaveKeys, IsKey, Logged, Named, NeedsNoOwn, TakesBack, bare_then, counted, known_at, known_from, lesser, logged_behind, logged_of, name_at, named, text_of}
+use Rattle.idl_repeated_names.specs.declared.twins.Met.{Met}
 use Rattle.idl_repeated_names.specs.declared.twins.Twins.{Twins}
-use Rattle.idl_rules_model.specs.NamesDiffer.{place_of_second}
+use Rattle.idl_rules_model.specs.NamesDiffer.{NameAt, place_of_second}
 use Rattle.idl_trees.specs.Names.{place_of}
 use Rattle.idl_trees.specs.declared.place.Place as code
 use Rattle.rules_over_bases.specs.OwnNames.{getter_name, setter_name}
@@ -79,10 +83,35 @@ unfolding known_from
 last_known own known [] n k = refl
 last_known own known (m ∷ ms) n k = last_known own (cond (is_same m.key k) (Some (lesser known (unwrap_or m.place own))) known) ms n k
 
+abbrev log : Inside → Option Place → Logged
+log key before = record { key = key; before = before }
+
+last_logged : (own : Place) (before ns : List Named) (n : Named) → logged_behind own before (ns ++ n ∷ []) ≡ logged_behind own before ns ++ log n.key (known_from own None (before ++ ns) n.key) ∷ []
+unfolding logged_behind
+last_logged own before [] n = ap (λ ms. log n.key (known_from own None ms n.key) ∷ []) (sym (append-nil before))
+last_logged own before (m ∷ ms) n =
+    ap (λ ks. log m.key (known_from own None before m.key) ∷ ks)
+    (last_logged own (before ++ m ∷ []) ms n ∙ ap (λ xs. logged_behind own (before ++ m ∷ []) ms ++ log n.key (known_from own None xs n.key) ∷ []) (append_assoc before (m ∷ []) ms))
+
+many_logged : (own : Place) (before ns : List Named) → length (logged_behind own before ns) ≡ length ns
+unfolding logged_behind
+many_logged own before [] = refl
+many_logged own before (n ∷ ns) = ap suc (many_logged own (before ++ n ∷ []) ns)
+
+pub many_met : (t : Twins) (ns : List Named) → HasMet t ns → length t.met.items ≡ length ns
+many_met t ns has = sym (length-map t.met.items logged_of) ∙ ap length has.met_so ∙ many_logged (place_of t.own) [] ns
+
 -- none are known of an empty map
-pub none_known : (known : BTreeMap (ℕ × Bor (List ℕ)) code.Place) (own : Place) → tree.IsEmpty known → (k : Inside) → known_at known k ≡ known_from own None [] k
+none_known : (known : BTreeMap (ℕ × Bor (List ℕ)) code.Place) (own : Place) → tree.IsEmpty known → (k : Inside) → known_at known k ≡ known_from own None [] k
 unfolding known_from
 none_known known own none k = rw none refl
+
+none_logged : (own : Place) (met : List Met) → met ≡ [] → map logged_of met ≡ logged_behind own [] []
+unfolding logged_behind
+none_logged own met none = ap (map logged_of) none
+
+pub none_met : (own : Place) (known : BTreeMap (ℕ × Bor (List ℕ)) code.Place) (met : List Met) → tree.IsEmpty known → met ≡ [] → Has own known met []
+none_met own known met empty none = record { known_so = none_known known own empty; met_so = none_logged own met none }
 
 -- where a key is the same, the same is known of it
 at_same : (f : Inside → Option Place) (x : Option Place → Option Place) (k l : Inside) → cond (is_same k l) (x (f k)) (f l) ≡ cond (is_same k l) (x (f l)) (f l)
@@ -92,18 +121,79 @@ at_same f x k l = by_test (is_same k l) refl
     by_test true is = ap (λ m. x (f m)) (same_is k l is)
     by_test false is = refl
 
-pub met_one : (old : Twins) (new : BTreeMap (ℕ × Bor (List ℕ)) code.Place) (key : ℕ × Bor (List ℕ)) (place before : Option code.Place) (least : code.Place) → option_map place_of before ≡ known_at old.known (key.0, key.1.now)
-    → place_of least ≡ lesser (option_map place_of before) (unwrap_or (option_map place_of place) (place_of old.own))
-    → ((k : Inside) → known_at new k ≡ cond (is_same (key.0, key.1.now) k) (Some (place_of least)) (known_at old.known k))
-    → (ns : List Named) → HasMet old ns → (k : Inside) → known_at new k ≡ known_from (place_of old.own) None (ns ++ named key place ∷ []) k
-met_one old new key place before least was is_then known ns has k =
+pub met_one : (own : Place) (old new : BTreeMap (ℕ × Bor (List ℕ)) code.Place) (was now : List Met) (key : ℕ × Bor (List ℕ)) (place before : Option code.Place) (least : code.Place)
+    → option_map place_of before ≡ known_at old (key.0, key.1.now) → now ≡ was ++ record { key = key; before = before } ∷ []
+    → place_of least ≡ lesser (option_map place_of before) (unwrap_or (option_map place_of place) own)
+    → ((k : Inside) → known_at new k ≡ cond (is_same (key.0, key.1.now) k) (Some (place_of least)) (known_at old k))
+    → (ns : List Named) → Has own old was ns → Has own new now (ns ++ named key place ∷ [])
+met_one own old new was now key place before least seen put is_then known ns has =
     let n : Named = named key place in
-    let own : Place = place_of old.own in
     let here : Place = unwrap_or n.place own in
-    let it : option_map place_of before ≡ known_from own None ns n.key = was ∙ has n.key in
-    known k ∙ ap₂ (λ x y. cond (is_same n.key k) (Some x) y) (is_then ∙ ap (λ o. lesser o here) it) (has k)
-    ∙ at_same (known_from own None ns) (λ o. Some (lesser o here)) n.key k
-    ∙ sym (last_known own None ns n k)
+    let it : option_map place_of before ≡ known_from own None ns n.key = seen ∙ has.known_so n.key in
+    record {
+      known_so = λ k.
+          known k ∙ ap₂ (λ x y. cond (is_same n.key k) (Some x) y) (is_then ∙ ap (λ o. lesser o here) it) (has.known_so k)
+          ∙ at_same (known_from own None ns) (λ o. Some (lesser o here)) n.key k
+          ∙ sym (last_known own None ns n k);
+      met_so =
+          ap (map logged_of) put ∙ map-append logged_of was (record { key = key; before = before } ∷ [])
+          ∙ ap₂ (λ ms o. ms ++ log n.key o ∷ []) has.met_so it ∙ sym (last_logged own [] ns n);
+    }
+
+-- ---- names that are taken back
+
+known_back : (own : Place) (ns : List Named) (n : Named) (k : Inside) → cond (is_same n.key k) (known_from own None ns n.key) (known_from own None (ns ++ n ∷ []) k) ≡ known_from own None ns k
+known_back own ns n k = ap (λ o. cond (is_same n.key k) (known_from own None ns n.key) o) (last_known own None ns n k) ∙ by_test (is_same n.key k) refl
+  where
+    by_test : (b : Bool) → is_same n.key k ≡ b → cond b (known_from own None ns n.key) (cond b (Some (lesser (known_from own None ns k) (unwrap_or n.place own))) (known_from own None ns k)) ≡ known_from own None ns k
+    by_test true is = ap (known_from own None ns) (same_is n.key k is)
+    by_test false is = refl
+
+pub forgot_one : (own : Place) (old new : BTreeMap (ℕ × Bor (List ℕ)) code.Place) (was now : List Met) (m : Met) → was ≡ now ++ m ∷ []
+    → ((k : Inside) → known_at new k ≡ cond (is_same (m.key.0, m.key.1.now) k) (option_map place_of m.before) (known_at old k))
+    → (ns : List Named) (n : Named) → Has own old was (ns ++ n ∷ []) → Has own new now ns
+forgot_one own old new was now m split known ns n has =
+    let ends = same_end (map logged_of now) (logged_behind own [] ns) (logged_of m) (log n.key (known_from own None ns n.key))
+    (sym (map-append logged_of now (m ∷ [])) ∙ sym (ap (map logged_of) split) ∙ has.met_so ∙ last_logged own [] ns n) in
+    let key : (m.key.0, m.key.1.now) ≡ n.key = ap (λ (l : Logged). l.key) ends.1 in
+    let before : option_map place_of m.before ≡ known_from own None ns n.key = ap (λ (l : Logged). l.before) ends.1 in
+    record {
+      known_so = λ k.
+          known k ∙ ap₂ (λ (l : Inside) o. cond (is_same l k) o (known_at old k)) key before
+          ∙ ap (λ o. cond (is_same n.key k) (known_from own None ns n.key) o) (has.known_so k)
+          ∙ known_back own ns n k;
+      met_so = ends.0;
+    }
+
+pub none_last : (t : Twins) → length t.met.items ≡ 0 → (ns : List Named) (n : Named) → HasMet t (ns ++ n ∷ []) → ⊥
+none_last t none ns n has = let many = many_met t (ns ++ n ∷ []) has in let long = length-append ns (n ∷ []) in omega (arith, many, long, none)
+
+-- the first names are left, and no fewer than are to be
+abbrev pub TakenTo : Twins → Twins → ℕ → Type 0
+TakenTo first now count = (ns more : List Named) → HasMet first (ns ++ more) → count ≡ length ns → (rest : List Named) × HasMet now (ns ++ rest)
+
+pub taken_first : (t : Twins) (count : ℕ) → TakenTo t t count
+taken_first t count ns more has is = (more, has)
+
+split_last : {X : Type 0} (x : X) (xs : List X) → (front : List X) × (last : X) × (x ∷ xs ≡ front ++ last ∷ [])
+split_last x [] = ([], x, refl)
+split_last x (y ∷ ys) = let rest = split_last y ys in (x ∷ rest.0, rest.1, ap (λ zs. x ∷ zs) rest.2)
+
+pub taken_one_more : (first now next : Twins) (count : ℕ) → TakenTo first now count → ForgetsLast now next → count < length now.met.items → TakenTo first next count
+taken_one_more first now next count before forgets low ns more has is = let was = before ns more has is in by_rest was.0 was.1
+  where
+    by_rest : (rest : List Named) → HasMet now (ns ++ rest) → (left : List Named) × HasMet next (ns ++ left)
+    by_rest [] all = let many = many_met now (ns ++ []) all in let long = length-append ns [] in absurd (omega (arith, many, long, is, low))
+    by_rest (n ∷ rest) all =
+        let last = split_last n rest in
+        (last.0, forgets (ns ++ last.0) last.1 (subst (HasMet now) (ap (λ r. ns ++ r) last.2 ∙ sym (append_assoc ns last.0 (last.1 ∷ []))) all))
+
+pub taken_all : (first now : Twins) (count : ℕ) → TakenTo first now count → length now.met.items ≤ count → TakesBack first now count
+taken_all first now count taken within ns more has is = let was = taken ns more has is in by_rest was.0 was.1
+  where
+    by_rest : (rest : List Named) → HasMet now (ns ++ rest) → HasMet now ns
+    by_rest [] all = subst (HasMet now) (append-nil ns) all
+    by_rest (n ∷ rest) all = let many = many_met now (ns ++ n ∷ rest) all in let long = length-append ns (n ∷ rest) in absurd (omega (arith, many, long, is, within))
 
 -- ---- texts of keys
 
@@ -253,8 +343,54 @@ least_met old key place before least was is ns ps has have is_key finds =
     let n : Named = named key place in
     let own : Place = place_of old.own in
     let row : List Place = seconds own (map name_at ns) (name_at n) in
-    let it : option_map place_of before ≡ known_from own None ns n.key = was ∙ has n.key in
+    let it : option_map place_of before ≡ known_from own None ns n.key = was ∙ has.known_so n.key in
     let rest : Finds row (counts (known_from own None ns n.key) n.place) = counts_so own n is_key None [] ns have refl in
     as_code (ps ++ row) least
     (subst (λ (o : Option Place). Finds (ps ++ row) o) (sym (is ∙ ap (λ o. counted (option_map place_of old.least) o n.place) it))
     (counted_finds ps row (option_map place_of old.least) (known_from own None ns n.key) n.place (as_plain ps old.least finds) rest))
+
+pub both_found : (ps qs : List Place) (one : Option code.Place) (other found : code.Place) → place_of found ≡ lesser (option_map place_of one) (place_of other) → FindsLeast ps one → FindsLeast qs (Some other)
+    → FindsLeast (ps ++ qs) (Some found)
+both_found ps qs one other found is first second =
+    subst (λ p. IsLeast p (ps ++ qs)) (sym is) (lesser_least ps qs (option_map place_of one) (place_of other) (as_plain ps one first) second)
+
+pub one_found : (ps qs : List Place) (one : Option code.Place) → FindsLeast ps one → FindsLeast qs None → FindsLeast (ps ++ qs) one
+one_found ps qs one first none = subst (λ xs. FindsLeast xs one) (sym (ap (λ xs. ps ++ xs) none ∙ append-nil ps)) first
+
+-- ---- the place of the declaration
+
+-- where nothing counts with one place, nothing counts with another
+none_counts : (own other : Place) (n : NameAt) (ms : List NameAt) → seconds own ms n ≡ [] → seconds other ms n ≡ []
+unfolding seconds
+none_counts own other n [] none = refl
+none_counts own other n (m ∷ ms) none = by_test (bytes_eq m.name n.name) none (λ rest. none_counts own other n ms rest)
+  where
+    by_test : (b : Bool) → (if b then unwrap_or (option_or n.place m.place) own ∷ [] else []) ++ flat_map (λ first. place_of_second own first n) ms ≡ []
+        → (flat_map (λ first. place_of_second own first n) ms ≡ [] → flat_map (λ first. place_of_second other first n) ms ≡ [])
+        → (if b then unwrap_or (option_or n.place m.place) other ∷ [] else []) ++ flat_map (λ first. place_of_second other first n) ms ≡ []
+    by_test true is rest = let bad : ⊥ = cc in absurd bad
+    by_test false is rest = rest is
+
+placed_alike : (own other : Place) (name : List ℕ) (p : Place) (ms : List NameAt)
+    → seconds own ms (record { name = name; place = Some p }) ≡ seconds other ms (record { name = name; place = Some p })
+unfolding seconds
+placed_alike own other name p [] = refl
+placed_alike own other name p (m ∷ ms) = ap (λ k. (if bytes_eq m.name name then p ∷ [] else []) ++ k) (placed_alike own other name p ms)
+
+pub needs_no_own : (old : Twins) (bare : Bool) (key : ℕ × Bor (List ℕ)) (place before : Option code.Place) → option_map place_of before ≡ known_at old.known (key.0, key.1.now)
+    → bare ≡ bare_then old.bare (option_map place_of before) (option_map place_of place) → bare ≡ false
+    → (old.bare ≡ false)
+    × ((ns : List Named) (own : Place) → HasMet old ns → HaveKeys ns → IsKey (named key place).key
+    → seconds own (map name_at ns) (name_at (named key place)) ≡ seconds (place_of old.own) (map name_at ns) (name_at (named key place)))
+needs_no_own old bare key (Some q) None seen is so = (sym is ∙ so, λ ns own has have is_key. placed_alike own (place_of old.own) (text_of (key.0, key.1.now)) (place_of q) (map name_at ns))
+needs_no_own old bare key (Some q) (Some p) seen is so = (sym is ∙ so, λ ns own has have is_key. placed_alike own (place_of old.own) (text_of (key.0, key.1.now)) (place_of q) (map name_at ns))
+needs_no_own old bare key None (Some p) seen is so = let bad : true ≡ false = sym is ∙ so in absurd cc
+needs_no_own old bare key None None seen is so = (
+  sym is ∙ so,
+  λ ns own has have is_key.
+      let n : Named = named key None in
+      let at : Place = place_of old.own in
+      let counted_so : Finds (seconds at (map name_at ns) (name_at n)) (counts (known_from at None ns n.key) None) = counts_so at n is_key None [] ns have refl in
+      let nothing : seconds at (map name_at ns) (name_at n) ≡ [] = subst (λ o. Finds (seconds at (map name_at ns) (name_at n)) (counts o None)) (sym (seen ∙ has.known_so n.key)) counted_so in
+      none_counts at own (name_at n) (map name_at ns) nothing ∙ sym nothing,
+)

@@ -2,3 +2,4 @@ pub mod Meeting
 pub mod Over
 pub mod Tables
 pub mod Twins
+pub mod Walking

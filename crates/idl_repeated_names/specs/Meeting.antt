@@ -1,5 +1,5 @@
 -- That names are met behind others, and that lists of names are asked, each for itself.
-use Rattle.std.specs.Prelude.{◌≡◌, ℕ, List, [], ◌∷◌, ◌++◌, map, None, Some, if◌then◌else◌}
+use Rattle.std.specs.Prelude.{◌≡◌, ℕ, false, List, [], ◌∷◌, ◌++◌, map, None, Some, if◌then◌else◌}
 use Rattle.std.specs.List.{AllByRecursion, flat_map}
 use Rattle.idl_joint_places.specs.Circles.{FindsLeast}
 use Rattle.idl_meaning_model.specs.Meaning.{is_read_only}
@@ -13,10 +13,14 @@ use Rattle.idl_rules_model.specs.NamesDiffer.{second_names}
 use Rattle.idl_trees.specs.Names.{place_of}
 use Rattle.uno_model.specs.Entities as uno
 
--- names are met behind those that were, and the least of the places that count so is known
+-- names are met behind those that were, and the least of the places that count so is known; where no name without a place came second, it does not matter
+-- what place the declaration has
 pub record Meets (old new : Twins) (more : List Named) : Type 0 where
   pub met : (ns : List Named) → HasMet old ns → HasMet new (ns ++ more)
   pub own : new.own ≡ old.own
+  pub bare : new.bare ≡ false
+      → (old.bare ≡ false)
+      × ((ns : List Named) (own : Place) → HasMet old ns → HaveKeys ns → HaveKeys more → all_seconds own (map name_at ns) (map name_at more) ≡ all_seconds (place_of old.own) (map name_at ns) (map name_at more))
   pub least : (ns : List Named) (ps : List Place) → HasMet old ns → HaveKeys ns → HaveKeys more → FindsLeast ps old.least
       → FindsLeast (ps ++ all_seconds (place_of old.own) (map name_at ns) (map name_at more)) new.least
 

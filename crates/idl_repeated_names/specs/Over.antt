@@ -1,5 +1,5 @@
 -- The names over an entity, those of its bases first: of functions of an interface, and of members of a struct or an exception.
-use Rattle.std.specs.Prelude.{◌≡◌, ℕ, zero, suc, not, ◌&&◌, List, [], ◌∷◌, ◌++◌, length, map, Option, None, Some, IsTrue, if◌then◌else◌}
+use Rattle.std.specs.Prelude.{◌≡◌, ℕ, zero, suc, Bool, true, false, not, ◌&&◌, List, [], ◌∷◌, ◌++◌, length, map, Option, None, Some, IsTrue, if◌then◌else◌}
 use Rattle.std.specs.Borrow.{Bor}
 use Rattle.std.specs.BTreeMap.{BTreeMap, get_by}
 use Rattle.std.specs.Cmp.Lexicographic.{slice_cmp}
@@ -19,6 +19,8 @@ use Rattle.idl_names.specs.Paths.{Parts}
 use Rattle.idl_names.specs.declared.declaration.Declared as code
 use Rattle.idl_repeated_names.specs.Meeting.{members_named, methods_named, own_fields_named, own_functions_named}
 use Rattle.idl_repeated_names.specs.Twins.{HaveKeys, Named, name_at}
+use Rattle.idl_repeated_names.specs.declared.over.Kind.{Kind}
+use Rattle.idl_repeated_names.specs.declared.over.Kind.TheVariants.{Functions, Fields}
 use Rattle.idl_repeated_names.specs.declared.owners.Entry.{Entry}
 use Rattle.idl_rules_model.specs.NamesDiffer.{second_names}
 use Rattle.idl_trees.specs.Trees.{declaration_of}
@@ -27,7 +29,7 @@ use Rattle.idl_trees.specs.declared.place.Place.{Place}
 use Rattle.uno_model.specs.BuiltIn.{built_in}
 use Rattle.uno_model.specs.Entities.{Entity}
 use Rattle.uno_model.specs.Functions.{interfaces_of}
-use Rattle.uno_model.specs.Registry.{find_entity, member_bases}
+use Rattle.uno_model.specs.Registry.{find_entity, member_bases, stands_on}
 
 -- ---- owners
 
@@ -96,6 +98,27 @@ functions_over own built reg name = flat_map (functions_at own built) (interface
 abbrev pub fields_over : (List ℕ → Option tree.Declaration) → List Entity → List Entity → List ℕ → List Named
 fields_over own built reg name = flat_map (fields_at own built) (chain_of reg name)
 
+-- the names of one kind that an entity has itself, and those that it has with its bases
+abbrev pub named_at : Kind → (List ℕ → Option tree.Declaration) → List Entity → List ℕ → List Named
+named_at Functions = functions_at
+named_at Fields = fields_at
+
+abbrev pub names_over : Kind → (List ℕ → Option tree.Declaration) → List Entity → List Entity → List ℕ → List Named
+names_over Functions = functions_over
+names_over Fields = fields_over
+
+-- the bases from which it has them
+abbrev pub bases_at : Kind → List Entity → List ℕ → List (List ℕ)
+bases_at Functions reg name = stands_on reg name
+bases_at Fields reg name = member_bases (find_entity name reg)
+
+-- whether what is declared has names of the kind
+abbrev pub has_kind : Kind → Option tree.Declaration → Bool
+has_kind Functions (Some (interface base members)) = true
+has_kind Fields (Some (struct base members)) = true
+has_kind Fields (Some (exception base members)) = true
+has_kind _ _ = false
+
 -- the list of names that a declaration has with its bases
 abbrev pub lists_over : (List ℕ → Option tree.Declaration) → List Entity → List Entity → List ℕ → tree.Declaration → List (List Named)
 lists_over own built reg name (interface base members) = functions_over own built reg name ∷ []
@@ -108,3 +131,7 @@ lists_over own built reg name _ = []
 -- the least place of second names in these lists, and of the places of which the least was known
 abbrev pub FindsMore : Option Place → Option Place → List (List Named) → plain.Place → Type 0
 FindsMore old new lists own = (ps : List plain.Place) → AllByRecursion HaveKeys lists → FindsLeast ps old → FindsLeast (ps ++ flat_map (λ names. second_names own (map name_at names)) lists) new
+
+-- the lists of names that are left, where those over bases were asked or not
+abbrev pub lists_left : Bool → (List ℕ → Option tree.Declaration) → List Entity → List Entity → List ℕ → tree.Declaration → List (List Named)
+lists_left was_asked own built reg name body = if was_asked then [] else lists_over own built reg name body

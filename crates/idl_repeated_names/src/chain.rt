@@ -46,7 +46,7 @@ fn push_chain<'a>(
 }
 
 /// The base of the struct or exception of a name.
-fn base_of<'a>(registry: &'a Registry, name: &str) -> Option<&'a str>
+pub(crate) fn base_of<'a>(registry: &'a Registry, name: &str) -> Option<&'a str>
     ensures { MatchOption result (member_bases (find_entity name.now registry.now) ≡ []) (λ n. member_bases (find_entity name.now registry.now) ≡ n.now ∷ []) }
 {
     match registry.find(name) {

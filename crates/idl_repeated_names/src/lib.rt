@@ -1,6 +1,7 @@
 //! Where names of UNOIDL repeat in a declaration and over its bases.
 #![tactic(auto)]
 
+mod bases;
 mod chain;
 mod lists;
 mod over;
@@ -8,5 +9,7 @@ mod own;
 mod owners;
 mod repeated;
 mod twins;
+mod walk;
+mod way;
 
 pub use repeated::repeated_names;

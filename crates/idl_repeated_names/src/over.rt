@@ -2,7 +2,7 @@
 ghost use Rattle.std.specs.List.{flat_map};
 ghost use Rattle.std.specs.Prelude.{◌∷◌, [], None, OnOk};
 ghost use Rattle.idl_repeated_names.specs.Meeting.{Asks, Meets};
-ghost use Rattle.idl_repeated_names.specs.Over.{fields_at, fields_named, fields_over, functions_at, functions_named, functions_over, lists_over, owned};
+ghost use Rattle.idl_repeated_names.specs.Over.{fields_at, fields_named, fields_over, functions_at, functions_named, functions_over, lists_over, named_at, names_over, owned};
 ghost use Rattle.idl_trees.specs.Trees.{declaration_of};
 ghost use Rattle.type_registry.specs.Met.{names_at};
 ghost use Rattle.uno_model.specs.Registry.{find_entity};
@@ -24,6 +24,13 @@ pub(crate) struct Around<'o, 'a> {
     pub owners: &'o Owners<'a>,
 }
 
+/// Which names: functions of an interface, or members of a struct or an exception.
+#[derive(Clone, Copy)]
+pub(crate) enum Kind {
+    Functions,
+    Fields,
+}
+
 /// Asks the names that a declaration has with its bases.
 pub(crate) fn ask_over<'a>(
     twins: &mut Twins<'a>,
@@ -34,9 +41,9 @@ pub(crate) fn ask_over<'a>(
     ensures { OnOk result (Asks twins.old twins.new (lists_over (owned around.entry.owners.now) around.entry.built_in.now around.entry.registry.now name.now (declaration_of body.now))) }
 {
     match body {
-        Declaration::Interface(_, _) => ask_functions(twins, around, name),
-        Declaration::Struct(_, _) => ask_fields(twins, around, name),
-        Declaration::Exception(_, _) => ask_fields(twins, around, name),
+        Declaration::Interface(_, _) => ask_all(twins, around, Kind::Functions, name),
+        Declaration::Struct(_, _) => ask_all(twins, around, Kind::Fields, name),
+        Declaration::Exception(_, _) => ask_all(twins, around, Kind::Fields, name),
         Declaration::Forward => Ok(()),
         Declaration::Enum(_) => Ok(()),
         Declaration::Constants(_) => Ok(()),
@@ -48,18 +55,60 @@ pub(crate) fn ask_over<'a>(
     }
 }
 
+fn ask_all<'a>(
+    twins: &mut Twins<'a>,
+    around: Around<'_, 'a>,
+    kind: Kind,
+    name: &'a str,
+) -> Result<(), NoMemory>
+    ensures { OnOk result (Asks twins.old twins.new (names_over kind (owned around.entry.owners.now) around.entry.built_in.now around.entry.registry.now name.now ∷ [])) }
+{
+    twins.forget();
+    meet_over(twins, around, kind, name)?;
+    Ok(())
+}
+
+/// Meets the names that an entity has with its bases.
+pub(crate) fn meet_over<'a>(
+    twins: &mut Twins<'a>,
+    around: Around<'_, 'a>,
+    kind: Kind,
+    name: &'a str,
+) -> Result<(), NoMemory>
+    ensures { OnOk result (Meets twins.old twins.new (names_over kind (owned around.entry.owners.now) around.entry.built_in.now around.entry.registry.now name.now)) }
+{
+    match kind {
+        Kind::Functions => meet_functions_over(twins, around, name),
+        Kind::Fields => meet_fields_over(twins, around, name),
+    }
+}
+
+/// Meets the names that an entity has without its bases.
+pub(crate) fn meet_at<'a>(
+    twins: &mut Twins<'a>,
+    around: Around<'_, 'a>,
+    kind: Kind,
+    name: &str,
+) -> Result<(), NoMemory>
+    ensures { OnOk result (Meets twins.old twins.new (named_at kind (owned around.entry.owners.now) around.entry.built_in.now name.now)) }
+{
+    match kind {
+        Kind::Functions => meet_functions_at(twins, around, name),
+        Kind::Fields => meet_fields_at(twins, around, name),
+    }
+}
+
 // ---- functions
 
 /// The functions of an interface, in the order in which they are numbered.
-fn ask_functions<'a>(
+fn meet_functions_over<'a>(
     twins: &mut Twins<'a>,
     around: Around<'_, 'a>,
     name: &'a str,
 ) -> Result<(), NoMemory>
-    ensures { OnOk result (Asks twins.old twins.new (functions_over (owned around.entry.owners.now) around.entry.built_in.now around.entry.registry.now name.now ∷ [])) }
+    ensures { OnOk result (Meets twins.old twins.new (functions_over (owned around.entry.owners.now) around.entry.built_in.now around.entry.registry.now name.now)) }
 {
     let met = interfaces_of(around.registry.allocator(), around.registry, name)?;
-    twins.forget();
     meet_functions_of(twins, around, met.names())?;
     Ok(())
 }
@@ -106,15 +155,14 @@ fn meet_built_in_functions<'a>(
 // ---- members of structs and exceptions
 
 /// The members of a struct or an exception, those of its bases first.
-fn ask_fields<'a>(
+fn meet_fields_over<'a>(
     twins: &mut Twins<'a>,
     around: Around<'_, 'a>,
     name: &'a str,
 ) -> Result<(), NoMemory>
-    ensures { OnOk result (Asks twins.old twins.new (fields_over (owned around.entry.owners.now) around.entry.built_in.now around.entry.registry.now name.now ∷ [])) }
+    ensures { OnOk result (Meets twins.old twins.new (fields_over (owned around.entry.owners.now) around.entry.built_in.now around.entry.registry.now name.now)) }
 {
     let chain = chain_of(around.registry.allocator(), around.registry, name)?;
-    twins.forget();
     meet_fields_of(twins, around, chain.as_slice())?;
     Ok(())
 }

@@ -1,24 +1,26 @@
 //! Where names repeat: of members, parameters, constructors and items, those that come from bases among them, and in an interface of all functions.
 ghost use Rattle.std.specs.List.{AllByRecursion, flat_map, list_all};
-ghost use Rattle.std.specs.Prelude.{◌≡◌, ◌++◌, IfOk, IsTrue, List, map};
+ghost use Rattle.std.specs.Prelude.{◌≡◌, ◌++◌, IfOk, IsTrue, List, OnOk, map};
 ghost use Rattle.idl_joint_places.specs.Circles.{FindsLeast};
 ghost use Rattle.idl_meaning_model.specs.Declarations.{entities_declared};
 ghost use Rattle.idl_meaning_model.specs.FromFiles.{has_identifiers};
 ghost use Rattle.idl_names.specs.Collected.{HasNumbers, declared_of};
 ghost use Rattle.idl_names.specs.Paths.{Parts};
-ghost use Rattle.idl_repeated_names.specs.Meeting.{own_lists};
-ghost use Rattle.idl_repeated_names.specs.Over.{FindsMore, IsNamed, Knows, lists_over, owned, told};
+ghost use Rattle.idl_repeated_names.specs.Meeting.{Asks, own_lists};
+ghost use Rattle.idl_repeated_names.specs.Over.{FindsMore, IsNamed, Knows, lists_left, names_over, owned, told};
+ghost use Rattle.idl_repeated_names.specs.Walking.{AllAsked, was_asked};
 ghost use Rattle.idl_rules_model.specs.NamesDiffer.{repeated_names};
 ghost use Rattle.idl_trees.specs.Names.{place_of};
 ghost use Rattle.idl_trees.specs.Trees.{declaration_of};
 ghost use Rattle.uno_model.specs.BuiltIn.{built_in};
 
 use crate::lists::ask_own;
-use crate::over::{Around, ask_over};
+use crate::over::{Around, Kind, ask_over};
 use crate::owners::{Entry, named, owners_of};
 use crate::twins::Twins;
+use crate::walk::{Asked, walks};
 use idl_names::{Declared, Paths};
-use idl_trees::Place;
+use idl_trees::{Declaration, Place};
 use std::alloc::Global;
 use uno_base::NoMemory;
 use uno_types::Registry;
@@ -56,28 +58,79 @@ fn repeated_among<'a>(
     least_of(around, entries)
 }
 
+/// The least one over all bases, and then that of all lists.
 fn least_of<'a>(around: Around<'_, 'a>, entries: &'a [Entry<'a>]) -> Result<Option<Place>, NoMemory>
     ensures { (paths : List Parts) → Knows paths entries.now around.entry.owners.now around.entry.built_in.now → IfOk result (FindsLeast (flat_map (repeated_names (map (told paths) entries.now) around.entry.registry.now) (map (told paths) entries.now))) }
 {
-    let mut least = None;
+    let asked = walks(around)?;
+    least_left(around, &asked, entries)
+}
+
+fn least_left<'a>(
+    around: Around<'_, 'a>,
+    asked: &Asked<'a>,
+    entries: &'a [Entry<'a>],
+) -> Result<Option<Place>, NoMemory>
+    ensures { (paths : List Parts) → Knows paths entries.now around.entry.owners.now around.entry.built_in.now → AllAsked (names_over Kind.Functions (owned around.entry.owners.now) around.entry.built_in.now around.entry.registry.now) (names_over Kind.Fields (owned around.entry.owners.now) around.entry.built_in.now around.entry.registry.now) (flat_map (repeated_names (map (told paths) entries.now) around.entry.registry.now) (map (told paths) entries.now)) asked.now → IfOk result (FindsLeast (flat_map (repeated_names (map (told paths) entries.now) around.entry.registry.now) (map (told paths) entries.now))) }
+{
+    let mut least = asked.fields.least;
     for entry in entries {
-        least = least_with(around, entry, least)?;
+        least = least_with(around, asked, entry, least)?;
     }
     Ok(least)
 }
 
-/// The least one, with the second names of one more declaration.
+/// The least one, with the second names of one more declaration that were not asked.
 fn least_with<'a>(
     around: Around<'_, 'a>,
+    asked: &Asked<'a>,
     entry: &'a Entry<'a>,
     least: Option<Place>,
 ) -> Result<Option<Place>, NoMemory>
-    ensures { IfOk result (λ more. FindsMore least more (own_lists (declaration_of entry.now.declared.body.now) ++ lists_over (owned around.entry.owners.now) around.entry.built_in.now around.entry.registry.now entry.now.name (declaration_of entry.now.declared.body.now)) (place_of entry.now.declared.name.now.place)) }
+    ensures { IfOk result (λ more. FindsMore least more (own_lists (declaration_of entry.now.declared.body.now) ++ lists_left (was_asked asked.now entry.now.name (declaration_of entry.now.declared.body.now)) (owned around.entry.owners.now) around.entry.built_in.now around.entry.registry.now entry.now.name (declaration_of entry.now.declared.body.now)) (place_of entry.now.declared.name.now.place)) }
 {
     let body = entry.declared.body;
-    let own = entry.declared.name.place;
-    let mut twins = Twins::new(around.registry.allocator(), own, least);
+    let name = entry.name.as_str();
+    let mut twins = Twins::new(
+        around.registry.allocator(),
+        entry.declared.name.place,
+        least,
+    );
     ask_own(&mut twins, body)?;
-    ask_over(&mut twins, around, entry.name.as_str(), body)?;
+    ask_left(&mut twins, around, asked, name, body)?;
     Ok(twins.least)
+}
+
+/// Asks the names that a declaration has with its bases, where they were not asked.
+fn ask_left<'a>(
+    twins: &mut Twins<'a>,
+    around: Around<'_, 'a>,
+    asked: &Asked<'a>,
+    name: &'a str,
+    body: &Declaration,
+) -> Result<(), NoMemory>
+    ensures { OnOk result (Asks twins.old twins.new (lists_left (was_asked asked.now name.now (declaration_of body.now)) (owned around.entry.owners.now) around.entry.built_in.now around.entry.registry.now name.now (declaration_of body.now))) }
+{
+    if is_asked(asked, name, body) {
+        return Ok(());
+    }
+    ask_over(twins, around, name, body)
+}
+
+fn is_asked(asked: &Asked<'_>, name: &str, body: &Declaration) -> bool
+    ensures { result ≡ was_asked asked.now name.now (declaration_of body.now) }
+{
+    match body {
+        Declaration::Interface(_, _) => asked.functions.asked.contains(name),
+        Declaration::Struct(_, _) => asked.fields.asked.contains(name),
+        Declaration::Exception(_, _) => asked.fields.asked.contains(name),
+        Declaration::Forward => false,
+        Declaration::Enum(_) => false,
+        Declaration::Constants(_) => false,
+        Declaration::Typedef(_) => false,
+        Declaration::NewService(_, _) => false,
+        Declaration::OldService(_) => false,
+        Declaration::NewSingleton(_) => false,
+        Declaration::OldSingleton(_) => false,
+    }
 }

@@ -9,4 +9,4 @@ pub returns : goal.returns
 returns c =
     let called : List ℕ → Named = λ n. record { key = (c.args.number, n); place = Some (place_of c.args.id.now.place) } in
     subst (λ n. Meets c.args.twins.now c.meet.new.self (called n ∷ [])) c.as_str.ensures
-    (meets_one c.args.twins.now c.meet.new.self (called c.as_str.result.now) c.in_ok-meet.ensures.met c.meet.ensures.own c.in_ok-meet.ensures.least)
+    (meets_one c.args.twins.now c.meet.new.self (called c.as_str.result.now) c.in_ok-meet.ensures.met c.meet.ensures.own c.in_ok-meet.ensures.bare c.in_ok-meet.ensures.least)

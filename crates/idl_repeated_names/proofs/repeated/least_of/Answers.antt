@@ -1,16 +1,9 @@
-use Rattle.std.proofs.Common.{◌≤◌, length, refl, arith}
-use Rattle.idl_repeated_names.proofs.RepeatedLemmas.{least_more, least_of_all}
+use Rattle.std.proofs.Common.{refl}
+use Rattle.idl_repeated_names.specs.declared.over.Kind.TheVariants.{Functions, Fields}
+use Rattle.idl_repeated_names.proofs.RepeatedLemmas.{is_right}
 use Rattle.idl_repeated_names.proofs.repeated.least_of.Goals as goal
-
-pub loop-entry-init : goal.loop-entry-init
-loop-entry-init c = λ paths knows. refl
-
-pub loop-entry-preserved : goal.loop-entry-preserved
-loop-entry-preserved c = λ paths knows.
-    least_more paths c.args.entries.now c.args.around.owners.now c.args.around.built_in.now c.args.around.registry.now knows c.loop-entry.entry-index c.entry-item.result c.loop-entry.least
-    c.in_ok-least.least c.loop-entry-test.true c.entry-item.is c.in_ok-least.ensures (c.loop-entry.invariant paths knows)
 
 pub returns : goal.returns
 returns c = λ paths knows.
-    let end : length c.args.entries.now ≤ c.loop-entry.entry-index = omega (arith, c.loop-entry-test.false) in
-    least_of_all paths c.args.entries.now c.args.around.owners.now c.args.around.built_in.now c.args.around.registry.now knows c.loop-entry.entry-index c.loop-entry.least end (c.loop-entry.invariant paths knows)
+    let right = is_right paths c.args.entries.now c.args.around.owners.now c.args.around.built_in.now c.args.around.registry.now knows in
+    c.least_left.ensures paths knows (c.in_ok-asked.ensures _ (right Functions) (right Fields))

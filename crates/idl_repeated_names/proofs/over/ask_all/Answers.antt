@@ -1,0 +1,6 @@
+use Rattle.idl_repeated_names.proofs.MeetingLemmas.{asks_one}
+use Rattle.idl_repeated_names.proofs.over.ask_all.Goals as goal
+
+pub returns : goal.returns
+returns c =
+    asks_one c.args.twins.now c.forget.new.self c.meet_over.new.twins _ c.forget.ensures.met c.forget.ensures.own c.forget.ensures.least c.in_ok-meet_over.ensures
