@@ -5,7 +5,7 @@ use Rattle.std.proofs.lemmas.Bool.{and_parts, and_from, false≢true}
 use Rattle.std.proofs.lemmas.List.{append_assoc}
 use Rattle.std.specs.List.{list_all, list_any, flat_map, filter_map}
 use Rattle.std.specs.Str.{bytes_eq}
-use Rattle.idl_text_model.specs.Pieces.{Piece, name, numeral, text_of, is_blank, is_mark, is_piece, next_byte, is_none_of, goes_on_mark, ends, Stands}
+use Rattle.idl_text_model.specs.Pieces.{Piece, name, is_mark, next_byte, is_none_of, goes_on_mark, Stands}
 use Rattle.idl_text_model.specs.Pieces.{ArePieces}
 use Rattle.idl_text_model.specs.Pieces as piece
 use Rattle.idl_text_model.specs.Tokens.{Word, identifier, quoted, mark, word_of}

@@ -9,7 +9,7 @@ use Rattle.idl_model.specs.Grammar.{Tokens, Keyword, Mark, IsName, listed_of, Is
 use Rattle.idl_model.specs.Grammar.{IsStruct, IsException}
 use Rattle.idl_model.specs.Grammar.{IsItem, items_of, IsEnum, IsConstant, AreConstants, typedef_of, IsTypedef, IsConstructor, IsServiceMember, IsService}
 use Rattle.idl_model.specs.Grammar.{IsSingleton, IsDecl, IsDeclared, IsDef, AreDefs}
-use Rattle.idl_model.specs.Trees.{Id, Path, Declaration, Decl, Def, Defs, in_module, declared, no_defs, def}
+use Rattle.idl_model.specs.Trees.{Path, Declaration, Decl, Def, Defs, in_module, declared, no_defs, def}
 use Rattle.idl_model.specs.Trees as tree
 use Rattle.registry_text_model.specs.Canonical.{absolute, kind_tokens, listed, only_base, base_members, member_tokens, field_tokens, base_tokens, item_tokens}
 use Rattle.registry_text_model.specs.Canonical.{constant_tokens}

@@ -4,7 +4,7 @@ use Rattle.std.proofs.Common.{subst, arith}
 use Rattle.std.proofs.lemmas.Bool.{and_parts, and_from, leb-true}
 use Rattle.std.specs.List.{list_all}
 use Rattle.idl_model.specs.Depths.{type_fits, expr_fits, interface_member_fits, service_member_fits, declaration_fits, value_fits, def_fits, tree_fits}
-use Rattle.idl_model.specs.Trees.{WrittenType, simple, named, sequence_of, no_arguments, argument, Expr, Declaration, Def, Tree}
+use Rattle.idl_model.specs.Trees.{WrittenType, simple, named, sequence_of, no_arguments, argument, Declaration, Def, Tree}
 use Rattle.idl_model.specs.Trees as tree
 use Rattle.uno_model.proofs.AllLaws.{all_append}
 use Rattle.uno_model.specs.Entities.{Entity, Body}

@@ -9,12 +9,12 @@ use Rattle.idl_model.specs.Grammar.{Tokens, Keyword, Mark, IsName, of_table, lis
 use Rattle.idl_model.specs.Grammar.{attribute_flags, IsAccessor, Accessors, get_first, set_first, AreAccessors, accessors_of, IsBase, attribute_of, method_of}
 use Rattle.idl_model.specs.Grammar.{IsMethod, IsAttribute}
 use Rattle.idl_model.specs.Grammar.{IsFlaggedMember, IsInterfaceMember, MayHaveBase}
-use Rattle.idl_model.specs.Trees.{Id, Path, WrittenType, Flag, InterfaceMember, Parameter}
+use Rattle.idl_model.specs.Trees.{Flag}
 use Rattle.idl_model.specs.Trees as tree
 use Rattle.idl_text_model.specs.Tokens.{quoted}
 use Rattle.registry_text_model.specs.Canonical.{absolute, kind_tokens, raises_tokens, listed, is_only_base, only_base, base_members, behind_colon}
 use Rattle.registry_text_model.specs.Canonical.{accessor_tokens, accessors, access_flag}
-use Rattle.registry_text_model.specs.Canonical.{attribute_tokens, param_tokens, method_tokens, member_tokens, base_tokens}
+use Rattle.registry_text_model.specs.Canonical.{param_tokens, member_tokens, base_tokens}
 use Rattle.registry_text_model.specs.Canonical as text
 use Rattle.registry_text_model.specs.Lines.{way_word}
 use Rattle.uno_model.specs.Entities as uno

@@ -6,18 +6,18 @@ use Rattle.std.proofs.lemmas.List.{append_assoc, append-nil}
 use Rattle.std.proofs.lemmas.List.Folds.{flat_map-map, list_all-append}
 use Rattle.std.specs.List.{list_all}
 use Rattle.grammar_model.specs.Relations.{Image, Either, Many, ◌&>◌, ◌<&◌}
-use Rattle.idl_model.specs.Grammar.{Tokens, Keyword, Mark, IsId, IsName, of_table, IsType, IsExpr, MayRaise, listed_of, Listed, IsFlag, IsFlags}
+use Rattle.idl_model.specs.Grammar.{Tokens, Keyword, Mark, IsId, IsName, of_table, IsType, IsFlag, IsFlags}
 use Rattle.idl_model.specs.Grammar.{fields_of, AreFields, item_of, IsItem, constant_of, IsConstant, constructor_parameter_of, IsConstructorParameter}
 use Rattle.idl_model.specs.Grammar.{constructor_of, IsConstructor}
-use Rattle.idl_model.specs.Grammar.{property_of, IsPart, IsPropertyTail, IsProperty, IsServiceMember}
+use Rattle.idl_model.specs.Grammar.{property_of, IsPart, IsProperty, IsServiceMember}
 use Rattle.idl_model.specs.Grammar as grammar
 use Rattle.idl_model.specs.Trees.{Id, Path, WrittenType, Flag}
 use Rattle.idl_model.specs.Trees as tree
 use Rattle.idl_text_model.specs.Tokens.{quoted}
 use Rattle.literal_model.specs.Shapes.{is_word}
-use Rattle.registry_text_model.specs.Canonical.{absolute, kind_tokens, number_tokens, raises_tokens, listed, field_tokens, item_tokens, constant_tokens}
+use Rattle.registry_text_model.specs.Canonical.{absolute, kind_tokens, raises_tokens, listed, field_tokens, item_tokens, constant_tokens}
 use Rattle.registry_text_model.specs.Canonical.{given_tokens, rest_param, rest_tokens}
-use Rattle.registry_text_model.specs.Canonical.{comma_behind, constructor_tokens, part_tokens}
+use Rattle.registry_text_model.specs.Canonical.{constructor_tokens, part_tokens}
 use Rattle.registry_text_model.specs.Canonical as text
 use Rattle.registry_text_model.specs.Lines.{flag_word, flag_words}
 use Rattle.uno_model.specs.Entities as uno

@@ -20,7 +20,7 @@ use Rattle.uno_model.proofs.CircleLaws.{all_at, all_from}
 use Rattle.uno_model.proofs.NameLaws.{there_named}
 use Rattle.uno_model.specs.Entities.{Entity, Body, Field, Param, Member, attribute, method, Item, Constant, Constructor, Part, face, subservice, property}
 use Rattle.uno_model.specs.Entities.{interface, struct, exception, enum, constants, typedef, new_service, old_service, new_singleton, old_singleton}
-use Rattle.uno_model.specs.Kinds.{Kind, name_of, nesting}
+use Rattle.uno_model.specs.Kinds.{Kind, nesting}
 use Rattle.uno_model.specs.Kinds as kd
 use Rattle.uno_model.specs.Names.{is_identifier, is_entity_name}
 use Rattle.uno_model.specs.Registry.{at_most_one}

@@ -11,9 +11,9 @@ use Rattle.idl_model.specs.Grammar.{Tokens, Mark, KeywordPlace, IsId, IsName, pa
 use Rattle.idl_model.specs.Grammar.{placed_simple, simple_at, unsigned_at, IsType, sign_marks, IsSign, IsNumber, number_of, IsExpr, IsRaises, MayRaise}
 use Rattle.idl_model.specs.Grammar.{listed_of}
 use Rattle.idl_model.specs.Places.{Place}
-use Rattle.idl_model.specs.Trees.{Id, Path, Simple, WrittenType, simple, named, sequence_of, no_arguments, Sign, negative, Expr, number, signed}
+use Rattle.idl_model.specs.Trees.{Id, Path, Simple, WrittenType, simple, named, sequence_of, no_arguments, negative, Expr, number, signed}
 use Rattle.idl_model.specs.Trees as tree
-use Rattle.idl_text_model.specs.Tokens.{Word, identifier, quoted, mark}
+use Rattle.idl_text_model.specs.Tokens.{identifier, quoted, mark}
 use Rattle.idl_text_model.specs.Tokens as token
 use Rattle.literal_model.specs.Shapes.{is_word}
 use Rattle.registry_text_model.specs.Canonical.{absolute, kind_tokens, number_tokens, raises_tokens}

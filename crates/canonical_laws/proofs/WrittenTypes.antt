@@ -14,7 +14,7 @@ use Rattle.uno_model.specs.Sound.{is_enum, is_struct, is_exception, is_interface
 use Rattle.uno_model.proofs.Options.{same_some, none_some}
 use Rattle.registry_text_model.specs.Lines.{is_built_in_name, written}
 use Rattle.idl_model.specs.Places.{Place}
-use Rattle.idl_model.specs.Trees.{Path, Simple, WrittenType, simple, named, sequence_of, no_arguments, argument, Declaration}
+use Rattle.idl_model.specs.Trees.{Simple, WrittenType, simple, named, sequence_of, no_arguments, argument, Declaration}
 use Rattle.idl_model.specs.Trees as tree
 use Rattle.idl_meaning_model.specs.Declarations.{Declared}
 use Rattle.idl_meaning_model.specs.Meaning.{simple_meant, type_over, declared_type, type_of_declared, type_named, name_type, type_meant}

@@ -20,7 +20,7 @@ use Rattle.uno_model.proofs.CircleLaws.{all_at}
 use Rattle.uno_model.proofs.PlaceLaws.{contains_head, contains_behind}
 use Rattle.registry_text_model.specs.Canonical.{is_only_base, is_implicit_alone}
 use Rattle.registry_text_model.specs.Lines.{written}
-use Rattle.idl_model.specs.Trees.{Path, WrittenType, Expr, Declaration}
+use Rattle.idl_model.specs.Trees.{Path, WrittenType, Declaration}
 use Rattle.idl_model.specs.Trees as tree
 use Rattle.idl_meaning_model.specs.Declarations.{Declared, Scope}
 use Rattle.idl_meaning_model.specs.Uses.{Used, an_entity, a_value, type_paths, accessor_raises, member_paths, constructor_paths, service_paths, entity_paths}
