@@ -12,12 +12,7 @@ fn file(rt: &impl Abort, alloc: Global, name: &str, bytes: &[u8]) -> MemFile {
 }
 
 /// Files with these names and bytes, of which the readings with these numbers fail.
-pub(crate) fn files_of(
-    rt: &impl Abort,
-    alloc: Global,
-    stored: &[(&str, &[u8])],
-    failing: &[u64],
-) -> MemFiles {
+fn files_of(rt: &impl Abort, alloc: Global, stored: &[(&str, &[u8])], failing: &[u64]) -> MemFiles {
     let failing = Vec::from_slice(alloc, failing).expect(rt, "no memory");
     let mut files = Vec::new(alloc);
     for (name, bytes) in stored {

@@ -6,8 +6,6 @@ mod circles;
 #[cfg(test)]
 mod copies;
 #[cfg(test)]
-mod file_runs;
-#[cfg(test)]
 mod files;
 #[cfg(test)]
 mod front_page;
@@ -18,16 +16,8 @@ mod memory;
 #[cfg(test)]
 mod order;
 #[cfg(test)]
-mod running;
-#[cfg(test)]
-mod runs;
-#[cfg(test)]
 mod slots;
 #[cfg(test)]
 mod sources;
 #[cfg(test)]
 mod streams;
-#[cfg(test)]
-mod talk;
-#[cfg(test)]
-mod threads;
