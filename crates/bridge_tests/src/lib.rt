@@ -1,6 +1,8 @@
-//! The tests of the parts of an endpoint, over public calls alone: its streams, objects, journal and setting, and the variables of its frames.
+//! The tests of an endpoint and of its parts, over public calls alone: its streams, objects, journal and setting, the variables of its frames, and talks with it.
 #![tactic(auto)]
 
+#[cfg(test)]
+mod endpoint;
 #[cfg(test)]
 mod journals;
 #[cfg(test)]

@@ -1,7 +1,11 @@
 //! What a row shows, word by word.
 use std::alloc::Global;
+use std::fmt::Debug;
 use std::process::Abort;
 use uno_base::NoMemory;
+use uno_types::Registry;
+use uno_values::Value;
+use value_text::push_value;
 
 /// Words, each behind a blank. What finds no memory is left out, so that its row fails.
 #[derive(Drop)]
@@ -16,6 +20,10 @@ impl Shown {
             alloc,
             text: String::new(alloc),
         }
+    }
+
+    pub(crate) fn as_str(&self) -> &str {
+        self.text.as_str()
     }
 
     /// Puts a piece of a word behind the others.
@@ -73,10 +81,56 @@ impl Shown {
         }
     }
 
+    /// Puts an answer by the names of its variants.
+    pub(crate) fn tell(&mut self, answer: &impl Debug) {
+        write!(self.text, "{answer:?}").ok();
+    }
+
+    pub(crate) fn tell_or_none(&mut self, answer: Option<impl Debug + Drop>) {
+        match answer {
+            Some(answer) => self.tell(&answer),
+            None => self.put("-"),
+        }
+    }
+
+    /// Puts three answers with a blank between them.
+    pub(crate) fn tell_three(&mut self, answers: &[impl Debug; 3]) {
+        let [first, second, third] = answers;
+        write!(self.text, "{first:?} {second:?} {third:?}").ok();
+    }
+
+    /// Puts the digits of bytes.
+    pub(crate) fn bytes(&mut self, bytes: &[u8]) {
+        for byte in bytes {
+            write!(self.text, "{byte:02X}").ok();
+        }
+    }
+
+    /// Puts the literal of a value behind a blank.
+    pub(crate) fn value(&mut self, registry: &Registry, value: &Value) {
+        self.put(" ");
+        push_value(registry.allocator(), &mut self.text, registry, value).ok();
+    }
+
+    pub(crate) fn values(&mut self, registry: &Registry, values: &[Value]) {
+        for value in values {
+            self.value(registry, value);
+        }
+    }
+
     /// Sees that a row shows what it should.
     pub(crate) fn see(&self, rt: &impl Abort, row: &str, wanted: &str) {
         assert_eq!(rt; self.text.as_str(), wanted, "at {row}");
     }
+}
+
+/// Sees that a row of a talk shows what it should.
+pub(crate) fn see(rt: &impl Abort, shown: &Shown, wanted: &Shown, row: &str, table: &str) {
+    assert_eq!(rt;
+        shown.text.as_str(),
+        wanted.text.as_str(),
+        "at {row} of {table}"
+    );
 }
 
 /// What stands before the mark, and what behind it; without a mark, nothing.

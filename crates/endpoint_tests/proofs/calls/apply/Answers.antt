@@ -1,5 +1,0 @@
-use Rattle.bridge_roots.proofs.OtherLemmas.{applied_stays}
-use Rattle.endpoint_tests.proofs.calls.apply.Goals as goal
-
-pub returns : goal.returns
-returns g c = λ r run. applied_stays c.apply.result c.args.end.now c.apply.new.self _ c.apply.ensures.entered r run

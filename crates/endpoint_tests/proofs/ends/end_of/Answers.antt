@@ -1,4 +1,0 @@
-use Rattle.endpoint_tests.proofs.ends.end_of.Goals as goal
-
-pub set_up-requires-clause-names : goal.set_up-requires-clause-names
-set_up-requires-clause-names g c = c.know_names.ensures _ c.in-Ok.ensures.accepted

@@ -1,6 +1,0 @@
-use Rattle.behaviour.specs.Roots.{run_of}
-use Rattle.bridge_roots.proofs.OtherLemmas.{fed_stays}
-use Rattle.endpoint_tests.proofs.stepping.hear.Goals as goal
-
-pub go_on-requires : goal.go_on-requires
-go_on-requires g c = fed_stays c.feed-fed.result c.args.end.now c.feed-fed.new.self _ c.feed-fed.ensures.entered (run_of c.args.root.now) c.requires

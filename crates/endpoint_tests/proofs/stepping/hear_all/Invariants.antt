@@ -1,6 +1,0 @@
-use Rattle.behaviour.specs.Roots.{run_of}
-use Rattle.bridge_roots.specs.Standing.{IsRunAt}
-use Rattle.endpoint_tests.proofs.stepping.hear_all.Given as goal
-
-abbrev pub invariant-loop-piece : goal.invariant-loop-piece
-invariant-loop-piece g l = IsRunAt l.end (run_of l.root)
