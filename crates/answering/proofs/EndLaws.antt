@@ -7,8 +7,8 @@ use Rattle.uno_io.specs.Fronts.{AppendsFront}
 use Rattle.bridge_endpoint.specs.Journals.{Endpoint, setting_at, side_at, told_at}
 use Rattle.bridge_model.specs.Entries.{Entry}
 use Rattle.bridge_model.specs.Histories.{Leads}
-use Rattle.bridge_roots.specs.Moving.{with_any}
-use Rattle.bridge_roots.specs.Standing.{IsHistory}
+use Rattle.bridge_core.specs.Moving.{with_any}
+use Rattle.bridge_core.specs.Standing.{IsHistory}
 use Rattle.bridge_laws.specs.Working.{AllIsDone}
 use Rattle.answering.specs.Doing.{First, bytes_with}
 use Rattle.answering.specs.Ends.{Did, DoesFirst, GoesOn, HaltsAt, IsSettled, TurnsSo}

@@ -12,9 +12,9 @@ use Rattle.bridge_model.specs.Entries.{Entry, applied, drained, full, reaped}
 use Rattle.bridge_model.specs.Orders.{root_move, or_full, most_drained}
 use Rattle.bridge_model.specs.Steps.{has_entries}
 use Rattle.bridge_model.specs.RootRuns.{Moved, waiting, finished}
-use Rattle.bridge_roots.specs.Moving.{Does, StepsSo, next_move}
-use Rattle.bridge_roots.specs.declared.moved.RootMoved.{RootMoved}
-use Rattle.bridge_roots.specs.declared.moved.RootMoved.TheVariants as answer
+use Rattle.bridge_core.specs.Moving.{Does, StepsSo, next_move}
+use Rattle.bridge_core.specs.declared.moved.RootMoved.{RootMoved}
+use Rattle.bridge_core.specs.declared.moved.RootMoved.TheVariants as answer
 use Rattle.answering.specs.Doing.{First, of_method, of_root, of_object, of_bytes, bytes_with}
 use Rattle.answering.specs.Ends.{Applies, Moves, Drains, DrainsFirst, Did, DoesFirst}
 use Rattle.answering.specs.declared.stopped.Halted.{Halted}

@@ -11,8 +11,8 @@ use Rattle.bridge_model.specs.Orders.{or_full}
 use Rattle.bridge_model.specs.Settings.{Setting}
 use Rattle.bridge_model.specs.Sides.{Side}
 use Rattle.bridge_model.specs.Steps.{Picked, has_entries, is_picked, picked, picked_in}
-use Rattle.bridge_roots.specs.Standing.{IsHistory}
-use Rattle.holding_laws.proofs.DoingLaws.{all_apart, first_picked}
+use Rattle.bridge_core.specs.Standing.{IsHistory}
+use Rattle.bridge_laws.proofs.DoingLaws.{all_apart, first_picked}
 
 picked_tid : (g : Setting) (tid : List ℕ) (s : Side) (o : Option Picked) (j : Job) → job_picked g tid s o ≡ Some j → j.tid ≡ tid
 unfolding job_of

@@ -6,7 +6,7 @@ use Rattle.plan_model.specs.Forms.{is_export_name}
 use Rattle.plan_model.specs.Plans.{manager_name}
 use Rattle.plan_model.specs.Roots.{Run, opening_run}
 use Rattle.plan_model.specs.Statements.{RootStatement}
-use Rattle.line_laws.proofs.OwnLaws.{IsOwn, move_own}
+use Rattle.bridge_laws.proofs.OwnLaws.{IsOwn, move_own}
 use Rattle.bridge_endpoint.specs.Entering.{fed_by}
 use Rattle.bridge_endpoint.specs.Journals.{Endpoint, setting_at, side_at, with_entry}
 use Rattle.bridge_endpoint.specs.declared.answers.Fed.{Fed}
@@ -14,11 +14,11 @@ use Rattle.bridge_model.specs.Entries.{Entry, ended, applied, reaped, drained, f
 use Rattle.bridge_model.specs.Orders.{RootMove, first_runs, root_move, in_front, first_or_later}
 use Rattle.bridge_model.specs.RootRuns.{Moved, waiting, finished, moved, root_moves, is_of_root, StandsFor, begun}
 use Rattle.bridge_model.specs.Steps.{has_entries, is_root}
-use Rattle.bridge_roots.specs.Moving.{Does, next_move, with_any}
-use Rattle.bridge_roots.specs.Standing.{IsHistory, IsRunAt}
-use Rattle.bridge_roots.specs.declared.moved.RootMoved.TheVariants as answer
-use Rattle.bridge_roots.proofs.OtherLemmas.{fed_stays, other_stays}
-use Rattle.bridge_roots.proofs.RunAtLemmas.{run_behind, same_run}
+use Rattle.bridge_core.specs.Moving.{Does, next_move, with_any}
+use Rattle.bridge_core.specs.Standing.{IsHistory, IsRunAt}
+use Rattle.bridge_core.specs.declared.moved.RootMoved.TheVariants as answer
+use Rattle.bridge_core.proofs.OtherLemmas.{fed_stays, other_stays}
+use Rattle.bridge_core.proofs.RunAtLemmas.{run_behind, same_run}
 use Rattle.answering.specs.Doing.{First, of_method, of_root, of_object, of_bytes}
 use Rattle.answering.specs.Ends.{Did}
 use Rattle.answering.specs.Running.{AreRoots, AreRootsFrom}

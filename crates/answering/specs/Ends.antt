@@ -10,7 +10,7 @@ use Rattle.bridge_model.specs.Sides.{stands}
 use Rattle.bridge_model.specs.declared.cause.Cause.{Cause}
 use Rattle.bridge_model.specs.declared.cause.Cause.TheVariants as cause
 use Rattle.bridge_endpoint.specs.Journals.{Endpoint, setting_at, side_at, told_at, with_entry}
-use Rattle.bridge_roots.specs.Moving.{with_any}
+use Rattle.bridge_core.specs.Moving.{with_any}
 use Rattle.bridge_laws.specs.Working.{AllIsDone}
 use Rattle.answering.specs.Doing.{First, bytes_with, Feeds, Closes}
 use Rattle.answering.specs.Running.{AreRoots}

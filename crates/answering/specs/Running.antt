@@ -2,7 +2,7 @@
 use Rattle.std.specs.Prelude.{◌≡◌, ℕ, suc, List, [], ◌∷◌}
 use Rattle.plan_model.specs.Roots.{Run}
 use Rattle.bridge_endpoint.specs.Journals.{Endpoint}
-use Rattle.bridge_roots.specs.Standing.{IsRunAt}
+use Rattle.bridge_core.specs.Standing.{IsRunAt}
 
 -- numbered from here on, each with a run that stands for the journal
 abbrev pub AreRootsFrom : Endpoint → ℕ → List Run → Type 0

@@ -6,15 +6,15 @@ ghost use Rattle.behaviour.specs.Effects.{effect_of};
 ghost use Rattle.behaviour.specs.Roots.{run_of};
 ghost use Rattle.bridge_endpoint.specs.Journals.{setting_at, side_at};
 ghost use Rattle.bridge_model.specs.Answers.{pick, ready_at};
-ghost use Rattle.bridge_roots.specs.Standing.{IsHistory};
+ghost use Rattle.bridge_core.specs.Standing.{IsHistory};
 ghost use Rattle.answering.specs.Ends.{AppliesFirst, DoesFirst, DrainsFirst, MovesFirst};
 ghost use Rattle.answering.specs.Running.{AreRoots};
 ghost use Rattle.answering.specs.Serving.{Writes};
 
 use crate::stopped::Halted;
 use behaviour::{Done, RootRun, next};
+use bridge_core::{RootMoved, root_step};
 use bridge_endpoint::{ApplyError, Endpoint};
-use bridge_roots::{RootMoved, root_step};
 use uno_base::NoMemory;
 use uno_io::{Sink, write_all};
 

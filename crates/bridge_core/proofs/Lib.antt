@@ -1,0 +1,12 @@
+pub mod AnyLemmas
+pub mod AskLemmas
+pub mod BegunLemmas
+pub mod GivenLemmas
+pub mod GivingLemmas
+pub mod MadeLemmas
+pub mod MoveLemmas
+pub mod OtherLemmas
+pub mod RunAtLemmas
+pub mod StandLemmas
+pub mod StateLemmas
+pub mod TakeLemmas

@@ -11,7 +11,7 @@ ghost use Rattle.bridge_model.specs.Sides.{stands, state_of};
 ghost use Rattle.bridge_model.specs.Steps.{is_no_memory, is_root, may_begin};
 ghost use Rattle.bridge_state.specs.Telling.{counts_told, state_told};
 ghost use Rattle.bridge_tables.specs.Roots.{outcome_of};
-ghost use Rattle.bridge_typing.specs.Giving.{MayGive, RootsGive};
+ghost use Rattle.bridge_laws.specs.Giving.{MayGive, RootsGive};
 ghost use Rattle.plan_model.specs.Effects as effects;
 ghost use Rattle.plan_types.specs.Frames.{job_of};
 ghost use Rattle.plan_types.specs.Plans.{plan_of};
@@ -25,18 +25,17 @@ ghost use Rattle.bridge_endpoint.specs.Answering.{AppliedSo, IsMadeOid, begun_to
 ghost use Rattle.bridge_endpoint.specs.Entering.{applied_by, begun_by, draining, fed_by, how_ended, made_by, out_of_memory};
 ghost use Rattle.bridge_endpoint.specs.Journals as journals;
 ghost use Rattle.bridge_endpoint.specs.Journals.{IsSetUp, setting_at, side_at, told_at, with_entry};
-ghost use Rattle.bridge_roots.specs.Moving.{StepsSo};
-ghost use Rattle.bridge_roots.specs.Standing.{IsRunAt};
+ghost use Rattle.bridge_core.specs.Moving.{StepsSo};
+ghost use Rattle.bridge_core.specs.Standing.{IsRunAt};
 ghost use Rattle.bridge_core.specs.Sides.{is_a};
 ghost use Rattle.bridge_core.specs.declared.side.Side.{Side};
 
-use crate::Side;
+use crate::{RootMoved, Side, root_step};
 use behaviour::{Done, RootRun};
 use bridge_endpoint::{
     ApplyError, Begun, Counts, Endpoint, Entry, Fed, Made, NotHeld, Outcome, RootState,
 };
 use bridge_model::{Cause, InputEnd};
-use bridge_roots::{RootMoved, root_step};
 use plan_types::{Job, Plan};
 use uno_base::NoMemory;
 use uno_types::{Name, Registry, Text, Tid};

@@ -14,7 +14,7 @@ use Rattle.bridge_model.specs.declared.input_end.InputEnd.{InputEnd}
 use Rattle.bridge_model.specs.declared.input_end.InputEnd.TheVariants as how
 use Rattle.bridge_laws.specs.Room.{is_free}
 use Rattle.bridge_state.specs.EndSides.{EndSide, on_side, with_side}
-use Rattle.bridge_typing.specs.Giving.{MayGive}
+use Rattle.bridge_laws.specs.Giving.{MayGive}
 use Rattle.bridge_endpoint.specs.Kept.{IsKept}
 use Rattle.bridge_endpoint.proofs.KeptLaws.{free_kept, free_room, kept_few}
 use Rattle.bridge_endpoint.specs.Entering.{counts_one, how_cause, how_ended}

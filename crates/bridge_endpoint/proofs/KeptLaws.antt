@@ -22,9 +22,9 @@ use Rattle.plan_model.specs.Frames.{frames_of}
 use Rattle.bridge_laws.specs.Room.{brought, is_free, needed}
 use Rattle.bridge_laws.proofs.StepRoom.{counted_needed, entry_needed, free_needed}
 use Rattle.bridge_state.specs.EndSides.{EndSide, IsEndOf, with_side}
-use Rattle.bridge_typing.proofs.Given.{IsGiven}
-use Rattle.bridge_typing.proofs.GivenLaws.{is_given, unsaid_sayable}
-use Rattle.bridge_typing.specs.Giving.{MayGive, RootsGive}
+use Rattle.bridge_laws.proofs.TypedGiven.{IsGiven}
+use Rattle.bridge_laws.proofs.TypedGivenLaws.{is_given, unsaid_sayable}
+use Rattle.bridge_laws.specs.Giving.{MayGive, RootsGive}
 use Rattle.bridge_endpoint.specs.Kept.{IsKept}
 use Rattle.bridge_endpoint.specs.Entering.{IsWithin}
 use Rattle.bridge_endpoint.specs.Journals.{Endpoint, seen, setting_at, side_at, told_at}

@@ -10,7 +10,7 @@ use Rattle.bridge_model.specs.Sides.{Side, stands}
 use Rattle.bridge_model.specs.Steps.{counted, does, has_entries, is_root, may, may_begin, may_give}
 use Rattle.bridge_laws.specs.Room.{brought, is_free}
 use Rattle.bridge_state.specs.EndSides.{EndSide, on_side}
-use Rattle.bridge_typing.specs.Giving.{MayGive}
+use Rattle.bridge_laws.specs.Giving.{MayGive}
 use Rattle.bridge_endpoint.specs.Kept.{IsKept}
 use Rattle.bridge_endpoint.proofs.KeptLaws.{brought_kept, free_kept, free_room}
 use Rattle.bridge_endpoint.specs.Entering.{IsWithin, with_room}

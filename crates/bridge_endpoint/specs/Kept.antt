@@ -5,7 +5,7 @@ use Rattle.bridge_model.specs.Histories.{Told, Leads}
 use Rattle.bridge_model.specs.Settings.{Setting}
 use Rattle.bridge_laws.specs.Room.{needed}
 use Rattle.bridge_state.specs.EndSides.{EndSide, IsEndOf}
-use Rattle.bridge_typing.specs.Giving.{RootsGive}
+use Rattle.bridge_laws.specs.Giving.{RootsGive}
 use Rattle.uno_entities.specs.Tag.{IsTag}
 use Rattle.uno_model.specs.BuiltIn.{HasBuiltIn}
 use Rattle.bridge_endpoint.specs.Entering.{IsWithin}

@@ -6,7 +6,7 @@ ghost use Rattle.bridge_model.specs.Answers.{begun};
 ghost use Rattle.bridge_model.specs.Entries as plain;
 ghost use Rattle.bridge_model.specs.Steps.{counted, does, may_begin};
 ghost use Rattle.bridge_setting.specs.Settings.{setting_of};
-ghost use Rattle.bridge_typing.specs.Giving.{MayGive};
+ghost use Rattle.bridge_laws.specs.Giving.{MayGive};
 ghost use Rattle.plan_types.specs.Plans.{plan_of};
 ghost use Rattle.uno_model.specs.Sound.{IsSound};
 ghost use Rattle.uno_values.specs.Values.{plain_of};

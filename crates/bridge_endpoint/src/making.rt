@@ -9,7 +9,7 @@ ghost use Rattle.bridge_model.specs.Sides.{stands, state_of};
 ghost use Rattle.bridge_model.specs.Steps.{counted, does, is_root};
 ghost use Rattle.bridge_setting.specs.Settings.{setting_of};
 ghost use Rattle.bridge_tables.specs.Roots.{outcome_of};
-ghost use Rattle.bridge_typing.specs.Giving.{MayGive};
+ghost use Rattle.bridge_laws.specs.Giving.{MayGive};
 ghost use Rattle.uno_model.specs.Sound.{IsSound};
 ghost use Rattle.bridge_state.specs.EndSides.{IsEndOf, on_side, with_side};
 ghost use Rattle.bridge_endpoint.specs.Answering.{IsMadeOid, made_answer, made_told};

@@ -9,7 +9,7 @@ ghost use Rattle.bridge_model.specs.Sides.{stands, stands_by, state_of};
 ghost use Rattle.bridge_model.specs.Steps.{is_no_memory};
 ghost use Rattle.bridge_state.specs.Telling.{counts_told, state_told};
 ghost use Rattle.bridge_tables.specs.Roots.{outcome_of};
-ghost use Rattle.bridge_typing.specs.Giving.{RootsGive};
+ghost use Rattle.bridge_laws.specs.Giving.{RootsGive};
 ghost use Rattle.plan_types.specs.Plans.{plan_of};
 ghost use Rattle.uno_entities.specs.Tag.{IsTag};
 ghost use Rattle.uno_model.specs.BuiltIn.{HasBuiltIn};

@@ -3,7 +3,7 @@ use Rattle.std.proofs.Common.{◌≡◌, refl, sym, ap, subst, ◌∙◌, ℕ, L
 use Rattle.bridge_endpoint.specs.Journals.{Endpoint, setting_at}
 use Rattle.bridge_model.specs.RootRuns.{StandsFor, begun}
 use Rattle.bridge_model.specs.Steps.{is_root}
-use Rattle.bridge_roots.specs.Standing.{IsRunAt}
+use Rattle.bridge_core.specs.Standing.{IsRunAt}
 use Rattle.plan_model.specs.Forms.{is_export_name}
 use Rattle.plan_model.specs.Plans.{manager_name}
 use Rattle.plan_model.specs.Roots.{Run, opening_run}

@@ -14,8 +14,8 @@ use Rattle.bridge_endpoint.specs.declared.answers.Made.TheVariants as making
 use Rattle.bridge_model.specs.Entries.{Entry, applied, drained, fed, full, no_memory}
 use Rattle.bridge_model.specs.Histories.{bytes_drained, bytes_fed}
 use Rattle.bridge_model.specs.Steps.{is_no_memory}
-use Rattle.bridge_roots.specs.Moving.{with_any}
-use Rattle.bridge_spelling.specs.Giving.{IsGivenByRoot}
+use Rattle.bridge_core.specs.Moving.{with_any}
+use Rattle.bridge_laws.specs.SpellableGiving.{IsGivenByRoot}
 use Rattle.urp_model.specs.declared.reason.Reason.{Reason}
 use Rattle.bridge_world.specs.Joined.{taken_with}
 use Rattle.bridge_world.proofs.Going.{Goes, stays, enters, enters_still}

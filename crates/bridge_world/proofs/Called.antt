@@ -2,7 +2,7 @@
 use Rattle.std.proofs.Common.{◌≡◌, sym, ◌∙◌, ℕ, ◌+◌, List, length, arith}
 use Rattle.bridge_core.specs.declared.side.Side.TheVariants as code
 use Rattle.bridge_endpoint.specs.Journals.{Endpoint, stamped}
-use Rattle.joining_laws.proofs.MergeLaws.{how_many}
+use Rattle.world_laws.proofs.MergeLaws.{how_many}
 use Rattle.bridge_world.specs.Joined.{Grows, end_at, joined}
 use Rattle.bridge_world.specs.Worlds.{IsWorld}
 use Rattle.bridge_world.proofs.Going.{Goes, a_grows, a_joined, a_other, a_seen, b_grows, b_joined, b_other, b_seen}

@@ -5,10 +5,10 @@ use Rattle.bridge_model.specs.Answers.{bytes_wait, is_some_piece, may_reap}
 use Rattle.bridge_model.specs.Histories.{Told}
 use Rattle.bridge_model.specs.Settings.{Setting}
 use Rattle.bridge_model.specs.Sides.{Side, stands}
-use Rattle.joining_laws.specs.Linking.{AreTwoEnds}
+use Rattle.world_laws.specs.Linking.{AreTwoEnds}
 use Rattle.move_choice.specs.Choosing.{AreChoices, counted}
 use Rattle.move_choice.specs.declared.choices.Choices.{Choices}
-use Rattle.pairing_model.specs.Moves.{applying, stepping}
+use Rattle.world_model.specs.Moves.{applying, stepping}
 use Rattle.plan_model.specs.Roots.{Run}
 use Rattle.world_model.specs.Worlds.{of_a, of_b, pipe}
 use Rattle.bridge_world.specs.Joined.{joined, settings_of, world_of}

@@ -21,7 +21,7 @@ use Rattle.bridge_model.specs.declared.cause.Cause.{Cause}
 use Rattle.bridge_model.specs.declared.cause.Cause.TheVariants as cause
 use Rattle.bridge_model.specs.declared.input_end.InputEnd.TheVariants as how
 use Rattle.move_choice.specs.declared.choices.Deed.TheVariants as named
-use Rattle.pairing_model.specs.Moves.{Deed, steps, carried, done, step_done, steps_at, stepping}
+use Rattle.world_model.specs.Moves.{Deed, steps, carried, done, step_done, steps_at, stepping}
 use Rattle.plan_model.specs.Roots.{Run}
 use Rattle.urp_model.specs.declared.reason.Reason.{Reason}
 use Rattle.world_model.specs.Worlds.{pipe}

@@ -9,7 +9,7 @@ use Rattle.bridge_model.specs.Settings.{Setting}
 use Rattle.bridge_model.specs.Sides as end
 use Rattle.move_choice.specs.Choosing.{counted}
 use Rattle.move_choice.specs.declared.choices.Deed as named
-use Rattle.pairing_model.specs.Moves.{Deed, Move, Progress}
+use Rattle.world_model.specs.Moves.{Deed, Move, Progress}
 use Rattle.plan_model.specs.Roots.{Run}
 use Rattle.world_model.specs.declared.side.Side.TheVariants.{A}
 use Rattle.bridge_world.specs.Doing.{IsDeedIn, IsDone, IsMoved, deeds_in}

@@ -8,8 +8,8 @@ use Rattle.bridge_endpoint.specs.declared.answers.Fed.TheVariants as feeding
 use Rattle.bridge_model.specs.Answers.{broken, feed_answer, next_cut, no_room, taken}
 use Rattle.bridge_model.specs.Settings.{Setting}
 use Rattle.bridge_model.specs.Sides.{Side}
-use Rattle.joining_laws.proofs.FeedLaws.{next_front, taken_is_cut, whole_feed_a, whole_feed_b}
-use Rattle.joining_laws.specs.Linking.{AreTwoEnds}
+use Rattle.world_laws.proofs.FeedLaws.{next_front, taken_is_cut, whole_feed_a, whole_feed_b}
+use Rattle.world_laws.specs.Linking.{AreTwoEnds}
 use Rattle.urp_model.specs.declared.reason.Reason.{Reason}
 use Rattle.bridge_world.specs.Joined.{joined, settings_of, taken_with}
 use Rattle.bridge_world.specs.Worlds.{IsWorld}

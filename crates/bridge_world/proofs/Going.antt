@@ -5,11 +5,11 @@ use Rattle.bridge_core.specs.declared.side.Side.TheVariants as code
 use Rattle.bridge_endpoint.specs.Journals.{Endpoint, with_entry}
 use Rattle.bridge_model.specs.Entries.{Entry}
 use Rattle.bridge_model.specs.Histories.{bytes_drained, bytes_fed}
-use Rattle.bridge_spelling.specs.Giving.{IsGivenByRoot}
-use Rattle.joining_laws.specs.Linking.{ArePiped}
-use Rattle.joining_laws.specs.Merging.{AreMerged, event_at, events_at, put_in}
-use Rattle.joining_laws.proofs.GoingOn.{a_goes_on, b_goes_on}
-use Rattle.joining_laws.proofs.MergeLaws.{marks_tell, more_of_a, more_of_b}
+use Rattle.bridge_laws.specs.SpellableGiving.{IsGivenByRoot}
+use Rattle.world_laws.specs.Linking.{ArePiped}
+use Rattle.world_laws.specs.Merging.{AreMerged, event_at, events_at, put_in}
+use Rattle.world_laws.proofs.GoingOn.{a_goes_on, b_goes_on}
+use Rattle.world_laws.proofs.MergeLaws.{marks_tell, more_of_a, more_of_b}
 use Rattle.world_model.specs.Worlds.{Event, entries_of}
 use Rattle.world_model.specs.declared.side.Side as which_side
 use Rattle.world_model.specs.declared.side.Side.TheVariants.{A, B}

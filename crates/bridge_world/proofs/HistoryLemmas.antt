@@ -4,9 +4,9 @@ use Rattle.bridge_core.specs.declared.side.Side.{Side}
 use Rattle.bridge_core.specs.declared.side.Side.TheVariants as code
 use Rattle.bridge_endpoint.specs.Journals.{Endpoint, setting_at, told_at}
 use Rattle.bridge_model.specs.Histories.{Told}
-use Rattle.bridge_roots.specs.Standing.{IsHistory}
-use Rattle.joining_laws.proofs.Histories.{one_history}
-use Rattle.joining_laws.specs.Linking.{AreTwoEnds}
+use Rattle.bridge_core.specs.Standing.{IsHistory}
+use Rattle.world_laws.proofs.Histories.{one_history}
+use Rattle.world_laws.specs.Linking.{AreTwoEnds}
 use Rattle.world_model.specs.Worlds.{pipe}
 use Rattle.bridge_world.specs.Doing.{IsKnown, other_of, setting_in, told_in}
 use Rattle.bridge_world.specs.Joined.{end_at, joined, on_the_way, settings_of}

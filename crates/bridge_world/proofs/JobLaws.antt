@@ -12,7 +12,7 @@ use Rattle.bridge_model.specs.Histories.{Leads}
 use Rattle.bridge_model.specs.Settings.{Setting}
 use Rattle.bridge_model.specs.Sides.{Side}
 use Rattle.bridge_model.specs.Steps.{Picked, is_picked, picked, picked_in}
-use Rattle.holding_laws.proofs.DoingLaws.{all_apart, picked_one}
+use Rattle.bridge_laws.proofs.DoingLaws.{all_apart, picked_one}
 use Rattle.plan_model.specs.Frames.{Job, Stack, first_frame, frames_of, is_body, nth_tid, ready}
 use Rattle.plan_model.specs.Keeps.{KeepsTheRules}
 

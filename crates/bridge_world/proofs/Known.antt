@@ -5,10 +5,10 @@ use Rattle.bridge_endpoint.specs.Journals.{Endpoint, setting_at, side_at, told_a
 use Rattle.bridge_model.specs.Histories.{Told}
 use Rattle.bridge_model.specs.Sides.{Side}
 use Rattle.bridge_model.specs.declared.cause.Cause.{Cause}
-use Rattle.joining_laws.proofs.GoingOn.{way_a, way_b}
-use Rattle.joining_laws.proofs.Histories.{one_history}
-use Rattle.joining_laws.specs.Linking.{AreTwoEnds, IsOneHistory}
-use Rattle.pairing_model.specs.Pairs.{has_full, is_full}
+use Rattle.world_laws.proofs.GoingOn.{way_a, way_b}
+use Rattle.world_laws.proofs.Histories.{one_history}
+use Rattle.world_laws.specs.Linking.{AreTwoEnds, IsOneHistory}
+use Rattle.world_model.specs.Pairs.{has_full, is_full}
 use Rattle.report_model.specs.Pairs.{AlwaysKeep}
 use Rattle.world_model.specs.Worlds.{World, Runs, of_a, of_b, opening_world}
 use Rattle.bridge_world.specs.Joined.{joined, on_the_way, settings_of, world_of}

@@ -11,8 +11,8 @@ use Rattle.bridge_journal.specs.Logs.{entry_of}
 use Rattle.bridge_journal.specs.declared.entry.Entry.{Entry as Kept}
 use Rattle.bridge_endpoint.specs.Journals.{Endpoint}
 use Rattle.bridge_model.specs.Entries.{Entry}
-use Rattle.joining_laws.proofs.MarkLaws.{each_marked, mark_finds, marks_rise}
-use Rattle.joining_laws.specs.Merging.{event_at, places_of}
+use Rattle.world_laws.proofs.MarkLaws.{each_marked, mark_finds, marks_rise}
+use Rattle.world_laws.specs.Merging.{event_at, places_of}
 use Rattle.world_model.specs.Worlds.{Event, entries_of}
 use Rattle.world_model.specs.declared.side.Side.{Side}
 use Rattle.world_model.specs.declared.side.Side.TheVariants.{A, B}

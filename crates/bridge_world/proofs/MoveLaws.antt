@@ -8,20 +8,20 @@ use Rattle.bridge_model.specs.Entries.{Entry}
 use Rattle.bridge_model.specs.Histories.{Leads, bytes_fed}
 use Rattle.bridge_model.specs.RootRuns.{Moved, waiting, finished, moved, root_moves}
 use Rattle.bridge_model.specs.Settings.{Setting}
-use Rattle.holding_laws.proofs.MayLaws.{own_entry_may}
-use Rattle.holding_laws.proofs.RootConstantLaws.{roots_refer_to_nothing}
-use Rattle.holding_laws.specs.RootConstants.{root_constants}
-use Rattle.joining_laws.specs.Standing.{StandsAt, AllStandAt}
-use Rattle.joining_laws.proofs.StandingLaws.{is_of_plan}
-use Rattle.line_laws.proofs.OwnLaws.{move_feeds}
-use Rattle.pairing_laws.proofs.AllDone.{all_done}
-use Rattle.pairing_laws.proofs.DoingLaws.{acts_can, nothing_comes}
-use Rattle.pairing_laws.proofs.Entering.{MovedCanEnter, RunCanMove}
-use Rattle.pairing_laws.specs.Doing.{CanBeDone}
-use Rattle.pairing_model.specs.Moves.{moves}
-use Rattle.pairing_model.specs.Pairs.{Pairing}
-use Rattle.world_histories.proofs.CarriedLaws.{whole_met}
-use Rattle.world_histories.specs.Ready.{AreReady, BothGiveWell}
+use Rattle.bridge_laws.proofs.MayLaws.{own_entry_may}
+use Rattle.bridge_laws.proofs.RootConstantLaws.{roots_refer_to_nothing}
+use Rattle.bridge_laws.specs.RootConstants.{root_constants}
+use Rattle.world_laws.specs.Standing.{StandsAt, AllStandAt}
+use Rattle.world_laws.proofs.StandingLaws.{is_of_plan}
+use Rattle.bridge_laws.proofs.OwnLaws.{move_feeds}
+use Rattle.world_laws.proofs.AllDone.{all_done}
+use Rattle.world_laws.proofs.DoingLaws.{acts_can, nothing_comes}
+use Rattle.world_laws.proofs.Entering.{MovedCanEnter, RunCanMove}
+use Rattle.world_laws.specs.Doing.{CanBeDone}
+use Rattle.world_model.specs.Moves.{moves}
+use Rattle.world_model.specs.Pairs.{Pairing}
+use Rattle.world_laws.proofs.CarriedLaws.{whole_met}
+use Rattle.world_laws.specs.Ready.{AreReady, BothGiveWell}
 use Rattle.world_laws.proofs.RunLaws.{both_lead}
 use Rattle.world_laws.proofs.SaidLaws.{fit}
 use Rattle.world_model.specs.Worlds.{Settings, of_a, of_b, End, Runs, pipe, may_come, entries_of}

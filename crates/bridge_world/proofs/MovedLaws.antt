@@ -6,11 +6,11 @@ use Rattle.bridge_core.specs.declared.side.Side.TheVariants as code
 use Rattle.bridge_endpoint.specs.Journals.{Endpoint}
 use Rattle.bridge_model.specs.Entries.{Entry}
 use Rattle.bridge_model.specs.Settings.{Setting}
-use Rattle.bridge_roots.specs.Moving.{with_any}
-use Rattle.joining_laws.specs.Merging.{event_at, events_at}
-use Rattle.joining_laws.specs.Standing.{AllStandAt}
-use Rattle.pairing_model.specs.Moves.{Deed, Move, Progress, at}
-use Rattle.pairing_model.specs.Pairs.{Pairing, does, enters, is_done_a, is_done_b, with_world}
+use Rattle.bridge_core.specs.Moving.{with_any}
+use Rattle.world_laws.specs.Merging.{event_at, events_at}
+use Rattle.world_laws.specs.Standing.{AllStandAt}
+use Rattle.world_model.specs.Moves.{Deed, Move, Progress, at}
+use Rattle.world_model.specs.Pairs.{Pairing, does, enters, is_done_a, is_done_b, with_world}
 use Rattle.plan_model.specs.Roots.{Run}
 use Rattle.world_model.specs.Worlds.{Event, Settings, World, entries_of, happen_all, happens, opening_world}
 use Rattle.world_model.specs.declared.side.Side.TheVariants.{A, B}

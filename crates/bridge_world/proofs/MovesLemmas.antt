@@ -3,7 +3,7 @@ use Rattle.std.proofs.Common.{◌≡◌, refl, sym, ap, ◌∙◌, ℕ, zero, su
 use Rattle.std.proofs.lemmas.List.{length-map}
 use Rattle.move_choice.proofs.ChoosingLemmas.{counted_behind, counted_front}
 use Rattle.move_choice.specs.Choosing.{counted}
-use Rattle.pairing_model.specs.Moves.{Deed, Move, Progress, at, deeds, moves}
+use Rattle.world_model.specs.Moves.{Deed, Move, Progress, at, deeds, moves}
 use Rattle.world_model.specs.Worlds.{Settings, World, of_a, of_b}
 use Rattle.world_model.specs.declared.side.Side.{Side}
 use Rattle.world_model.specs.declared.side.Side.TheVariants.{A, B}

@@ -8,7 +8,7 @@ use Rattle.bridge_model.specs.Sides.{Outcome, RootState, Side, answered, idle, s
 use Rattle.bridge_model.specs.Steps.{has_entries}
 use Rattle.bridge_state.specs.Telling.{state_told}
 use Rattle.bridge_state.specs.declared.telling.RootState.TheVariants as told
-use Rattle.pairing_model.specs.Moves.{does_move}
+use Rattle.world_model.specs.Moves.{does_move}
 use Rattle.plan_model.specs.Calling.{given_values, number_in, object_of}
 use Rattle.plan_model.specs.Evaluation.{value_of_word}
 use Rattle.plan_model.specs.Roots.{Run, asked_name, next_loose}

@@ -6,8 +6,8 @@ use Rattle.bridge_model.specs.Histories.{Told}
 use Rattle.bridge_model.specs.RootRuns.{root_moves}
 use Rattle.bridge_model.specs.Settings.{Setting}
 use Rattle.bridge_model.specs.Sides as end
-use Rattle.pairing_laws.proofs.DoingLaws.{all_joined, all_mapped}
-use Rattle.pairing_model.specs.Moves.{Deed, applies, steps, drains, carries, closes, applying, deeds, does_move, may_carry, may_close, one_if, reaping, stepping}
+use Rattle.world_laws.proofs.DoingLaws.{all_joined, all_mapped}
+use Rattle.world_model.specs.Moves.{Deed, applies, steps, drains, carries, closes, applying, deeds, does_move, may_carry, may_close, one_if, reaping, stepping}
 use Rattle.plan_model.specs.Frames.{Stack, ready}
 use Rattle.plan_model.specs.Roots.{Run}
 use Rattle.world_model.specs.Worlds.{pipe}

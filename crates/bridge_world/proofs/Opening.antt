@@ -3,16 +3,16 @@ use Rattle.std.proofs.Common.{◌≡◌, sym, ap, ◌∙◌, subst, ℕ, ◌≢�
 use Rattle.bridge_endpoint.specs.Journals.{Endpoint, IsSetUp, setting_at, told_at}
 use Rattle.bridge_model.specs.Entries.{Entry}
 use Rattle.bridge_model.specs.Histories.{Leads}
-use Rattle.bridge_spelling.specs.Texts.{AreSmallItems}
-use Rattle.bridge_typing.specs.Giving.{RootsGive}
-use Rattle.joining_laws.specs.Linking.{ArePiped, AreTwoEnds}
-use Rattle.joining_laws.specs.Merging.{AreMerged, events_at, put_in}
-use Rattle.joining_laws.proofs.GoingOn.{opening_piped}
-use Rattle.joining_laws.proofs.MergeLaws.{none_merged}
+use Rattle.bridge_laws.specs.Texts.{AreSmallItems}
+use Rattle.bridge_laws.specs.Giving.{RootsGive}
+use Rattle.world_laws.specs.Linking.{ArePiped, AreTwoEnds}
+use Rattle.world_laws.specs.Merging.{AreMerged, events_at, put_in}
+use Rattle.world_laws.proofs.GoingOn.{opening_piped}
+use Rattle.world_laws.proofs.MergeLaws.{none_merged}
 use Rattle.plan_model.specs.Keeps.{KeepsTheRules}
 use Rattle.uno_entities.specs.Tag as code
 use Rattle.uno_model.specs.BuiltIn.{HasBuiltIn}
-use Rattle.world_histories.specs.Ready.{AreReady}
+use Rattle.world_laws.specs.Ready.{AreReady}
 use Rattle.world_model.specs.Setups.{IsTag}
 use Rattle.world_model.specs.Worlds.{of_b, entries_of}
 use Rattle.world_model.specs.declared.side.Side.TheVariants.{A, B}

@@ -7,8 +7,8 @@ use Rattle.bridge_endpoint.specs.Journals.{Endpoint, setting_at, side_at, stampe
 use Rattle.bridge_endpoint.specs.declared.answers.Fed.{Fed}
 use Rattle.bridge_endpoint.specs.declared.answers.Fed.TheVariants as feeding
 use Rattle.bridge_model.specs.Answers.{broken, feed_answer, next_cut}
-use Rattle.bridge_roots.specs.Standing.{IsHistory}
-use Rattle.joining_laws.specs.Linking.{AreTwoEnds}
+use Rattle.bridge_core.specs.Standing.{IsHistory}
+use Rattle.world_laws.specs.Linking.{AreTwoEnds}
 use Rattle.urp_model.specs.declared.reason.Reason.{Reason}
 use Rattle.bridge_world.specs.Joined.{Joined, end_at, joined, on_the_way, settings_of, taken_with}
 use Rattle.bridge_world.specs.Worlds.{IsWorld}

@@ -2,8 +2,8 @@
 use Rattle.std.proofs.Common.{◌≡◌, refl, ap, ◌∙◌, ℕ, suc, Bool, true, false, List, [], ◌∷◌, length, slice_get, Option, None, Some, if◌then◌else◌}
 use Rattle.rand_pcg.specs.Lcg.{Lcg}
 use Rattle.bridge_model.specs.Entries.{Entry}
-use Rattle.pairing_model.specs.Moves.{Move, moves, Done, done}
-use Rattle.pairing_model.specs.Pairs.{Pairing, does, does_at, does_some, enters, goes_on, has_full, is_done_a, is_done_b, place_of, plays, plays_list, with_world}
+use Rattle.world_model.specs.Moves.{Move, moves, Done, done}
+use Rattle.world_model.specs.Pairs.{Pairing, does, does_at, does_some, enters, goes_on, has_full, is_done_a, is_done_b, place_of, plays, plays_list, with_world}
 use Rattle.world_model.specs.Worlds.{Settings, of_a, of_b, World, Event, happens}
 use Rattle.world_model.specs.declared.side.Side.{Side}
 use Rattle.world_model.specs.declared.side.Side.TheVariants.{A, B}

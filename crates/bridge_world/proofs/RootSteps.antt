@@ -7,14 +7,14 @@ use Rattle.bridge_model.specs.Entries.{Entry}
 use Rattle.bridge_model.specs.RootRuns.{StandsFor, finished, moved, root_moves, waiting}
 use Rattle.bridge_model.specs.Settings.{Setting}
 use Rattle.bridge_model.specs.Sides as side
-use Rattle.bridge_roots.specs.Moving.{StepsSo, next_move, with_any}
-use Rattle.bridge_roots.specs.Standing.{IsRunAt}
-use Rattle.bridge_roots.specs.declared.moved.RootMoved.{RootMoved}
-use Rattle.bridge_roots.specs.declared.moved.RootMoved.TheVariants as answer
-use Rattle.bridge_spelling.specs.Giving.{IsGivenByRoot}
-use Rattle.joining_laws.proofs.Histories.{given_next_a, given_next_b}
-use Rattle.joining_laws.specs.Linking.{AreTwoEnds}
-use Rattle.line_laws.proofs.OwnLaws.{move_feeds}
+use Rattle.bridge_core.specs.Moving.{StepsSo, next_move, with_any}
+use Rattle.bridge_core.specs.Standing.{IsRunAt}
+use Rattle.bridge_core.specs.declared.moved.RootMoved.{RootMoved}
+use Rattle.bridge_core.specs.declared.moved.RootMoved.TheVariants as answer
+use Rattle.bridge_laws.specs.SpellableGiving.{IsGivenByRoot}
+use Rattle.world_laws.proofs.Histories.{given_next_a, given_next_b}
+use Rattle.world_laws.specs.Linking.{AreTwoEnds}
+use Rattle.bridge_laws.proofs.OwnLaws.{move_feeds}
 use Rattle.plan_model.specs.Roots.{Run}
 use Rattle.std.specs.Str.{IsUtf8}
 use Rattle.world_model.specs.Worlds.{entries_of}

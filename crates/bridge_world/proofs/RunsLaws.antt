@@ -13,8 +13,8 @@ use Rattle.bridge_model.specs.Entries.{Entry, applied, drained, ended, fed, full
 use Rattle.bridge_model.specs.RootRuns.{is_of_root}
 use Rattle.bridge_model.specs.Steps.{is_no_memory}
 use Rattle.bridge_model.specs.declared.input_end.InputEnd.TheVariants as how
-use Rattle.joining_laws.proofs.StandingLaws.{others_stand}
-use Rattle.joining_laws.specs.Merging.{events_at}
+use Rattle.world_laws.proofs.StandingLaws.{others_stand}
+use Rattle.world_laws.specs.Merging.{events_at}
 use Rattle.world_laws.proofs.RunLaws.{entries_both}
 use Rattle.world_model.specs.Worlds.{Event, entries_of}
 use Rattle.world_model.specs.declared.side.Side.TheVariants.{A, B}

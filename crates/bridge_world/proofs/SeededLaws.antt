@@ -1,8 +1,8 @@
 -- Moves that a seed draws, one after the other: how far they have led, and where they stop.
 use Rattle.std.proofs.Common.{◌≡◌, refl, sym, ap, ◌∙◌, subst, ℕ, ◌-◌, ◌<◌, ◌^◌, min, true, false, List, [], ◌∷◌, length, slice_get, Option, None, Some, arith}
 use Rattle.rand_pcg.specs.Lcg.{Lcg}
-use Rattle.pairing_model.specs.Moves.{Progress, moves}
-use Rattle.pairing_model.specs.Pairs.{behind, does, does_some, generator_of, has_full, place_of, plays}
+use Rattle.world_model.specs.Moves.{Progress, moves}
+use Rattle.world_model.specs.Pairs.{behind, does, does_some, generator_of, has_full, place_of, plays}
 use Rattle.world_model.specs.Worlds.{Settings}
 use Rattle.bridge_world.specs.Joined.{Joined, settings_of, world_of}
 use Rattle.bridge_world.specs.Playing.{MovesSo, PlaysSo, StandForHistory, moves_of, pairing_of}

@@ -8,13 +8,13 @@ use Rattle.bridge_model.specs.Histories.{Leads}
 use Rattle.bridge_model.specs.RootRuns.{finished, moved, root_moves, waiting}
 use Rattle.bridge_model.specs.Settings.{Setting}
 use Rattle.bridge_model.specs.Sides.{Side}
-use Rattle.bridge_roots.specs.Moving.{Does, IsLeft, StepsSo, next_move, with_any}
-use Rattle.bridge_roots.specs.Standing.{IsRunAt}
-use Rattle.bridge_roots.specs.declared.moved.RootMoved.{RootMoved}
-use Rattle.bridge_roots.specs.declared.moved.RootMoved.TheVariants as answer
-use Rattle.bridge_typing.proofs.Given.{IsGiven}
-use Rattle.joining_laws.proofs.StandingLaws.{entered_stand, passed_stand, stands_there}
-use Rattle.pairing_model.specs.Moves.{Deed, does_move, one_if, stepping, steps}
+use Rattle.bridge_core.specs.Moving.{Does, IsLeft, StepsSo, next_move, with_any}
+use Rattle.bridge_core.specs.Standing.{IsRunAt}
+use Rattle.bridge_core.specs.declared.moved.RootMoved.{RootMoved}
+use Rattle.bridge_core.specs.declared.moved.RootMoved.TheVariants as answer
+use Rattle.bridge_laws.proofs.TypedGiven.{IsGiven}
+use Rattle.world_laws.proofs.StandingLaws.{entered_stand, passed_stand, stands_there}
+use Rattle.world_model.specs.Moves.{Deed, does_move, one_if, stepping, steps}
 use Rattle.plan_model.specs.Roots.{Run}
 use Rattle.bridge_world.specs.Doing.{HasStepped, KeepsRuns, StandThere}
 use Rattle.bridge_world.proofs.RunsLaws.{keeps_lost, keeps_same}

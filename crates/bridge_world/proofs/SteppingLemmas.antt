@@ -7,7 +7,7 @@ use Rattle.bridge_model.specs.RootRuns.{root_moves}
 use Rattle.bridge_model.specs.Settings.{Setting}
 use Rattle.bridge_model.specs.Sides.{Side}
 use Rattle.move_choice.specs.Choosing.{counted}
-use Rattle.pairing_model.specs.Moves.{Deed, does_move, one_if, stepping, steps}
+use Rattle.world_model.specs.Moves.{Deed, does_move, one_if, stepping, steps}
 use Rattle.uno_values.proofs.Parts.{part_at}
 
 one_more : (b : Bool) (d : Deed) (ds : List Deed) (count : ℕ) → b ≡ true → counted (count + length (one_if b d ++ ds)) ≡ counted (suc count + length ds)

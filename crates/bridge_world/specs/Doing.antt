@@ -7,11 +7,11 @@ use Rattle.bridge_model.specs.Entries.{Entry}
 use Rattle.bridge_model.specs.Histories.{Told}
 use Rattle.bridge_model.specs.RootRuns.{moved, root_moves}
 use Rattle.bridge_model.specs.Settings.{Setting}
-use Rattle.bridge_roots.specs.Moving.{with_any}
-use Rattle.joining_laws.specs.Standing.{AllStandAt}
+use Rattle.bridge_core.specs.Moving.{with_any}
+use Rattle.world_laws.specs.Standing.{AllStandAt}
 use Rattle.move_choice.specs.Choosing.{IsDeed}
 use Rattle.move_choice.specs.declared.choices.Deed as named
-use Rattle.pairing_model.specs.Moves.{Deed, Move, Progress, at, deeds, done, steps, stepping}
+use Rattle.world_model.specs.Moves.{Deed, Move, Progress, at, deeds, done, steps, stepping}
 use Rattle.plan_model.specs.Roots.{Run}
 use Rattle.report_model.specs.Pairs.{AlwaysKeep}
 use Rattle.world_model.specs.Worlds.{Runs, of_a, of_b, pipe}

@@ -9,7 +9,7 @@ use Rattle.bridge_endpoint.specs.declared.answers.Fed.TheVariants as feeding
 use Rattle.bridge_model.specs.Entries.{Entry}
 use Rattle.bridge_setting.specs.Settings.{setting_of}
 use Rattle.bridge_setting.specs.declared.setting.Setting.{Setting as Configured}
-use Rattle.joining_laws.specs.Merging.{events_at, put_in, way_to}
+use Rattle.world_laws.specs.Merging.{events_at, put_in, way_to}
 use Rattle.world_model.specs.Worlds.{Settings, Share, World, opening_world, Event, happen_all, entries_of}
 use Rattle.world_model.specs.declared.side.Side as world
 use Rattle.world_model.specs.declared.side.Side.TheVariants.{A, B}

@@ -5,9 +5,9 @@ use Rattle.behaviour.specs.Roots.{run_of}
 use Rattle.bridge_core.specs.declared.side.Side.{Side}
 use Rattle.bridge_journal.specs.Logs.{entry_of}
 use Rattle.bridge_journal.specs.declared.entry.Entry.{Entry as Kept}
-use Rattle.joining_laws.specs.Standing.{AllStandAt}
-use Rattle.pairing_model.specs.Moves.{Move, Progress, moves}
-use Rattle.pairing_model.specs.Pairs.{Pairing, does, generator_of, plays}
+use Rattle.world_laws.specs.Standing.{AllStandAt}
+use Rattle.world_model.specs.Moves.{Move, Progress, moves}
+use Rattle.world_model.specs.Pairs.{Pairing, does, generator_of, plays}
 use Rattle.world_model.specs.Worlds.{Event, of_a, of_b, entries_of}
 use Rattle.world_model.specs.declared.side.Side.TheVariants.{A, B}
 use Rattle.bridge_world.specs.Joined.{Joined, settings_of, side_of, world_of}

@@ -2,8 +2,8 @@
 -- drained and the other was not fed, all that was fed having been next of them.
 use Rattle.std.specs.Prelude.{◌≡◌, ℕ, List}
 use Rattle.bridge_endpoint.specs.Journals.{Endpoint, setting_at}
-use Rattle.joining_laws.specs.Linking.{ArePiped}
-use Rattle.joining_laws.specs.Merging.{AreMerged}
+use Rattle.world_laws.specs.Linking.{ArePiped}
+use Rattle.world_laws.specs.Merging.{AreMerged}
 use Rattle.bridge_world.specs.Joined.{joined, settings_of}
 
 pub record IsWorld (a b : Endpoint) (to_a to_b : List ℕ) : Type 0 where

@@ -5,7 +5,7 @@ ghost use Rattle.bridge_core.specs.declared.side.Side.TheVariants as code;
 ghost use Rattle.bridge_endpoint.specs.Journals.{setting_at, side_at, told_at};
 ghost use Rattle.bridge_model.specs.Answers.{bytes_wait, is_some_piece};
 ghost use Rattle.bridge_model.specs.Sides.{stands};
-ghost use Rattle.pairing_model.specs.Moves.{applying};
+ghost use Rattle.world_model.specs.Moves.{applying};
 ghost use Rattle.world_model.specs.Worlds.{of_a, of_b, pipe};
 ghost use Rattle.move_choice.specs.Choosing.{AreChoices, counted};
 ghost use Rattle.bridge_world.specs.Joined.{settings_of, world_of};

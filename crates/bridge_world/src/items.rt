@@ -1,7 +1,7 @@
 //! The number of each item of an enum has 32 bits: laws, whose functions do nothing but walk through a registry.
 ghost use Rattle.std.specs.Prelude.{map};
 ghost use Rattle.std.specs.List.{AllByRecursion};
-ghost use Rattle.bridge_spelling.specs.Texts.{AreSmallItems, HasSmallItems, HasSmallNumber};
+ghost use Rattle.bridge_laws.specs.Texts.{AreSmallItems, HasSmallItems, HasSmallNumber};
 ghost use Rattle.uno_entities.specs.Entities.{body_of, entity_of, item_of};
 ghost use Rattle.uno_model.specs.Defaults.{items_in};
 

@@ -1,11 +1,11 @@
 //! The law of the moves of two joined ends: the function has an empty body, and its clause is the law.
 ghost use Rattle.std.specs.List.{AllByRecursion};
 ghost use Rattle.std.specs.Prelude.{◌≤◌, ℕ};
-ghost use Rattle.joining_laws.specs.Standing.{AllStandAt};
-ghost use Rattle.pairing_laws.specs.Doing.{CanBeDone};
-ghost use Rattle.pairing_model.specs.Moves.{moves};
-ghost use Rattle.pairing_model.specs.Pairs.{Pairing};
-ghost use Rattle.world_histories.specs.Ready.{AreReady, BothGiveWell};
+ghost use Rattle.world_laws.specs.Standing.{AllStandAt};
+ghost use Rattle.world_laws.specs.Doing.{CanBeDone};
+ghost use Rattle.world_model.specs.Moves.{moves};
+ghost use Rattle.world_model.specs.Pairs.{Pairing};
+ghost use Rattle.world_laws.specs.Ready.{AreReady, BothGiveWell};
 ghost use Rattle.world_model.specs.Worlds.{Runs, Settings, entries_of, of_a, of_b};
 ghost use Rattle.world_model.specs.declared.side.Side.TheVariants.{A, B};
 

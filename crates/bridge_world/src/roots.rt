@@ -3,7 +3,7 @@ ghost use Rattle.std.specs.Prelude.{◌≡◌, ◌||◌, is_some, length, map, o
 ghost use Rattle.behaviour.specs.Roots.{run_of};
 ghost use Rattle.bridge_endpoint.specs.Journals.{setting_at, side_at};
 ghost use Rattle.bridge_model.specs.RootRuns.{root_moves, statement_at};
-ghost use Rattle.pairing_model.specs.Moves.{does_move, steps, stepping};
+ghost use Rattle.world_model.specs.Moves.{does_move, steps, stepping};
 ghost use Rattle.plan_model.specs.Roots.{next_loose, statements_in};
 ghost use Rattle.plan_types.specs.Statements.{root_statement_of};
 ghost use Rattle.move_choice.specs.Choosing.{counted};

@@ -1,6 +1,6 @@
 //! All moves, one after the other, in an order that a number draws.
 ghost use Rattle.std.specs.Prelude.{◌≡◌, ◌≤◌, ◌<◌, [], true, false, Err, OnOk};
-ghost use Rattle.pairing_model.specs.Pairs.{behind, generator_of, has_full, place_of};
+ghost use Rattle.world_model.specs.Pairs.{behind, generator_of, has_full, place_of};
 ghost use Rattle.bridge_world.specs.Joined.{world_of};
 ghost use Rattle.bridge_world.specs.Playing.{PlaysSo, StandForHistory, moves_of, progress_of};
 

@@ -5,10 +5,10 @@ ghost use Rattle.bridge_endpoint.specs.Entering.{draining, fed_by, out_of_memory
 ghost use Rattle.bridge_endpoint.specs.Journals.{setting_at, side_at, stamped, told_at};
 ghost use Rattle.bridge_model.specs.Answers.{drained_next, feed_answer, next_cut, no_room};
 ghost use Rattle.bridge_model.specs.Steps.{is_no_memory};
-ghost use Rattle.bridge_roots.specs.Standing.{IsHistory};
-ghost use Rattle.pairing_model.specs.Pairs.{has_full, is_full};
+ghost use Rattle.bridge_core.specs.Standing.{IsHistory};
+ghost use Rattle.world_model.specs.Pairs.{has_full, is_full};
 ghost use Rattle.urp_model.specs.declared.reason.Reason.{Reason};
-ghost use Rattle.world_histories.specs.Ready.{AreReady};
+ghost use Rattle.world_laws.specs.Ready.{AreReady};
 ghost use Rattle.bridge_world.specs.Joined.{Grows, end_at, joined, on_the_way, settings_of, taken_with, world_of};
 
 use crate::items::every_item_is_small;

@@ -2,7 +2,7 @@
 use Rattle.std.proofs.Common.{◌≡◌, ℕ, List, Result, Err, ap}
 use Rattle.behaviour_text.specs.declared.error.PlanError.{PlanError}
 use Rattle.plan_typing.specs.Effects.{NamesDiffer}
-use Rattle.bridge_spelling.proofs.Naming.{rules_tell_names}
+use Rattle.bridge_laws.proofs.Naming.{rules_tell_names}
 use Rattle.registry_reading.specs.Verdicts.{IsAccepted}
 use Rattle.uno_model.specs.Entities.{Entity}
 

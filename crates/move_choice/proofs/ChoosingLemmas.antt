@@ -2,8 +2,8 @@
 use Rattle.std.proofs.Common.{◌≡◌, refl, sym, subst, ℕ, zero, suc, ◌+◌, ◌-◌, ◌<◌, ◌≤◌, ◌^◌, Bool, true, false, List, [], ◌∷◌, ◌++◌, length, map, slice_get, Option, None, Some, is_some, arith}
 use Rattle.bridge_laws.specs.Counting.{one_if}
 use Rattle.plan_model.specs.Frames.{Stack, nth_tid}
-use Rattle.pairing_model.specs.Moves as plain
-use Rattle.pairing_model.specs.Moves.{Deed, applies, reaps, drains, carries, closes, applying, stepping, reaping, may_carry, may_close, deeds}
+use Rattle.world_model.specs.Moves as plain
+use Rattle.world_model.specs.Moves.{Deed, applies, reaps, drains, carries, closes, applying, stepping, reaping, may_carry, may_close, deeds}
 use Rattle.plan_model.specs.Roots.{Run}
 use Rattle.bridge_model.specs.Answers.{bytes_wait, may_reap, ready_at}
 use Rattle.bridge_model.specs.Histories.{Told}

@@ -4,8 +4,8 @@ use Rattle.plan_model.specs.Roots.{Run}
 use Rattle.bridge_model.specs.Answers.{bytes_wait, may_reap, ready_at}
 use Rattle.bridge_model.specs.Histories.{Told}
 use Rattle.bridge_model.specs.Settings.{Setting}
-use Rattle.pairing_model.specs.Moves as plain
-use Rattle.pairing_model.specs.Moves.{applying, applies, stepping, reaps, drains, carries, closes, may_carry, may_close}
+use Rattle.world_model.specs.Moves as plain
+use Rattle.world_model.specs.Moves.{applying, applies, stepping, reaps, drains, carries, closes, may_carry, may_close}
 use Rattle.move_choice.specs.declared.choices.Choices.{Choices}
 use Rattle.move_choice.specs.declared.choices.Deed.{Deed}
 use Rattle.move_choice.specs.declared.choices.Deed.TheVariants as deed

@@ -3,8 +3,8 @@ ghost use Rattle.std.specs.Prelude.{◌≡◌, ◌-◌, ◌<◌, ◌^◌, List, 
 ghost use Rattle.bridge_laws.specs.Counting.{one_if};
 ghost use Rattle.bridge_model.specs.Histories.{Told};
 ghost use Rattle.bridge_model.specs.Settings.{Setting};
-ghost use Rattle.pairing_model.specs.Moves as plain;
-ghost use Rattle.pairing_model.specs.Moves.{deeds};
+ghost use Rattle.world_model.specs.Moves as plain;
+ghost use Rattle.world_model.specs.Moves.{deeds};
 ghost use Rattle.plan_model.specs.Roots.{Run};
 ghost use Rattle.move_choice.specs.Choosing.{AreChoices, IsDeed, counted};
 

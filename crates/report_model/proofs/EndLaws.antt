@@ -3,18 +3,18 @@ use Rattle.std.proofs.Common.{◌≡◌, sym, ap, subst, ◌∙◌, ℕ, ◌⊎�
 use Rattle.std.proofs.lemmas.Bool.{true≢false}
 use Rattle.std.specs.List.{AllByRecursion}
 use Rattle.bridge_model.specs.Entries.{Entry}
-use Rattle.bridge_spelling.proofs.GotSpelling.{all_front}
-use Rattle.bridge_spelling.specs.Giving.{IsGivenByRoot}
-use Rattle.bridge_typing.specs.Giving.{MayGive}
-use Rattle.pairing_laws.proofs.GivingLaws.{ends_finished_a, ends_finished_b, pair_reached, reached_give}
-use Rattle.pairing_laws.proofs.PlayLaws.{pair_alone, pair_played}
-use Rattle.pairing_laws.proofs.StandLaws.{lines_a, lines_b}
-use Rattle.pairing_model.specs.Moves.{moves}
-use Rattle.pairing_model.specs.Pairs.{Pairing, has_full, IsPaired}
+use Rattle.bridge_laws.proofs.GotSpelling.{all_front}
+use Rattle.bridge_laws.specs.SpellableGiving.{IsGivenByRoot}
+use Rattle.bridge_laws.specs.Giving.{MayGive}
+use Rattle.world_laws.proofs.GivingLaws.{ends_finished_a, ends_finished_b, pair_reached, reached_give}
+use Rattle.world_laws.proofs.PlayLaws.{pair_alone, pair_played}
+use Rattle.world_laws.proofs.StandLaws.{lines_a, lines_b}
+use Rattle.world_model.specs.Moves.{moves}
+use Rattle.world_model.specs.Pairs.{Pairing, has_full, IsPaired}
 use Rattle.report_model.specs.Drills.{summary}
 use Rattle.report_model.specs.Pairs.{AlwaysKeep, EndsWell, IsPairReport, IsSummary, ReachesLimit, counts_a, counts_b, pair_report}
-use Rattle.world_histories.proofs.KeptLaws.{both_keep}
-use Rattle.world_histories.specs.Ready.{AreReady, BothGiveWell}
+use Rattle.world_laws.proofs.KeptLaws.{both_keep}
+use Rattle.world_laws.specs.Ready.{AreReady, BothGiveWell}
 use Rattle.world_laws.proofs.RunLaws.{entries_both}
 use Rattle.world_model.specs.Worlds.{Settings, of_a, of_b, Event, entries_of}
 use Rattle.world_model.specs.declared.side.Side.{Side}

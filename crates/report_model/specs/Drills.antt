@@ -5,7 +5,7 @@ use Rattle.std.specs.List.{flat_map, count_by, range_with_len, starts_with}
 use Rattle.uno_model.specs.Values.{Plain, long}
 use Rattle.plan_model.specs.Frames.{Variable}
 use Rattle.bridge_model.specs.Answers.{Counts}
-use Rattle.pairing_model.specs.Moves.{Progress}
+use Rattle.world_model.specs.Moves.{Progress}
 use Rattle.report_model.specs.Reports.{counts_text}
 
 -- ---- plans

@@ -7,12 +7,12 @@ use Rattle.bridge_model.specs.Entries.{Entry}
 use Rattle.bridge_model.specs.RootRuns.{finished, root_moves}
 use Rattle.bridge_model.specs.Settings.{Setting}
 use Rattle.bridge_model.specs.Sides.{Side}
-use Rattle.line_laws.specs.Lines.{Lines}
-use Rattle.pairing_model.specs.Moves.{moves}
-use Rattle.pairing_model.specs.Pairs.{Pairing, IsPaired, has_full}
+use Rattle.bridge_laws.specs.Lines.{Lines}
+use Rattle.world_model.specs.Moves.{moves}
+use Rattle.world_model.specs.Pairs.{Pairing, IsPaired, has_full}
 use Rattle.report_model.specs.Drills.{summary}
 use Rattle.report_model.specs.Reports.{both_reports}
-use Rattle.world_histories.specs.Kept.{BothKeep}
+use Rattle.world_laws.specs.Kept.{BothKeep}
 use Rattle.world_model.specs.Worlds.{Settings, of_a, of_b, World, Event, Runs, entries_of}
 use Rattle.world_model.specs.declared.side.Side.TheVariants.{A, B}
 

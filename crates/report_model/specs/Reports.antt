@@ -4,7 +4,7 @@ use Rattle.std.specs.Fmt.{decimal}
 use Rattle.std.specs.List.{flat_map}
 use Rattle.plan_model.specs.Roots.{Run}
 use Rattle.bridge_model.specs.Answers.{Counts}
-use Rattle.pairing_model.specs.Moves.{Progress}
+use Rattle.world_model.specs.Moves.{Progress}
 
 -- the lines of a root, each behind the name of its end
 abbrev pub line_text : (end line : List ℕ) → List ℕ

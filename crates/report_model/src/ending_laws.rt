@@ -1,8 +1,8 @@
 //! Laws of what a pair comes to: each function has an empty body, and its clause is the law.
 ghost use Rattle.std.specs.Prelude.{◌≡◌, ℕ, true, false, List, Option};
-ghost use Rattle.pairing_model.specs.Pairs.{Pairing, has_full, IsPaired};
+ghost use Rattle.world_model.specs.Pairs.{Pairing, has_full, IsPaired};
 ghost use Rattle.report_model.specs.Pairs.{EndsWell, IsPairReport, IsSummary, ReachesLimit};
-ghost use Rattle.world_histories.specs.Ready.{AreReady};
+ghost use Rattle.world_laws.specs.Ready.{AreReady};
 ghost use Rattle.world_model.specs.Worlds.{Settings};
 
 /// Where two ends are ready and no end reaches a limit, a pair that comes to its end ends well: of its settings alone.

@@ -2,7 +2,7 @@
 use Rattle.std.proofs.Common.{◌≡◌, ℕ, ℤ, List, ◌++◌, codes, append_assoc, ap, ◌∙◌}
 use Rattle.std.specs.Fmt.{decimal, signed_decimal}
 use Rattle.bridge_model.specs.Answers.{Counts}
-use Rattle.pairing_model.specs.Moves.{Progress}
+use Rattle.world_model.specs.Moves.{Progress}
 use Rattle.report_model.specs.Drills.{how_many_say, sum_in, summary}
 use Rattle.report_model.specs.Reports.{counts_text}
 

@@ -1,7 +1,7 @@
 -- A run of `drill` ends as the summary of its two ends does, and the writing of it.
 use Rattle.std.proofs.Common.{true, ◌≡◌, ◌≢◌, ℕ, ◌⊎◌, List, Option, Some, refl, sym, subst, inl, inr}
 use Rattle.uno_base.specs.Causes.{Rose}
-use Rattle.world_histories.specs.Ready.{AreReady}
+use Rattle.world_laws.specs.Ready.{AreReady}
 use Rattle.world_model.specs.Worlds.{Settings}
 use Rattle.uno_run.specs.Drill.{AreOfDrill, Drilled, DrillKeeps, DrillLimited, DrillRun, EndsDrilling}
 use Rattle.uno_run.specs.Joining.{NotDrilled, StopsSo}

@@ -4,7 +4,7 @@ use Rattle.bridge_endpoint.specs.Journals.{Endpoint, opening_endpoint, setting_a
 use Rattle.bridge_setting.specs.Settings.{setting_of}
 use Rattle.bridge_setting.specs.declared.setting.Setting.{Setting as Configured}
 use Rattle.bridge_world.specs.Joined.{Joined, settings_of, share_of}
-use Rattle.world_histories.specs.Ready.{AreReady}
+use Rattle.world_laws.specs.Ready.{AreReady}
 use Rattle.world_model.specs.Worlds.{of_a, of_b, setting_with}
 use Rattle.uno_run.specs.Joining.{IsFresh}
 

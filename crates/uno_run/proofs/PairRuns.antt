@@ -4,7 +4,7 @@ use Rattle.uno_base.specs.Causes.{Rose}
 use Rattle.uno_io.specs.Files.{Stored}
 use Rattle.command_words.specs.Names.{Text}
 use Rattle.world_model.specs.Worlds.{Settings}
-use Rattle.world_histories.specs.Ready.{AreReady}
+use Rattle.world_laws.specs.Ready.{AreReady}
 use Rattle.uno_run.specs.Joining.{NotJoined, NotReported, StopsSo}
 use Rattle.uno_run.specs.Lines.{has_own_line}
 use Rattle.uno_run.specs.Pair.{AreOfFiles, EndsPairing, FilesKeep, FilesLimited, FilesReported, PairRun}

@@ -1,12 +1,12 @@
 -- What two joined ends keep is their promise.
 use Rattle.std.proofs.Common.{◌≤◌, ℕ, Bool, true, false, List, Option, sym, subst, arith}
 use Rattle.bridge_laws.specs.Counting.{one_if}
-use Rattle.pairing_laws.proofs.GivingLaws.{pair_reached}
-use Rattle.pairing_laws.proofs.OutcomeLaws.{tell_a, tell_b}
-use Rattle.pairing_model.specs.Pairs.{Pairing, IsPaired}
+use Rattle.world_laws.proofs.GivingLaws.{pair_reached}
+use Rattle.world_laws.proofs.OutcomeLaws.{tell_a, tell_b}
+use Rattle.world_model.specs.Pairs.{Pairing, IsPaired}
 use Rattle.report_model.specs.Pairs.{AlwaysKeep}
-use Rattle.world_histories.specs.Kept.{BothKeep}
-use Rattle.world_histories.specs.Ready.{AreReady}
+use Rattle.world_laws.specs.Kept.{BothKeep}
+use Rattle.world_laws.specs.Ready.{AreReady}
 use Rattle.world_model.specs.Worlds.{Settings, World, Event}
 use Rattle.world_model.specs.declared.side.Side.{Side}
 use Rattle.world_model.specs.declared.side.Side.TheVariants.{A, B}

@@ -13,14 +13,14 @@ use Rattle.bridge_world.specs.Joined.{Joined, settings_of, share_of, unmarked, w
 use Rattle.bridge_world.specs.Playing.{PlaysSo, StandForHistory, pairing_of}
 use Rattle.bridge_world.specs.declared.error.RunError.{RunError}
 use Rattle.bridge_world.specs.declared.error.RunError.TheVariants as why
-use Rattle.joining_laws.proofs.StandingLaws.{runs_begin}
-use Rattle.joining_laws.specs.Standing.{AllStandAt}
-use Rattle.pairing_laws.proofs.GivingLaws.{pair_reached}
-use Rattle.pairing_laws.proofs.PlayLaws.{pair_played}
-use Rattle.pairing_laws.proofs.ReachedLaws.{reached_stands}
-use Rattle.pairing_laws.proofs.StandLaws.{AreStanding}
-use Rattle.pairing_model.specs.Moves.{Progress}
-use Rattle.pairing_model.specs.Pairs.{Pairing, IsPaired, begins_pair, generator_of, has_full, plays}
+use Rattle.world_laws.proofs.StandingLaws.{runs_begin}
+use Rattle.world_laws.specs.Standing.{AllStandAt}
+use Rattle.world_laws.proofs.GivingLaws.{pair_reached}
+use Rattle.world_laws.proofs.PlayLaws.{pair_played}
+use Rattle.world_laws.proofs.ReachedLaws.{reached_stands}
+use Rattle.world_laws.proofs.StandLaws.{AreStanding}
+use Rattle.world_model.specs.Moves.{Progress}
+use Rattle.world_model.specs.Pairs.{Pairing, IsPaired, begins_pair, generator_of, has_full, plays}
 use Rattle.plan_model.specs.Roots.{Run}
 use Rattle.rand_pcg.specs.Lcg.{Lcg}
 use Rattle.report_model.proofs.EndLaws.{ends_well, reaches_limit}

@@ -1,10 +1,10 @@
 -- The promise of `drill`: two ends of texts of its own, and the summary of what they come to.
 use Rattle.std.specs.Prelude.{◌≡◌, ◌≢◌, ◌⊎◌, ℕ, List, Option, Some}
 use Rattle.uno_base.specs.Causes.{Rose}
-use Rattle.pairing_model.specs.Pairs.{Pairing, IsPaired}
+use Rattle.world_model.specs.Pairs.{Pairing, IsPaired}
 use Rattle.report_model.specs.Drills.{calling_plan, node_plan}
 use Rattle.report_model.specs.Pairs.{IsSummary, ReachesLimit}
-use Rattle.world_histories.specs.Ready.{AreReady}
+use Rattle.world_laws.specs.Ready.{AreReady}
 use Rattle.world_model.specs.Worlds.{Settings}
 use Rattle.uno_run.specs.Own.{own_types}
 use Rattle.uno_run.specs.Pair.{AreOf, Wrote, WroteSome}

@@ -15,12 +15,12 @@ use Rattle.bridge_world.specs.Joined.{Joined, end_at, settings_of}
 use Rattle.bridge_world.specs.declared.error.RunError.{RunError}
 use Rattle.bridge_world.specs.declared.error.RunError.TheVariants as why
 use Rattle.command_words.specs.Names.{Text}
-use Rattle.pairing_model.specs.Moves.{Progress}
-use Rattle.pairing_model.specs.Pairs.{Pairing}
+use Rattle.world_model.specs.Moves.{Progress}
+use Rattle.world_model.specs.Pairs.{Pairing}
 use Rattle.plan_model.specs.Keeps.{IsTextOf, IsVerdict}
 use Rattle.plan_model.specs.declared.line_reason.LineReason.{LineReason}
 use Rattle.report_model.specs.Pairs.{EndsWell, ReachesLimit}
-use Rattle.world_histories.specs.Ready.{AreReady}
+use Rattle.world_laws.specs.Ready.{AreReady}
 use Rattle.world_model.specs.Worlds.{Settings}
 use Rattle.uno_run.specs.Drill.{DrillLimited}
 use Rattle.uno_run.specs.Idl.{Refused, Tells}

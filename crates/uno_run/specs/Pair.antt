@@ -8,9 +8,9 @@ use Rattle.uno_model.specs.Entities.{Entity}
 use Rattle.plan_model.specs.Keeps.{IsTextOf}
 use Rattle.plan_model.specs.Plans.{Plan}
 use Rattle.plan_model.specs.declared.line_reason.LineReason.{LineReason}
-use Rattle.pairing_model.specs.Pairs.{Pairing, IsPaired}
+use Rattle.world_model.specs.Pairs.{Pairing, IsPaired}
 use Rattle.report_model.specs.Pairs.{IsPairReport, ReachesLimit}
-use Rattle.world_histories.specs.Ready.{AreReady}
+use Rattle.world_laws.specs.Ready.{AreReady}
 use Rattle.world_model.specs.Worlds.{Settings}
 use Rattle.command_words.specs.Names.{Text}
 use Rattle.uno_run.specs.Answer.{LacksPlan, RefusedPlan}

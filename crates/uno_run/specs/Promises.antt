@@ -9,17 +9,17 @@ use Rattle.table_model.specs.Pair.{Pair, is_pair}
 use Rattle.bridge_model.specs.References.{is_held}
 use Rattle.bridge_model.specs.Settings.{is_own}
 use Rattle.bridge_model.specs.Sides.{Outcome, answered, stands, state_of}
-use Rattle.bridge_typing.specs.Telling.{referred}
-use Rattle.crossing_laws.specs.Ends.{near, far, near_of, far_of}
+use Rattle.bridge_laws.specs.Telling.{referred}
+use Rattle.world_laws.specs.Ends.{near, far, near_of, far_of}
 use Rattle.world_model.specs.Flights.{flight}
 use Rattle.world_model.specs.Worlds.{Settings, World, Event, Runs}
 use Rattle.world_model.specs.declared.side.Side.{Side}
 use Rattle.world_model.specs.declared.side.Side.TheVariants.{A, B}
-use Rattle.world_histories.specs.Homes.{ComesAsItself}
-use Rattle.world_histories.specs.Kept.{HasObject, IsAccounted}
-use Rattle.world_histories.specs.Proxies.{proxy_pairs}
-use Rattle.pairing_laws.specs.Outcomes.{TellsItsOutcomes}
-use Rattle.pairing_model.specs.Pairs.{Pairing}
+use Rattle.world_laws.specs.Homes.{ComesAsItself}
+use Rattle.world_laws.specs.Kept.{HasObject, IsAccounted}
+use Rattle.world_laws.specs.Proxies.{proxy_pairs}
+use Rattle.world_laws.specs.Outcomes.{TellsItsOutcomes}
+use Rattle.world_model.specs.Pairs.{Pairing}
 
 -- each identity of this end that comes home, as the target or in the values of the first message on its way here, names the object that was sent out
 abbrev pub ComesHome : Settings → Side → List Event → World → Type 0

@@ -22,8 +22,8 @@ use Rattle.message_model.specs.WritingMessages.{Spoken, Heading, call_heading, r
 use Rattle.message_model.proofs.MessageWeightLaws.{message_bounded}
 use Rattle.message_model.proofs.SaidLaws.{spell_more, spoken_more, all_left}
 use Rattle.message_model.proofs.StreamLaws.{read_back}
-use Rattle.urp_wire_write.specs.Written.{IsWritable, AreWritable}
-use Rattle.urp_wire_write.proofs.Lengths.{all_writable, light_writable}
+use Rattle.urp_wire.specs.Written.{IsWritable, AreWritable}
+use Rattle.urp_wire.proofs.Lengths.{all_writable, light_writable}
 use Rattle.urp_message.specs.Speaking.{HeadingWritable, AnswerWritable, MessageWritable}
 
 -- a header that weighs little

@@ -13,7 +13,7 @@ use Rattle.urp_message.specs.declared.message.Answer.TheVariants.{Returned, Rais
 use Rattle.urp_message.specs.declared.message.Message.{Message}
 use Rattle.urp_message.specs.declared.message.Message.TheVariants.{Request, Release, Reply}
 use Rattle.urp_wire.specs.Gives.{tables_of}
-use Rattle.urp_wire_write.specs.Written.{names_of}
+use Rattle.urp_wire.specs.Written.{names_of}
 
 -- an answer
 abbrev pub answer_of : Answer → plain.Answer

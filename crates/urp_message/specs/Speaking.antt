@@ -5,7 +5,7 @@ use Rattle.message_model.specs.WritingMessages as written
 use Rattle.uno_model.specs.Entities.{Entity}
 use Rattle.uno_model.specs.Kinds.{name_of}
 use Rattle.uno_model.specs.Values.{plains}
-use Rattle.urp_wire_write.specs.Written.{IsWritable, AreWritable}
+use Rattle.urp_wire.specs.Written.{IsWritable, AreWritable}
 use Rattle.urp_message.specs.declared.speaker.heading.Heading.{Heading}
 
 -- what it remembers of a direction, and whether memory ran out while it wrote

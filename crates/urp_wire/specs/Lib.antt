@@ -1,3 +1,4 @@
 pub mod Gives
 pub mod Levels
 pub mod MeantTexts
+pub mod Written

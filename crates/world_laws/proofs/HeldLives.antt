@@ -23,8 +23,8 @@ use Rattle.bridge_laws.proofs.NamingLaws.{message_refs}
 use Rattle.bridge_laws.proofs.PaidLaws.{all_paid}
 use Rattle.bridge_laws.proofs.LivingLaws.{all_live}
 use Rattle.bridge_laws.proofs.TellingLaws.{all_allowed}
-use Rattle.bridge_typing.specs.Giving.{RootsGive}
-use Rattle.bridge_typing.proofs.GivenLaws.{sent_are}
+use Rattle.bridge_laws.specs.Giving.{RootsGive}
+use Rattle.bridge_laws.proofs.TypedGivenLaws.{sent_are}
 use Rattle.world_model.specs.Flights.{flight}
 use Rattle.world_model.specs.Meetings.{Meets}
 use Rattle.world_model.specs.Offers.{NamesRight, IsHome, ComesHome}

@@ -1,6 +1,6 @@
 -- Every history on bytes of two ends that are set up is a run of messages, and no end is ever broken by the other.
 use Rattle.std.proofs.Common.{◌≡◌, sym, ap, ◌∙◌, subst, List, ◌++◌}
-use Rattle.bridge_typing.specs.Giving.{RootsGive}
+use Rattle.bridge_laws.specs.Giving.{RootsGive}
 use Rattle.world_model.specs.Meetings.{Meets}
 use Rattle.world_model.specs.Offers.{BothCarried}
 use Rattle.world_model.specs.Readings.{MayAllArrive}

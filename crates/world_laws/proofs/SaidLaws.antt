@@ -7,11 +7,11 @@ use Rattle.message_model.specs.Said.{AreLight}
 use Rattle.bridge_model.specs.Entries.{Entry, asked}
 use Rattle.bridge_model.specs.Settings.{Setting}
 use Rattle.bridge_laws.specs.Standing.{asks_by_name, asks_names}
-use Rattle.bridge_typing.specs.Giving.{MayGive, RootsGive}
-use Rattle.bridge_typing.specs.Telling.{AreRightlySaid}
-use Rattle.bridge_typing.proofs.Given.{IsGiven}
-use Rattle.bridge_typing.proofs.GivenLaws.{is_given}
-use Rattle.bridge_typing.proofs.StepFits.{Stays, all_stays}
+use Rattle.bridge_laws.specs.Giving.{MayGive, RootsGive}
+use Rattle.bridge_laws.specs.Telling.{AreRightlySaid}
+use Rattle.bridge_laws.proofs.TypedGiven.{IsGiven}
+use Rattle.bridge_laws.proofs.TypedGivenLaws.{is_given}
+use Rattle.bridge_laws.proofs.StepFits.{Stays, all_stays}
 use Rattle.world_model.specs.Meetings.{Meets}
 use Rattle.world_model.specs.Setups.{AreSetUp, BothGive}
 use Rattle.world_model.specs.Worlds.{Settings, of_a, of_b, World, Event, entries_of}

@@ -16,8 +16,8 @@ use Rattle.bridge_laws.proofs.PaidLaws.{all_paid}
 use Rattle.bridge_laws.proofs.StandingHistoryLaws.{all_stand}
 use Rattle.bridge_laws.proofs.Sums.{total_append}
 use Rattle.bridge_laws.proofs.TellingLaws.{all_allowed}
-use Rattle.bridge_typing.specs.Giving.{RootsGive}
-use Rattle.bridge_typing.specs.Telling.{IsRightlySaid, AreRightlySaid}
+use Rattle.bridge_laws.specs.Giving.{RootsGive}
+use Rattle.bridge_laws.specs.Telling.{IsRightlySaid, AreRightlySaid}
 use Rattle.world_model.specs.Flights.{flight, Follows, IsNext}
 use Rattle.world_model.specs.Meetings.{Moves, Meets, begins, a_moves, b_moves}
 use Rattle.world_model.specs.Setups.{AreSetUp, BothGive}

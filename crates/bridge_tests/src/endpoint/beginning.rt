@@ -4,13 +4,13 @@ ghost use Rattle.std.specs.Prelude.{◌≡◌, ℕ, true, map};
 ghost use Rattle.bridge_endpoint.specs.Journals.{setting_at, side_at};
 ghost use Rattle.bridge_model.specs.Entries as entry;
 ghost use Rattle.bridge_model.specs.Steps.{is_root, may_begin};
-ghost use Rattle.bridge_typing.specs.Giving.{MayGive};
+ghost use Rattle.bridge_laws.specs.Giving.{MayGive};
 ghost use Rattle.uno_values.specs.Values.{plain_of};
 
 use crate::shown::{Shown, cut, number_in};
 use crate::values::values_of;
+use bridge_core::{may_ask, may_call, may_make, may_query};
 use bridge_endpoint::{Begun, Endpoint, Made, RootState};
-use bridge_roots::{may_ask, may_call, may_make, may_query};
 use std::alloc::Global;
 use std::process::Abort;
 use uno_types::{Name, Text};

@@ -1,7 +1,7 @@
 //! The calls of an end as words, as `feed 00000000 00000001`, `call 1 C;1 demo.XNode 3 5` or `drop 1 C;1 demo.XNode`. `run` carries out all that is ready, and tells how
 //! many statements it were; `late T dispose` picks the job of the thread `T`, ends the bridge, and then carries out the statement of that job. What answers nothing is
 //! told as `done`, and none as `-`. A call whose condition does not hold fails the test, and so does one that finds no memory otherwise than by its answer.
-ghost use Rattle.bridge_roots.specs.Standing.{IsRunAt};
+ghost use Rattle.bridge_core.specs.Standing.{IsRunAt};
 ghost use Rattle.plan_model.specs.Roots.{Run};
 
 use crate::endpoint::beginning::{ask, call, make, query};

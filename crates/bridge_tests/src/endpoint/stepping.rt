@@ -1,6 +1,6 @@
 //! Roots of a plan, step by step, and the lines that their statements give.
 ghost use Rattle.std.specs.Prelude.{◌≡◌, [], true};
-ghost use Rattle.bridge_roots.specs.Standing.{IsRunAt};
+ghost use Rattle.bridge_core.specs.Standing.{IsRunAt};
 ghost use Rattle.behaviour.specs.Roots.{run_of};
 ghost use Rattle.plan_model.specs.Plans.{manager_name};
 ghost use Rattle.plan_model.specs.Roots.{opening_run};
@@ -11,8 +11,8 @@ use crate::endpoint::calls::run;
 use crate::endpoint::ends::end_of;
 use crate::shown::{Shown, see};
 use behaviour::RootRun;
+use bridge_core::{RootMoved, root_step};
 use bridge_endpoint::{Endpoint, Fed};
-use bridge_roots::{RootMoved, root_step};
 use std::alloc::Global;
 use std::process::Abort;
 use uno_types::Text;

@@ -21,7 +21,7 @@ use uno_types::{Name, Registry};
 const RELEASE: u16 = 2;
 
 /// The body of a message, behind the bytes that are there.
-#[tactic(auto, unfolding(message_model::specs::WritingMessages::message_spelling, message_model::specs::WritingMessages::after_message, urp_wire_write::specs::Written::AreWritable))]
+#[tactic(auto, unfolding(message_model::specs::WritingMessages::message_spelling, message_model::specs::WritingMessages::after_message, urp_wire::specs::Written::AreWritable))]
 pub(crate) fn put_message(
     alloc: Global,
     registry: &Registry,

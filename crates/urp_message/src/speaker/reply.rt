@@ -4,7 +4,7 @@ ghost use Rattle.message_model.specs.Sayable.{AnswerSpellable};
 ghost use Rattle.message_model.specs.WritingMessages.{is_raised, reply_flags, reply_spelling, after_reply, answer_spelling, after_answer};
 ghost use Rattle.urp_message.specs.Messages.{answer_of, spoken_of};
 ghost use Rattle.urp_message.specs.Speaking.{AnswerWritable};
-ghost use Rattle.urp_wire_write.specs.Written.{names_of};
+ghost use Rattle.urp_wire.specs.Written.{names_of};
 
 use super::heading::is_new_tid;
 use super::target::put_thread;

@@ -5,7 +5,7 @@ ghost use Rattle.message_model.specs.WritingMessages.{request_spelling, after_re
 ghost use Rattle.uno_values.specs.Values.{plain_of, plains_of};
 ghost use Rattle.urp_message.specs.Messages.{spoken_of};
 ghost use Rattle.urp_message.specs.Speaking.{heading_of, HeadingWritable};
-ghost use Rattle.urp_wire_write.specs.Written.{AreWritable};
+ghost use Rattle.urp_wire.specs.Written.{AreWritable};
 ghost use Rattle.uno_model.specs.Spellable.{AreSpellable};
 
 use super::heading::{Heading, put_opening};

@@ -1,7 +1,7 @@
 use Rattle.std.proofs.Common.{◌≡◌, ◌∙◌, refl, sym, subst, ◌<◌, length, map, arith}
 use Rattle.behaviour.specs.Roots.{run_of}
 use Rattle.bridge_endpoint.specs.Journals.{Endpoint, setting_at, side_at}
-use Rattle.bridge_roots.specs.Standing.{IsRunAt}
+use Rattle.bridge_core.specs.Standing.{IsRunAt}
 use Rattle.answering.specs.Running.{AreRoots}
 use Rattle.answering.proofs.FirstLaws.{end_there, moves_there, none_there, runs_there}
 use Rattle.answering.proofs.RowLaws.{none_first, root_at, set_long}

@@ -1,6 +1,6 @@
 use Rattle.std.specs.List.{AllByRecursion}
 use Rattle.std.specs.Prelude.{drop, map}
-use Rattle.bridge_spelling.specs.Texts.{HasSmallItems}
+use Rattle.bridge_laws.specs.Texts.{HasSmallItems}
 use Rattle.uno_entities.specs.Entities.{entity_of}
 use Rattle.bridge_world.proofs.items.entities_are_small.Given as goal
 

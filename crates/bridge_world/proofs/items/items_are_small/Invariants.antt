@@ -1,6 +1,6 @@
 use Rattle.std.specs.List.{AllByRecursion}
 use Rattle.std.specs.Prelude.{drop, map}
-use Rattle.bridge_spelling.specs.Texts.{HasSmallNumber}
+use Rattle.bridge_laws.specs.Texts.{HasSmallNumber}
 use Rattle.uno_entities.specs.Entities.{item_of}
 use Rattle.bridge_world.proofs.items.items_are_small.Given as goal
 

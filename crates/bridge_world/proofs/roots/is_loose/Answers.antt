@@ -1,6 +1,6 @@
 use Rattle.std.proofs.Common.{◌∙◌, List, ap, flat_map, is_some, rules, sym}
 use Rattle.plan_model.specs.Roots.{next_loose}
-use Rattle.bridge_roots.proofs.AskLemmas.{first_loose, nothing_there}
+use Rattle.bridge_core.proofs.AskLemmas.{first_loose, nothing_there}
 use Rattle.uno_model.specs.Values.{refs, refs_in}
 use Rattle.uno_values.specs.Values.{plain_of, plains_of}
 use Rattle.uno_values.specs.declared.value.Value.{Value}

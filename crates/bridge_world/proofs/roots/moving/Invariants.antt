@@ -2,7 +2,7 @@ use Rattle.std.specs.Prelude.{◌≡◌, ◌≤◌, ◌+◌, ◌-◌, ◌^◌, d
 use Rattle.behaviour.specs.Roots.{run_of}
 use Rattle.bridge_endpoint.specs.Journals.{setting_at, side_at}
 use Rattle.move_choice.specs.Choosing.{counted}
-use Rattle.pairing_model.specs.Moves.{stepping}
+use Rattle.world_model.specs.Moves.{stepping}
 use Rattle.bridge_world.proofs.roots.moving.Given as goal
 
 -- those that were counted, with those that are left, are all

@@ -1,7 +1,7 @@
 use Rattle.std.specs.Prelude.{◌≡◌, drop, map, slice_get}
 use Rattle.behaviour.specs.Roots.{run_of}
 use Rattle.bridge_endpoint.specs.Journals.{setting_at, side_at}
-use Rattle.pairing_model.specs.Moves.{stepping}
+use Rattle.world_model.specs.Moves.{stepping}
 use Rattle.bridge_world.proofs.roots.moving_at.Given as goal
 
 abbrev pub invariant-loop-place : goal.invariant-loop-place

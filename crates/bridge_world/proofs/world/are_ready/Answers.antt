@@ -1,5 +1,5 @@
 use Rattle.std.proofs.Common.{subst}
-use Rattle.bridge_spelling.specs.Texts.{AreSmallItems}
+use Rattle.bridge_laws.specs.Texts.{AreSmallItems}
 use Rattle.bridge_world.proofs.Opening.{both_ready}
 use Rattle.bridge_world.proofs.world.are_ready.Goals as goal
 

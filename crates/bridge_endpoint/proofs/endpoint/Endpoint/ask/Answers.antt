@@ -4,7 +4,7 @@ use Rattle.bridge_model.specs.Sides.{stands}
 use Rattle.bridge_model.specs.Steps.{has_entries, may, may_begin}
 use Rattle.bridge_laws.specs.Room.{brought}
 use Rattle.bridge_setting.specs.Settings.{setting_of}
-use Rattle.bridge_typing.specs.Giving.{MayGive}
+use Rattle.bridge_laws.specs.Giving.{MayGive}
 use Rattle.bridge_endpoint.specs.Answering.{begun_told}
 use Rattle.bridge_endpoint.proofs.BeginLemmas.{begins, refused_told}
 use Rattle.bridge_endpoint.proofs.BegunLemmas.{begun_answer}

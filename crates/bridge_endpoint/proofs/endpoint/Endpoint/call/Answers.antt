@@ -8,7 +8,7 @@ use Rattle.bridge_model.specs.Steps.{has_entries, may, may_begin, may_give}
 use Rattle.uno_values.specs.Values.{plain_of}
 use Rattle.bridge_laws.specs.Room.{brought}
 use Rattle.bridge_setting.specs.Settings.{setting_of}
-use Rattle.bridge_typing.specs.Giving.{MayGive}
+use Rattle.bridge_laws.specs.Giving.{MayGive}
 use Rattle.bridge_endpoint.specs.Answering.{begun_told}
 use Rattle.bridge_endpoint.proofs.BeginLemmas.{begins, not_held_told, refused_told}
 use Rattle.bridge_endpoint.proofs.BegunLemmas.{begun_answer}

@@ -1,6 +1,6 @@
 use Rattle.std.proofs.Common.{subst}
 use Rattle.bridge_model.specs.Histories.{Leads}
-use Rattle.bridge_typing.specs.Giving.{RootsGive}
+use Rattle.bridge_laws.specs.Giving.{RootsGive}
 use Rattle.uno_entities.specs.Tag.{IsTag}
 use Rattle.uno_model.specs.BuiltIn.{HasBuiltIn}
 use Rattle.bridge_endpoint.proofs.KeptLaws.{leads_at}

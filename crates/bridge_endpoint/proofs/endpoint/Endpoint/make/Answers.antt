@@ -5,7 +5,7 @@ use Rattle.bridge_model.specs.Sides.{stands}
 use Rattle.bridge_model.specs.Steps.{has_entries, is_root, may}
 use Rattle.bridge_laws.specs.Room.{brought}
 use Rattle.bridge_setting.specs.Settings.{setting_of}
-use Rattle.bridge_typing.specs.Giving.{MayGive}
+use Rattle.bridge_laws.specs.Giving.{MayGive}
 use Rattle.bridge_endpoint.specs.Answering.{made_told}
 use Rattle.bridge_endpoint.specs.Journals.{side_at}
 use Rattle.bridge_endpoint.proofs.BeginLemmas.{made_is, refused_made_told}

@@ -1,4 +1,4 @@
-use Rattle.bridge_roots.proofs.OtherLemmas.{applied_stays}
+use Rattle.bridge_core.proofs.OtherLemmas.{applied_stays}
 use Rattle.bridge_tests.proofs.endpoint.calls.apply.Goals as goal
 
 pub returns : goal.returns

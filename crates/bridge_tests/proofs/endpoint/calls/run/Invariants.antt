@@ -1,5 +1,5 @@
 use Rattle.plan_model.specs.Roots.{Run}
-use Rattle.bridge_roots.specs.Standing.{IsRunAt}
+use Rattle.bridge_core.specs.Standing.{IsRunAt}
 use Rattle.bridge_tests.proofs.endpoint.calls.run.Given as goal
 
 -- each run stands for the journal as it did

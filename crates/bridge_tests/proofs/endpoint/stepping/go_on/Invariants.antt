@@ -1,5 +1,5 @@
 use Rattle.behaviour.specs.Roots.{run_of}
-use Rattle.bridge_roots.specs.Standing.{IsRunAt}
+use Rattle.bridge_core.specs.Standing.{IsRunAt}
 use Rattle.bridge_tests.proofs.endpoint.stepping.go_on.Given as goal
 
 abbrev pub invariant-loop : goal.invariant-loop

@@ -1,5 +1,5 @@
 use Rattle.behaviour.specs.Roots.{run_of}
-use Rattle.bridge_roots.proofs.OtherLemmas.{fed_stays}
+use Rattle.bridge_core.proofs.OtherLemmas.{fed_stays}
 use Rattle.bridge_tests.proofs.endpoint.stepping.hear.Goals as goal
 
 pub go_on-requires : goal.go_on-requires

@@ -1,5 +1,5 @@
 use Rattle.std.proofs.Common.{◌∙◌, sym, subst}
-use Rattle.bridge_roots.specs.Standing.{IsRunAt}
+use Rattle.bridge_core.specs.Standing.{IsRunAt}
 use Rattle.bridge_tests.proofs.Opening.{opens}
 use Rattle.bridge_tests.proofs.endpoint.stepping.is_first.Goals as goal
 

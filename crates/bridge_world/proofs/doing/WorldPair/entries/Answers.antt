@@ -1,5 +1,5 @@
 use Rattle.std.proofs.Common.{◌∙◌, sym, ap, length}
-use Rattle.joining_laws.proofs.MergeLaws.{how_many}
+use Rattle.world_laws.proofs.MergeLaws.{how_many}
 use Rattle.bridge_world.specs.Joined.{Joined, joined}
 use Rattle.bridge_world.proofs.doing.WorldPair.entries.Goals as goal
 

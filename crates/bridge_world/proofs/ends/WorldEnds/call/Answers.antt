@@ -5,7 +5,7 @@ use Rattle.bridge_endpoint.specs.Entering.{begun_by}
 use Rattle.bridge_model.specs.Answers.{begun, no_room_left}
 use Rattle.bridge_model.specs.Entries.{called}
 use Rattle.bridge_model.specs.Steps.{may_begin}
-use Rattle.bridge_typing.specs.Giving.{MayGive}
+use Rattle.bridge_laws.specs.Giving.{MayGive}
 use Rattle.std.specs.List.{AllByRecursion}
 use Rattle.uno_model.specs.Spellable.{IsSpellable}
 use Rattle.uno_values.specs.Values.{plain_of}

@@ -3,7 +3,7 @@ use Rattle.bridge_endpoint.specs.Journals.{IsSetUp, setting_at, told_at}
 use Rattle.bridge_model.specs.Entries.{Entry}
 use Rattle.bridge_model.specs.Histories.{Leads, Told}
 use Rattle.bridge_model.specs.Settings.{Setting}
-use Rattle.bridge_typing.specs.Giving.{RootsGive}
+use Rattle.bridge_laws.specs.Giving.{RootsGive}
 use Rattle.uno_entities.specs.Tag.{IsTag}
 use Rattle.uno_model.specs.BuiltIn.{HasBuiltIn}
 use Rattle.bridge_world.specs.Joined.{end_at}

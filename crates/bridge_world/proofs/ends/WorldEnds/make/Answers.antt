@@ -6,7 +6,7 @@ use Rattle.bridge_model.specs.Answers.{no_room_left}
 use Rattle.bridge_model.specs.Entries.{made}
 use Rattle.bridge_model.specs.Settings.{own_oid}
 use Rattle.bridge_model.specs.Steps.{is_root}
-use Rattle.bridge_typing.specs.Giving.{MayGive}
+use Rattle.bridge_laws.specs.Giving.{MayGive}
 use Rattle.bridge_world.proofs.EndCalls.{calls_a, calls_b, did, is_seen, is_there, marked_a, marked_b, went, world_a, world_b}
 use Rattle.bridge_world.proofs.CallLaws.{goes_made}
 use Rattle.bridge_world.proofs.Unmarked.{unmark_made}

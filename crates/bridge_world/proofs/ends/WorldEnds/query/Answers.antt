@@ -5,7 +5,7 @@ use Rattle.bridge_endpoint.specs.Entering.{begun_by}
 use Rattle.bridge_model.specs.Answers.{begun, no_room_left}
 use Rattle.bridge_model.specs.Entries.{queried}
 use Rattle.bridge_model.specs.Steps.{may_begin}
-use Rattle.bridge_typing.specs.Giving.{MayGive}
+use Rattle.bridge_laws.specs.Giving.{MayGive}
 use Rattle.bridge_world.proofs.EndCalls.{calls_a, calls_b, did, is_seen, is_there, marked_a, marked_b, went, world_a, world_b}
 use Rattle.bridge_world.proofs.CallLaws.{goes_begun}
 use Rattle.bridge_world.proofs.Unmarked.{unmark_begun}

@@ -1,7 +1,7 @@
 use Rattle.std.proofs.Common.{◌≡◌, ◌↔◌, ◌+◌, length}
 use Rattle.behaviour.specs.Roots.{run_of}
 use Rattle.bridge_model.specs.Sides.{state_of}
-use Rattle.bridge_roots.specs.declared.moved.RootMoved.TheVariants as RootMoved
+use Rattle.bridge_core.specs.declared.moved.RootMoved.TheVariants as RootMoved
 use Rattle.bridge_state.specs.Telling.{state_told}
 use Rattle.bridge_state.specs.declared.telling.RootState.TheVariants as RootState
 use Rattle.bridge_world.specs.Joined.{end_at, joined}

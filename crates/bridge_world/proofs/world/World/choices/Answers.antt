@@ -1,7 +1,7 @@
 use Rattle.std.proofs.Common.{sym, subst, map}
 use Rattle.behaviour.specs.Roots.{run_of}
 use Rattle.bridge_endpoint.specs.Journals.{told_at}
-use Rattle.joining_laws.proofs.Histories.{one_history}
+use Rattle.world_laws.proofs.Histories.{one_history}
 use Rattle.move_choice.specs.Choosing.{AreChoices}
 use Rattle.world_model.specs.Worlds.{of_a, of_b}
 use Rattle.bridge_world.specs.Joined.{Joined, joined, settings_of, world_of}

@@ -1,5 +1,5 @@
 use Rattle.std.proofs.Common.{◌≡◌, true, sym, ◌∙◌, subst}
-use Rattle.pairing_model.specs.Pairs.{has_full}
+use Rattle.world_model.specs.Pairs.{has_full}
 use Rattle.bridge_world.specs.Joined.{Joined, world_of}
 use Rattle.bridge_world.proofs.Known.{full_first, full_second}
 use Rattle.bridge_world.proofs.PipingCalls.{both_known}

@@ -1,5 +1,5 @@
 use Rattle.std.proofs.Common.{◌≡◌, ◌∙◌, sym, subst, ℕ, arith}
-use Rattle.pairing_model.specs.Pairs.{place_of}
+use Rattle.world_model.specs.Pairs.{place_of}
 use Rattle.bridge_world.specs.Playing.{moves_of, progress_of}
 use Rattle.bridge_world.proofs.SeededLaws.{all_counted, none_left, played_more, played_none, stopped_full, stopped_there}
 use Rattle.bridge_world.proofs.world.World.run_seeded.Goals as goal

@@ -1,7 +1,7 @@
 use Rattle.std.proofs.Common.{ap, ◌<◌, length, map, arith}
 use Rattle.behaviour.specs.Roots.{run_of}
 use Rattle.bridge_endpoint.specs.Journals.{setting_at}
-use Rattle.bridge_typing.proofs.GivenLaws.{is_given}
+use Rattle.bridge_laws.proofs.TypedGivenLaws.{is_given}
 use Rattle.bridge_world.specs.Joined.{end_at}
 use Rattle.bridge_world.proofs.StepLaws.{has_stepped, listed_there, not_still, root_within, runs_there, stand_behind, stand_left}
 use Rattle.bridge_world.proofs.world.World.step_nth.Goals as goal

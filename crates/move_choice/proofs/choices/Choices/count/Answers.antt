@@ -1,7 +1,7 @@
 use Rattle.std.proofs.Common.{◌≡◌, ◌+◌, ap, length, is_some, arith}
 use Rattle.bridge_laws.specs.Counting.{one_if}
 use Rattle.bridge_model.specs.Answers.{bytes_wait, may_reap}
-use Rattle.pairing_model.specs.Moves.{applying, stepping, may_carry, may_close, deeds}
+use Rattle.world_model.specs.Moves.{applying, stepping, may_carry, may_close, deeds}
 use Rattle.move_choice.specs.Choosing.{counted}
 use Rattle.move_choice.proofs.ChoosingLemmas.{how_many}
 use Rattle.move_choice.proofs.choices.Choices.count.Goals as goal

@@ -1,0 +1,7 @@
+use Rattle.bridge_laws.proofs.TableSpelling.{messages_spellable}
+use Rattle.bridge_laws.proofs.SpellableGivenLaws.{is_given}
+use Rattle.bridge_laws.proofs.StepSpelling.{all_stays}
+use Rattle.bridge_laws.proofs.spelling_laws.what_waits_is_spellable.Goals as goal
+
+pub returns : goal.returns
+returns c g sound items tag keeps es x gives leads = messages_spellable x.side.tables.unsaid (all_stays g (is_given g sound items tag keeps) es x gives leads).side.tables.said

@@ -1,5 +1,0 @@
-use Rattle.bridge_typing.proofs.GivenLaws.{held_are}
-use Rattle.bridge_typing.proofs.fitting_laws.what_is_held_is_supported.Goals as goal
-
-pub returns : goal.returns
-returns c = held_are

@@ -1,5 +1,0 @@
-use Rattle.bridge_typing.proofs.GivenLaws.{sent_are}
-use Rattle.bridge_typing.proofs.fitting_laws.what_was_sent_out_is_supported.Goals as goal
-
-pub returns : goal.returns
-returns c = sent_are

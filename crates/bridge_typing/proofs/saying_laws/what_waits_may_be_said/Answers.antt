@@ -1,5 +1,0 @@
-use Rattle.bridge_typing.proofs.GivenLaws.{unsaid_sayable}
-use Rattle.bridge_typing.proofs.saying_laws.what_waits_may_be_said.Goals as goal
-
-pub returns : goal.returns
-returns c = unsaid_sayable

@@ -1,4 +1,0 @@
-pub mod Ends
-pub mod Serving
-pub mod Calls
-pub mod Roots

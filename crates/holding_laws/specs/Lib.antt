@@ -1,3 +1,0 @@
-pub mod Reaching
-pub mod RootConstants
-pub mod RootReferences

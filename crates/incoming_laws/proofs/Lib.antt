@@ -1,2 +1,0 @@
-pub mod FedLaws
-pub mod SpelledLaws

@@ -1,5 +1,0 @@
-use Rattle.incoming_laws.proofs.SpelledLaws.{spelled}
-use Rattle.incoming_laws.proofs.spelling_laws.what_came_spells_what_was_got.Goals as goal
-
-pub returns : goal.returns
-returns c = spelled

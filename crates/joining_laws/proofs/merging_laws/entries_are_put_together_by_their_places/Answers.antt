@@ -1,5 +1,0 @@
-use Rattle.joining_laws.proofs.MergeLaws.{merged_again}
-use Rattle.joining_laws.proofs.merging_laws.entries_are_put_together_by_their_places.Goals as goal
-
-pub returns : goal.returns
-returns c = merged_again

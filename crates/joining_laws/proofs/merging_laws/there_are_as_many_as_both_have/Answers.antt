@@ -1,5 +1,0 @@
-use Rattle.joining_laws.proofs.MergeLaws.{how_many}
-use Rattle.joining_laws.proofs.merging_laws.there_are_as_many_as_both_have.Goals as goal
-
-pub returns : goal.returns
-returns c = how_many

@@ -1,3 +1,0 @@
-pub mod MoveLaws
-pub mod LineLaws
-pub mod OwnLaws

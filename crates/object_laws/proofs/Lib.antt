@@ -1,3 +1,0 @@
-pub mod KeepingLaws
-pub mod NumberLaws
-pub mod StillLaws

@@ -1,5 +1,0 @@
-use Rattle.object_laws.proofs.KeepingLaws.{one_object}
-use Rattle.object_laws.proofs.number_laws.an_identity_names_one_object.Goals as goal
-
-pub returns : goal.returns
-returns c = one_object

@@ -1,5 +1,0 @@
-use Rattle.outcome_laws.proofs.GivenLaws.{answer_given}
-use Rattle.outcome_laws.proofs.answering_laws.each_answer_of_a_root_was_given_by_one_entry.Goals as goal
-
-pub returns : goal.returns
-returns c = answer_given

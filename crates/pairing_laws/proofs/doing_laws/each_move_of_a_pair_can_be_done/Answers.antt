@@ -1,5 +1,0 @@
-use Rattle.pairing_laws.proofs.GivingLaws.{each_done}
-use Rattle.pairing_laws.proofs.doing_laws.each_move_of_a_pair_can_be_done.Goals as goal
-
-pub returns : goal.returns
-returns c = each_done

@@ -1,5 +1,0 @@
-use Rattle.pairing_laws.proofs.GivingLaws.{reached_give}
-use Rattle.pairing_laws.proofs.doing_laws.the_roots_of_a_pair_give_what_they_may.Goals as goal
-
-pub returns : goal.returns
-returns c = reached_give

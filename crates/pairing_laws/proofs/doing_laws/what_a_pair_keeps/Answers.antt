@@ -1,5 +1,0 @@
-use Rattle.pairing_laws.proofs.GivingLaws.{pair_keeps}
-use Rattle.pairing_laws.proofs.doing_laws.what_a_pair_keeps.Goals as goal
-
-pub returns : goal.returns
-returns c = pair_keeps

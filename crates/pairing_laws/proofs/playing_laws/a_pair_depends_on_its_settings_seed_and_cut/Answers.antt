@@ -1,5 +1,0 @@
-use Rattle.pairing_laws.proofs.PlayLaws.{pair_alone}
-use Rattle.pairing_laws.proofs.playing_laws.a_pair_depends_on_its_settings_seed_and_cut.Goals as goal
-
-pub returns : goal.returns
-returns c = pair_alone

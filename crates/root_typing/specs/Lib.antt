@@ -1,3 +1,0 @@
-pub mod RootAnswers
-pub mod RootCalls
-pub mod RootStatements

@@ -1,5 +1,0 @@
-use Rattle.world_histories.proofs.KeptLaws.{both_keep}
-use Rattle.world_histories.proofs.kept_laws.what_two_joined_ends_keep.Goals as goal
-
-pub returns : goal.returns
-returns c = both_keep

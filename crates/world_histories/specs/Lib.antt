@@ -1,4 +1,0 @@
-pub mod Homes
-pub mod Kept
-pub mod Proxies
-pub mod Ready

@@ -1,0 +1,14 @@
+pub mod Calls
+pub mod Doing
+pub mod Ends
+pub mod Homes
+pub mod Kept
+pub mod Linking
+pub mod Merging
+pub mod Outcomes
+pub mod Proxies
+pub mod Ready
+pub mod Roots
+pub mod Runs
+pub mod Serving
+pub mod Standing
