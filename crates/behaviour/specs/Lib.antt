@@ -4,3 +4,4 @@ pub mod Effects
 pub mod Functions
 pub mod Roots
 pub mod Running
+pub mod Variables

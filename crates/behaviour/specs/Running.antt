@@ -1,6 +1,7 @@
 -- A frame that runs, as the definitions see it.
+pub use Rattle.named_variables.specs.Lending.{value_or_void}
 use Rattle.std.specs.Borrow.{Bor}
-use Rattle.std.specs.Prelude.{List, [], Option, None, Some, Result, Ok, Err, option_map}
+use Rattle.std.specs.Prelude.{List, [], Option, Result, Ok, Err, option_map}
 use Rattle.plan_model.specs.Asking as asking
 use Rattle.plan_model.specs.Evaluation as evaluation
 use Rattle.plan_model.specs.Frames.{Variable}
@@ -10,15 +11,16 @@ use Rattle.plan_types.specs.Frames.{variables_of}
 use Rattle.plan_types.specs.Plans.{method_of}
 use Rattle.plan_types.specs.declared.plan.Method.{Method}
 use Rattle.type_registry.specs.Functions.{lent_function}
-use Rattle.uno_model.specs.Values.{null, Plain, void}
+use Rattle.uno_model.specs.Values.{null, Plain}
 use Rattle.uno_values.specs.Values.{plain_of}
 use Rattle.uno_values.specs.declared.value.Value.{Value}
 use Rattle.behaviour.specs.Calling.{target_of}
+use Rattle.behaviour.specs.Variables.{variables_in}
 use Rattle.behaviour.specs.declared.running.Scene.{Scene}
 use Rattle.behaviour.specs.declared.running.Running.{Running}
 
 abbrev pub scene_of : Scene → evaluation.Scene
-scene_of s = record { variables = variables_of s.variables.now; fields = variables_of s.fields.now; own = target_of s.own }
+scene_of s = record { variables = variables_in s.variables; fields = variables_of s.fields.now; own = target_of s.own }
 
 -- what words stand for in a root: its variables alone
 abbrev pub root_scene : List Variable → evaluation.Scene
@@ -34,11 +36,6 @@ running_of r =
       depth = r.depth;
       scene = scene_of r.scene;
     }
-
--- a value that is lent; one that is not there is as one of type void
-abbrev pub value_or_void : Option (Bor Value) → Plain
-value_or_void None = void
-value_or_void (Some x) = plain_of x.now
 
 -- a value, or why there is none
 abbrev pub outcome_of : Result Value RuntimeCause → Result Plain RuntimeCause

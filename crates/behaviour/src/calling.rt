@@ -28,7 +28,7 @@ use crate::limits::{has_deep, heading_weight, is_full, is_heavy};
 use crate::running::{Running, Scene, Target};
 use crate::target::object_of_word;
 use crate::values::push_value;
-use crate::words::copy_under;
+use crate::words::copy_of;
 use plan_types::{Argument, Call, Query, RuntimeCause};
 use std::alloc::Global;
 use uno_base::NoMemory;
@@ -204,7 +204,7 @@ fn push_given(
         }
         Argument::Out(_) => Ok(true),
         Argument::Both(name) => {
-            push_value(values, copy_under(alloc, name, scene.variables)?)?;
+            push_value(values, copy_of(alloc, scene.variables.get(name))?)?;
             Ok(true)
         }
     }

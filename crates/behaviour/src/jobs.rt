@@ -11,7 +11,7 @@ ghost use Rattle.behaviour.specs.Running.{running_of, method_there};
 
 use crate::functions::is_named;
 use crate::manager::manager_effect;
-use crate::running::{Running, Scene, Target};
+use crate::running::{Running, Scene, Target, Variables};
 use crate::statements::{default_effect, return_effect, statement_effect};
 use crate::{Done, Effect};
 use plan_types::{Body, Frame, Job, Method, Plan};
@@ -70,7 +70,7 @@ fn running<'a>(job: &'a Job, body: &'a Body, function: FunctionRef<'a>) -> Runni
         function,
         depth: job.depth,
         scene: Scene {
-            variables: &body.variables,
+            variables: Variables::Frame(&body.variables),
             fields: &job.fields,
             own: Target::Local {
                 oid: &job.own,

@@ -31,4 +31,3 @@ pub use jobs::{method_of, next};
 pub use leaving::leaving_exception;
 pub use root::{RootRun, root_target, root_values};
 pub use running::Target;
-pub use words::value_under;

@@ -86,7 +86,7 @@ fn creates(alloc: Global, scene: Scene) -> Result<Effect, NoMemory>
 fn given(place: usize, scene: Scene<'_>) -> Option<&Value>
     ensures { value_or_void result ≡ given place (scene_of scene.entry) }
 {
-    let Some(variable) = scene.variables.get(place) else {
+    let Some(variable) = scene.variables.as_slice().get(place) else {
         return None;
     };
     Some(&variable.value)

@@ -5,15 +5,17 @@ ghost use Rattle.plan_model.specs.Evaluation.{value_of_word};
 ghost use Rattle.plan_model.specs.Roots.{opening_run};
 ghost use Rattle.plan_types.specs.Expressions.{argument_of, word_of};
 ghost use Rattle.plan_types.specs.Frames.{variables_of};
+ghost use Rattle.named_variables.specs.Threads.{all_of};
 ghost use Rattle.uno_values.specs.Values.{plain_of};
 ghost use Rattle.behaviour.specs.Calling.{target_of};
 ghost use Rattle.behaviour.specs.Roots.{run_of};
 ghost use Rattle.behaviour.specs.Running.{root_scene, scene_of};
 
 use crate::calling::given_values;
-use crate::running::{Scene, Target};
+use crate::running::{Scene, Target, Variables};
 use crate::target::object_of_word;
-use plan_types::{Argument, Variable, Word};
+use named_variables::ThreadVariables;
+use plan_types::{Argument, Word};
 use std::alloc::Global;
 use std::collections::VecDeque;
 use uno_base::NoMemory;
@@ -26,7 +28,7 @@ use uno_values::{Reference, Value};
 pub struct RootRun {
     pub root: u32,
     pub place: u32,
-    pub variables: Vec<Variable>,
+    pub variables: ThreadVariables,
     pub lines: Vec<Text>,
     pub instance: Text,
     pub loose: Vec<Value>,
@@ -42,7 +44,7 @@ impl RootRun {
         RootRun {
             root,
             place: 0,
-            variables: Vec::new(alloc),
+            variables: ThreadVariables::new(alloc),
             lines: Vec::new(alloc),
             instance,
             loose: Vec::new(alloc),
@@ -52,8 +54,8 @@ impl RootRun {
 }
 
 /// The object that a word of a root stands for. A root has no fields and no own object.
-pub fn root_target<'a>(variables: &'a [Variable], word: &Word) -> Target<'a>
-    ensures { target_of result ≡ object_of (value_of_word (root_scene (variables_of variables.entry.now)) (word_of word.now)) }
+pub fn root_target<'a>(variables: &'a ThreadVariables, word: &Word) -> Target<'a>
+    ensures { target_of result ≡ object_of (value_of_word (root_scene (variables_of (all_of variables.entry.now))) (word_of word.now)) }
 {
     object_of_word(scene_of(variables), word)
 }
@@ -61,20 +63,20 @@ pub fn root_target<'a>(variables: &'a [Variable], word: &Word) -> Target<'a>
 /// The values that go with a call of a root: those of expressions, and of variables that go both ways; none where an operation has no result.
 pub fn root_values(
     alloc: Global,
-    variables: &[Variable],
+    variables: &ThreadVariables,
     arguments: &[Argument],
 ) -> Result<Option<Vec<Value>>, NoMemory>
-    ensures { IfOk result (λ xs. option_map (λ vs. map plain_of vs.items) xs ≡ given_values (root_scene (variables_of variables.now)) (map argument_of arguments.now)) }
+    ensures { IfOk result (λ xs. option_map (λ vs. map plain_of vs.items) xs ≡ given_values (root_scene (variables_of (all_of variables.now))) (map argument_of arguments.now)) }
 {
     given_values(alloc, scene_of(variables), arguments)
 }
 
 /// What words of a root stand for.
-fn scene_of(variables: &[Variable]) -> Scene<'_>
-    ensures { scene_of result ≡ root_scene (variables_of variables.entry.now) }
+fn scene_of(variables: &ThreadVariables) -> Scene<'_>
+    ensures { scene_of result ≡ root_scene (variables_of (all_of variables.entry.now)) }
 {
     Scene {
-        variables,
+        variables: Variables::Thread(variables),
         fields: &[],
         own: Target::Null,
     }

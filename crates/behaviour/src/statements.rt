@@ -175,11 +175,7 @@ fn holds(scene: Scene, test: &Test, right: &Value) -> Result<bool, NoMemory>
     ensures { IfOk result (λ holds. holds ≡ compares test.now.comparison (value_of_word (scene_of scene.entry) (word_of test.now.left)) (plain_of right.now)) }
 {
     match &test.left {
-        Word::Variable(name) => Ok(holds_of(
-            test.comparison,
-            value_under(name, scene.variables),
-            right,
-        )),
+        Word::Variable(name) => Ok(holds_of(test.comparison, scene.variables.get(name), right)),
         Word::Field(name) => Ok(holds_of(test.comparison, value_under(name, scene.fields), right)),
         Word::Own => {
             let own = Value::Ref(own_object(scene)?);
@@ -229,7 +225,7 @@ pub(crate) fn returns_value(
 ) -> Result<Effect, NoMemory>
     ensures { IfOk result (λ e. effect_of e ≡ returns_value registry.now (running_of running.entry) (plain_of value)) }
 {
-    let Ok(outs) = out_values(alloc, &running.function, running.scene.variables) else {
+    let Ok(outs) = out_values(alloc, &running.function, running.scene.variables.as_slice()) else {
         drop(value);
         return Err(NoMemory);
     };

@@ -59,7 +59,7 @@ pub(crate) fn object_of_word<'a>(scene: Scene<'a>, word: &Word) -> Target<'a>
     ensures { target_of result ≡ object_of (value_of_word (scene_of scene.entry) (word_of word.now)) }
 {
     match word {
-        Word::Variable(name) => object_of(value_under(name, scene.variables)),
+        Word::Variable(name) => object_of(scene.variables.get(name)),
         Word::Field(name) => object_of(value_under(name, scene.fields)),
         Word::Own => scene.own,
     }

@@ -15,7 +15,7 @@ use uno_types::Name;
 use uno_values::{Reference, Value};
 
 /// The value under a name, where one is there.
-pub fn value_under<'a>(name: &Name, variables: &'a [Variable]) -> Option<&'a Value>
+pub(crate) fn value_under<'a>(name: &Name, variables: &'a [Variable]) -> Option<&'a Value>
     ensures { value_or_void result ≡ value_under name.now (variables_of variables.now) }
 {
     for variable in variables {
@@ -34,7 +34,14 @@ pub(crate) fn copy_under(
 ) -> Result<Value, NoMemory>
     ensures { IfOk result (λ x. plain_of x ≡ value_under name.now (variables_of variables.now)) }
 {
-    match value_under(name, variables) {
+    copy_of(alloc, value_under(name, variables))
+}
+
+/// A copy of a value; one that is not there is as one of type void.
+pub(crate) fn copy_of(alloc: Global, value: Option<&Value>) -> Result<Value, NoMemory>
+    ensures { IfOk result (λ x. plain_of x ≡ value_or_void value.entry) }
+{
+    match value {
         Some(value) => value.copy(alloc),
         None => Ok(Value::Void),
     }
@@ -45,7 +52,7 @@ pub(crate) fn value_of_word(alloc: Global, scene: Scene, word: &Word) -> Result<
     ensures { IfOk result (λ x. plain_of x ≡ value_of_word (scene_of scene.entry) (word_of word.now)) }
 {
     match word {
-        Word::Variable(name) => copy_under(alloc, name, scene.variables),
+        Word::Variable(name) => copy_of(alloc, scene.variables.get(name)),
         Word::Field(name) => copy_under(alloc, name, scene.fields),
         Word::Own => Ok(Value::Ref(own_object(scene)?)),
     }

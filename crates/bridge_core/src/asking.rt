@@ -5,6 +5,7 @@ ghost use Rattle.bridge_model.specs.Entries.{asked, called};
 ghost use Rattle.bridge_model.specs.RootRuns.{begins_statement, calls_on, queries_on};
 ghost use Rattle.bridge_model.specs.Settings.{Setting};
 ghost use Rattle.bridge_model.specs.Sides.{Side};
+ghost use Rattle.named_variables.specs.Threads.{all_of};
 ghost use Rattle.plan_model.specs.Calling.{given_values, number_in, object_of};
 ghost use Rattle.plan_model.specs.Evaluation.{value_of_word};
 ghost use Rattle.plan_types.specs.Expressions.{argument_of, word_of};
@@ -17,7 +18,8 @@ ghost use Rattle.behaviour.specs.Running.{root_scene};
 ghost use Rattle.bridge_core.specs.Asking.{HasSmallNumber, IsAsking, IsSmallNumber, asks, entry_of};
 
 use behaviour::{RootRun, Target, number_in, root_target, root_values};
-use plan_types::{Call, Query, RootStatement, Variable};
+use named_variables::ThreadVariables;
+use plan_types::{Call, Query, RootStatement};
 use std::alloc::Global;
 use uno_base::NoMemory;
 use uno_types::{Name, Registry, Text};
@@ -91,8 +93,8 @@ fn asks_call(
     call: &Call,
 ) -> Result<Option<Asked>, NoMemory>
     requires sound { IsSound registry.now }
-    requires small { IsSmallNumber registry.now (call_of call.now) (object_of (value_of_word (root_scene (variables_of run.now.variables.items)) (word_of call.now.target))) }
-    ensures { (s : Side) → IfOk result (λ a. calls_on registry.now s (run_of run.now) (call_of call.now) (object_of (value_of_word (root_scene (variables_of run.now.variables.items)) (word_of call.now.target))) ≡ asks s (run_of run.now) a) }
+    requires small { IsSmallNumber registry.now (call_of call.now) (object_of (value_of_word (root_scene (variables_of (all_of run.now.variables))) (word_of call.now.target))) }
+    ensures { (s : Side) → IfOk result (λ a. calls_on registry.now s (run_of run.now) (call_of call.now) (object_of (value_of_word (root_scene (variables_of (all_of run.now.variables))) (word_of call.now.target))) ≡ asks s (run_of run.now) a) }
 {
     match root_target(&run.variables, &call.target) {
         Target::Null => Ok(None),
@@ -119,14 +121,14 @@ fn asks_call(
 fn calls(
     alloc: Global,
     registry: &Registry,
-    variables: &[Variable],
+    variables: &ThreadVariables,
     call: &Call,
     oid: &Text,
     face: &Name,
 ) -> Result<Asked, NoMemory>
     requires sound { IsSound registry.now }
     requires small { number_in registry.now face.now (callee_of call.now.callee) < 2 ^ 16 }
-    ensures { IfOk result (λ a. (root : ℕ) → entry_of root a ≡ called root oid.now face.now (number_in registry.now face.now (call_of call.now).callee) (unwrap_or (given_values (root_scene (variables_of variables.now)) (call_of call.now).arguments) [])) }
+    ensures { IfOk result (λ a. (root : ℕ) → entry_of root a ≡ called root oid.now face.now (number_in registry.now face.now (call_of call.now).callee) (unwrap_or (given_values (root_scene (variables_of (all_of variables.now))) (call_of call.now).arguments) [])) }
 {
     let number = number_in(alloc, registry, face.as_str(), &call.callee)?;
     Ok(Asked::Call {
@@ -137,8 +139,8 @@ fn calls(
     })
 }
 
-fn values(alloc: Global, variables: &[Variable], call: &Call) -> Result<Vec<Value>, NoMemory>
-    ensures { IfOk result (λ xs. map plain_of xs.items ≡ unwrap_or (given_values (root_scene (variables_of variables.now)) (map argument_of call.now.arguments.items)) []) }
+fn values(alloc: Global, variables: &ThreadVariables, call: &Call) -> Result<Vec<Value>, NoMemory>
+    ensures { IfOk result (λ xs. map plain_of xs.items ≡ unwrap_or (given_values (root_scene (variables_of (all_of variables.now))) (map argument_of call.now.arguments.items)) []) }
 {
     match root_values(alloc, variables, &call.arguments)? {
         Some(values) => Ok(values),
@@ -147,7 +149,7 @@ fn values(alloc: Global, variables: &[Variable], call: &Call) -> Result<Vec<Valu
 }
 
 fn asks_query(run: &RootRun, query: &Query) -> Result<Option<Asked>, NoMemory>
-    ensures { (s : Side) → IfOk result (λ a. queries_on s (run_of run.now) (query_of query.now) (object_of (value_of_word (root_scene (variables_of run.now.variables.items)) (word_of query.now.target))) ≡ asks s (run_of run.now) a) }
+    ensures { (s : Side) → IfOk result (λ a. queries_on s (run_of run.now) (query_of query.now) (object_of (value_of_word (root_scene (variables_of (all_of run.now.variables))) (word_of query.now.target))) ≡ asks s (run_of run.now) a) }
 {
     match root_target(&run.variables, &query.target) {
         Target::Null => Ok(None),

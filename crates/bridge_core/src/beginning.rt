@@ -7,6 +7,7 @@ ghost use Rattle.bridge_model.specs.RootRuns.{begins, begins_statement, disposes
 ghost use Rattle.bridge_model.specs.Sides.{idle, stands, state_of};
 ghost use Rattle.bridge_model.specs.Steps.{has_entries, is_root, may, may_begin};
 ghost use Rattle.bridge_laws.specs.Giving.{MayGive};
+ghost use Rattle.named_variables.specs.Threads.{all_of};
 ghost use Rattle.plan_model.specs.Evaluation.{same_value, value_under};
 ghost use Rattle.plan_model.specs.Statements.{RootStatement as Statement};
 ghost use Rattle.plan_types.specs.Frames.{variables_of};
@@ -23,9 +24,10 @@ use crate::asking::{Asked, asked_by};
 use crate::making::make;
 use crate::saying::{line_for, says};
 use crate::stepping::{know_history, statement_at};
-use behaviour::{RootRun, same_value, value_under};
+use behaviour::{RootRun, same_value};
 use bridge_endpoint::{Begun, Endpoint};
-use plan_types::{RootStatement, Variable};
+use named_variables::ThreadVariables;
+use plan_types::RootStatement;
 use root_runs::{drop_variable, is_skipped, over, over_with};
 use uno_base::NoMemory;
 use uno_types::{Name, Text};
@@ -178,12 +180,12 @@ fn drops(run: &mut RootRun, name: &Name) -> Result<(), NoMemory>
 }
 
 /// Whether two variables have the same value, in words.
-fn same_text(variables: &[Variable], left: &Name, right: &Name) -> &'static str
-    ensures { result.now ≡ same_text (same_value (value_under left.now (variables_of variables.now)) (value_under right.now (variables_of variables.now))) }
+fn same_text(variables: &ThreadVariables, left: &Name, right: &Name) -> &'static str
+    ensures { result.now ≡ same_text (same_value (value_under left.now (variables_of (all_of variables.now))) (value_under right.now (variables_of (all_of variables.now)))) }
 {
     let none = Value::Void;
-    let left = value_under(left, variables).unwrap_or(&none);
-    let right = value_under(right, variables).unwrap_or(&none);
+    let left = variables.get(left).unwrap_or(&none);
+    let right = variables.get(right).unwrap_or(&none);
     if same_value(left, right) {
         return "same";
     }

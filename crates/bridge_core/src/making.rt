@@ -8,6 +8,7 @@ ghost use Rattle.bridge_model.specs.Settings.{own_oid};
 ghost use Rattle.bridge_model.specs.Steps.{is_root};
 ghost use Rattle.bridge_laws.specs.Giving.{MayGive};
 ghost use Rattle.literal_model.specs.Literals.{print};
+ghost use Rattle.named_variables.specs.Threads.{HasRoom};
 ghost use Rattle.uno_model.specs.Entities.{Entity};
 ghost use Rattle.uno_model.specs.Values.{Ref, own, ref};
 ghost use Rattle.uno_values.specs.Values.{plain_of};
@@ -69,10 +70,10 @@ fn prepare(end: &Endpoint, run: &mut RootRun, wanted: &Name) -> Result<Ready, No
     ensures same { run_of run.new ≡ run_of run.old }
     ensures place { OnOk result (run.new.place < 2 ^ 32 - 1) }
     ensures lines { OnOk result (vec_len run.new.lines < vec_capacity run.new.lines) }
-    ensures variables { OnOk result (vec_len run.new.variables < vec_capacity run.new.variables) }
+    ensures variables { OnOk result (HasRoom run.new.variables) }
 {
     let alloc = end.registry().allocator();
-    run.variables.reserve(1)?;
+    run.variables.reserve()?;
     let oid = end.next_oid()?;
     let face = wanted.copy()?;
     let new = Value::Ref(Reference::Local { oid, face });
@@ -100,7 +101,7 @@ fn text_of(alloc: Global, registry: &Registry, new: &Value) -> Result<String, No
 fn made(run: &mut RootRun, to: Name, ready: Ready, made: Made) -> Result<(), NoMemory>
     requires place { run.old.place < 2 ^ 32 - 1 }
     requires lines { vec_len run.old.lines < vec_capacity run.old.lines }
-    requires variables { vec_len run.old.variables < vec_capacity run.old.variables }
+    requires variables { HasRoom run.old.variables }
     requires made { IsMade made }
     ensures run { (reg : List Entity) (r : Ref) → IsReady reg (run_of run.old) r ready → run_of run.new ≡ made_run reg made to r (run_of run.old) }
     ensures moved { is_ok result ≡ has_made made }
@@ -124,7 +125,7 @@ fn made(run: &mut RootRun, to: Name, ready: Ready, made: Made) -> Result<(), NoM
 fn tells(run: &mut RootRun, to: Name, ready: Ready) -> Result<(), NoMemory>
     requires place { run.old.place < 2 ^ 32 - 1 }
     requires lines { vec_len run.old.lines < vec_capacity run.old.lines }
-    requires variables { vec_len run.old.variables < vec_capacity run.old.variables }
+    requires variables { HasRoom run.old.variables }
     ensures run { (reg : List Entity) (r : Ref) → IsReady reg (run_of run.old) r ready → run_of run.new ≡ over_with (codes "returned " ++ print reg (ref r)) (adds to (ref r) (run_of run.old)) }
     ensures moved { is_ok result ≡ true }
 {

@@ -6,6 +6,7 @@ ghost use Rattle.bridge_model.specs.Roots.{outcome_in};
 ghost use Rattle.bridge_model.specs.Sides.{Outcome as Plain, answer, state_of};
 ghost use Rattle.bridge_tables.specs.Roots.{outcome_of};
 ghost use Rattle.message_model.specs.Messages.{returned};
+ghost use Rattle.named_variables.specs.Threads.{HasRoom};
 ghost use Rattle.plan_model.specs.Statements.{RootStatement as Statement};
 ghost use Rattle.plan_types.specs.Statements.{root_statement_of};
 ghost use Rattle.uno_entities.specs.Entities.{field_of};
@@ -58,7 +59,7 @@ fn prepare(end: &Endpoint, run: &mut RootRun) -> Result<(Text, Option<Name>), No
     ensures same { run_of run.new ≡ run_of run.old }
     ensures place { OnOk result (run.new.place < 2 ^ 32 - 1) }
     ensures lines { OnOk result (vec_len run.new.lines < vec_capacity run.new.lines) }
-    ensures variables { OnOk result (vec_len run.new.variables < vec_capacity run.new.variables) }
+    ensures variables { OnOk result (HasRoom run.new.variables) }
     ensures loose { (s : Statement) → statement_at (setting_at end.now) (run_of run.old) ≡ Some s → OnOk result (vec_len run.new.loose + (outs_of s + 1) ≤ vec_capacity run.new.loose) }
 {
     if run.place == u32::MAX {
@@ -68,7 +69,7 @@ fn prepare(end: &Endpoint, run: &mut RootRun) -> Result<(Text, Option<Name>), No
         unreachable!()
     };
     run.lines.reserve(1)?;
-    run.variables.reserve(1)?;
+    run.variables.reserve()?;
     run.loose.reserve(outs_of(statement).saturating_add(1))?;
     let Some(outcome) = end.outcome(run.root) else {
         unreachable!()
@@ -145,7 +146,7 @@ fn name_of(to: &Option<Field>) -> Result<Option<Name>, NoMemory>
 #[tactic(auto, unfolding(bridge_model::specs::RootRuns::takes_outcome))]
 fn becomes(run: &mut RootRun, statement: &RootStatement, name: Option<Name>, outcome: Outcome)
     requires name { name ≡ result_name (root_statement_of statement.now) }
-    requires variables { vec_len run.old.variables < vec_capacity run.old.variables }
+    requires variables { HasRoom run.old.variables }
     requires loose { vec_len run.old.loose + (outs_of (root_statement_of statement.now) + 1) ≤ vec_capacity run.old.loose }
     ensures taken { run_of run.new ≡ takes_outcome (root_statement_of statement.now) (outcome_of outcome) (run_of run.old) }
     ensures lines { KeepsLines run.old run.new }
@@ -169,7 +170,7 @@ fn becomes_returned(
     outs: Vec<Value>,
 )
     requires name { name ≡ result_name (root_statement_of statement.now) }
-    requires variables { vec_len run.old.variables < vec_capacity run.old.variables }
+    requires variables { HasRoom run.old.variables }
     requires loose { vec_len run.old.loose + (outs_of (root_statement_of statement.now) + 1) ≤ vec_capacity run.old.loose }
     ensures taken { run_of run.new ≡ takes_outcome (root_statement_of statement.now) (answer (returned (plain_of value) (map plain_of outs.items))) (run_of run.old) }
     ensures lines { KeepsLines run.old run.new }

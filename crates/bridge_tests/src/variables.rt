@@ -9,9 +9,8 @@ ghost use Rattle.uno_model.specs.Sound.{IsSound};
 use crate::registries::{NODE, plan, registry};
 use crate::shown::{Shown, cut};
 use crate::values::{name, put_reference, put_value, show_value, show_values, value_of, values_of};
-use frame_variables::{
-    Found, add, first_variables, put, sort_answer, take_answer, take_out, take_reference,
-};
+use frame_variables::{Found, add, first_variables, sort_answer, take_answer, take_reference};
+use named_variables::{put, take_out};
 use plan_types::{Call, Plan, Statement, Variable};
 use std::alloc::Global;
 use std::process::Abort;

@@ -1,3 +1,2 @@
-mod VariableLemmas
 mod FirstLemmas
 mod AnswerLemmas

@@ -11,7 +11,8 @@ ghost use Rattle.frame_variables.specs.Given.{left};
 ghost use Rattle.frame_variables.specs.Taking.{taken_of, takes_first};
 
 use crate::given::Given;
-use crate::variables::{add, put};
+use crate::variables::add;
+use named_variables::put;
 use plan_types::{Argument, Call, Variable};
 use std::alloc::Global;
 use uno_base::NoMemory;

@@ -11,4 +11,4 @@ pub use answers::take_answer;
 pub use first::first_variables;
 pub use given::Given;
 pub use queries::{Found, sort_answer, take_reference};
-pub use variables::{add, put, take_out};
+pub use variables::add;

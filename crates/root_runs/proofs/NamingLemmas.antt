@@ -1,35 +1,14 @@
--- Whether names are there, variable by variable and name by name.
+-- Whether names are there, name by name.
 use Rattle.std.proofs.Common.{◌≡◌, ℕ, ◌+◌, ◌<◌, ◌≤◌, Bool, true, false, ◌&&◌, List, [], ◌∷◌, ◌++◌, length, map, drop, get_or, refl, sym, ap, ◌∙◌}
 use Rattle.std.specs.List.{flat_map, list_all}
-use Rattle.std.specs.Str.{bytes_eq}
 use Rattle.std.proofs.lemmas.List.{drop_all}
 use Rattle.std.proofs.lemmas.List.Folds.{list_all-append}
-use Rattle.bridge_model.specs.RootRuns.{argument_names, is_there, names_in, names_in_all}
+use Rattle.bridge_model.specs.RootRuns.{argument_names, names_in, names_in_all}
 use Rattle.plan_model.specs.Expressions as plain
 use Rattle.plan_types.specs.Expressions.{argument_of, expression_of, expressions_of}
-use Rattle.plan_types.specs.Frames.{variables_of}
 use Rattle.plan_types.specs.declared.expression.Argument.{Argument}
 use Rattle.plan_types.specs.declared.expression.Expression.{Expression}
-use Rattle.plan_types.specs.declared.frame.Variable.{Variable}
 use Rattle.uno_values.proofs.Parts.{part_at}
-
--- ---- one name
-
--- the variable at a place has another name
-pub there_behind : (name : List ℕ) (xs : List Variable) (i : ℕ) (x : Variable) (whole : Bool) → i < length xs → x ≡ get_or xs i x → bytes_eq name x.name ≡ false
-    → is_there (variables_of (drop i xs)) name ≡ whole → is_there (variables_of (drop (i + 1) xs)) name ≡ whole
-there_behind name xs i x whole within is other all = rw other at (rw (part_at xs i x within is) at all)
-
--- it has the name
-pub there_here : (name : List ℕ) (xs : List Variable) (i : ℕ) (x : Variable) (whole : Bool) → i < length xs → x ≡ get_or xs i x → bytes_eq name x.name ≡ true
-    → is_there (variables_of (drop i xs)) name ≡ whole → true ≡ whole
-there_here name xs i x whole within is same all = rw same at (rw (part_at xs i x within is) at all)
-
--- none has it
-pub there_nowhere : (name : List ℕ) (xs : List Variable) (i : ℕ) (whole : Bool) → length xs ≤ i → is_there (variables_of (drop i xs)) name ≡ whole → false ≡ whole
-there_nowhere name xs i whole past all = rw (drop_all i xs past) at all
-
--- ---- the names of arguments and of expressions, one after the other
 
 -- of two lists of names: the first does not pass, or it passes
 pub stops : {A : Type 0} (p : A → Bool) (xs ys : List A) → list_all p xs ≡ false → list_all p (xs ++ ys) ≡ false

@@ -11,7 +11,6 @@ ghost use Rattle.behaviour.specs.Roots.{run_of};
 ghost use Rattle.root_runs.specs.Keeping.{KeepsLines};
 
 use behaviour::RootRun;
-use frame_variables::take_out;
 use std::alloc::Global;
 use std::collections::VecDeque;
 use uno_base::NoMemory;
@@ -78,6 +77,6 @@ pub fn drop_variable(run: &mut RootRun, name: &Name)
     ensures dropped { run_of run.new ≡ drops name.now (run_of run.old) }
     ensures lines { KeepsLines run.old run.new }
 {
-    let value = take_out(&mut run.variables, name);
+    let value = run.variables.take_out(name);
     run.loose.push_reserved(value);
 }

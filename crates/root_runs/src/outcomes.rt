@@ -2,6 +2,7 @@
 ghost use Rattle.std.specs.Prelude.{◌≡◌, ◌∷◌, ◌+◌, ◌<◌, ◌≤◌, List, drop, length, map};
 ghost use Rattle.std.specs.Vec.{vec_capacity, vec_len};
 ghost use Rattle.bridge_model.specs.RootRuns.{adds, adds_result, puts_outs, with_loose};
+ghost use Rattle.named_variables.specs.Threads.{HasRoom};
 ghost use Rattle.plan_model.specs.Expressions as plain;
 ghost use Rattle.plan_types.specs.Expressions.{argument_of};
 ghost use Rattle.uno_values.specs.Values.{plain_of};
@@ -11,19 +12,19 @@ ghost use Rattle.root_runs.specs.Keeping.{KeepsLines};
 ghost use Rattle.root_runs.specs.Outs.{puts_first};
 
 use behaviour::RootRun;
-use frame_variables::{Given, put};
-use plan_types::{Argument, Variable};
+use frame_variables::Given;
+use plan_types::Argument;
 use uno_types::Name;
 use uno_values::Value;
 
 /// A new variable.
 pub fn add_variable(run: &mut RootRun, name: Name, value: Value)
-    requires room { vec_len run.old.variables < vec_capacity run.old.variables }
+    requires room { HasRoom run.old.variables }
     ensures added { run_of run.new ≡ adds name (plain_of value) (run_of run.old) }
     ensures loose { run.new.loose ≡ run.old.loose }
     ensures lines { KeepsLines run.old run.new }
 {
-    run.variables.push_reserved(Variable { name, value });
+    run.variables.add(name, value);
 }
 
 /// The references of a value that has no name are loose.
@@ -40,7 +41,7 @@ pub fn loosen(run: &mut RootRun, value: Value)
 /// A result becomes a variable, where it has a name, and else its references are loose.
 pub fn take_result(run: &mut RootRun, name: Option<Name>, value: Value)
     requires room { vec_len run.old.loose < vec_capacity run.old.loose }
-    requires variables { vec_len run.old.variables < vec_capacity run.old.variables }
+    requires variables { HasRoom run.old.variables }
     ensures taken { run_of run.new ≡ adds_result name (plain_of value) (run_of run.old) }
     ensures most { vec_len run.new.loose ≤ vec_len run.old.loose + 1 }
     ensures capacity { vec_capacity run.new.loose ≡ vec_capacity run.old.loose }
@@ -91,6 +92,6 @@ fn put_next(run: &mut RootRun, name: &Name, given: &mut Given)
     let Some(value) = given.next() else {
         return;
     };
-    let old = put(&mut run.variables, name, value);
+    let old = run.variables.put(name, value);
     run.loose.push_reserved(old);
 }

@@ -1,5 +1,6 @@
 use Rattle.std.proofs.Common.{◌≡◌, ap, sym, subst, IfOk}
 use Rattle.bridge_model.specs.RootRuns.{calls_on}
+use Rattle.named_variables.specs.Threads.{all_of}
 use Rattle.plan_model.specs.Calling.{object_of}
 use Rattle.plan_model.specs.Evaluation.{value_of_word}
 use Rattle.plan_types.specs.Expressions.{word_of}
@@ -15,5 +16,5 @@ pub returns-in-Call : goal.returns-in-Call
 returns-in-Call c = λ g s same.
     calls_so g s (run_of c.args.run.now) (call_of c.in-Call.call) (root_statement_of c.args.statement.now) c.asks_call.result (ap root_statement_of c.in-Call.is)
     (subst (λ reg. IfOk c.asks_call.result (λ a. calls_on reg s (run_of c.args.run.now) (call_of c.in-Call.call)
-    (object_of (value_of_word (root_scene (variables_of c.args.run.now.variables.items)) (word_of c.in-Call.call.target))) ≡ asks s (run_of c.args.run.now) a))
+    (object_of (value_of_word (root_scene (variables_of (all_of c.args.run.now.variables))) (word_of c.in-Call.call.target))) ≡ asks s (run_of c.args.run.now) a))
     (sym same) (c.asks_call.ensures s))

@@ -12,7 +12,7 @@ pub loop-run-preserved : goal.loop-run-preserved
 loop-run-preserved c =
     let fits : FitsSigned w64 c.in_ok-next.next = search rules in
     let number_fits : FitsSigned w64 c.in_ok-number.number = search rules in
-    let number = rw c.as_slice.ensures.value at c.in_ok-number.ensures in
+    let number = rw c.as_slice.ensures at c.in_ok-number.ensures in
     subst (λ (k : ℤ). k +ℤ sum_of (flat_map (λ r. (run_of r).variables) (drop (c.loop-run.run-index + 1) c.args.runs.now)) ≡ sum_of (flat_map (λ r. (run_of r).variables) c.args.runs.now))
     (sym (to_z-of_z w64 c.in_ok-next.next fits))
     (one_summed (λ r. (run_of r).variables) c.args.runs.now c.loop-run.run-index c.run-item.result (to_z w64 c.loop-run.all-bits) c.in_ok-next.next _ (omega arith) c.run-item.is

@@ -25,7 +25,7 @@ pub record IsFirst (name : List ℕ) (xs : List Variable) (i : ℕ) (d : Variabl
 abbrev pub IsNowhere : List ℕ → List Variable → Variable → Type 0
 IsNowhere name xs d = (k : ℕ) → k < length xs → has_name name (get_or xs k d) ≡ false
 
-below_none : {A : Type 0} (i : ℕ) → i < 0 → A
+pub below_none : {A : Type 0} (i : ℕ) → i < 0 → A
 below_none i below = absurd (omega (arith, below))
 
 below_rest : (i n : ℕ) → suc i < suc n → i < n
@@ -34,10 +34,10 @@ below_rest i n below = omega (arith, below)
 above : (i n : ℕ) → i < n → suc i < suc n
 above i n below = omega (arith, below)
 
-first_above : (n : ℕ) → 0 < suc n
+pub first_above : (n : ℕ) → 0 < suc n
 first_above n = omega arith
 
-first_behind : (name : List ℕ) (x d : Variable) (xs : List Variable) (i : ℕ) → IsFirst name (x ∷ xs) (suc i) d → IsFirst name xs i d
+pub first_behind : (name : List ℕ) (x d : Variable) (xs : List Variable) (i : ℕ) → IsFirst name (x ∷ xs) (suc i) d → IsFirst name xs i d
 first_behind name x d xs i is =
     record {
       within = below_rest i (length xs) is.within;

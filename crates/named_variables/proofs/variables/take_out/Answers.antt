@@ -3,8 +3,8 @@ use Rattle.plan_types.specs.Frames.{variables_of}
 use Rattle.std.specs.List.{position}
 use Rattle.uno_values.specs.Values.{plain_of}
 use Rattle.uno_values.specs.declared.value.Value.TheVariants.{Void}
-use Rattle.frame_variables.proofs.VariableLemmas.{has_name, found_first, found_none, nothing_else, others_of, others_same, value_here, value_nowhere}
-use Rattle.frame_variables.proofs.variables.take_out.Goals as goal
+use Rattle.named_variables.proofs.VariableLemmas.{has_name, found_first, found_none, nothing_else, others_of, others_same, value_here, value_nowhere}
+use Rattle.named_variables.proofs.variables.take_out.Goals as goal
 
 -- the name is there
 pub returns-in-Some-clause-without : goal.returns-in-Some-clause-without

@@ -1,8 +1,8 @@
 use Rattle.std.proofs.Common.{sym, ap, ◌∙◌}
 use Rattle.std.specs.List.{position}
 use Rattle.uno_values.specs.Values.{plain_of}
-use Rattle.frame_variables.proofs.VariableLemmas.{has_name, found_first, found_none, put_here, put_nowhere, value_here, value_nowhere}
-use Rattle.frame_variables.proofs.variables.put.Goals as goal
+use Rattle.named_variables.proofs.VariableLemmas.{has_name, found_first, found_none, put_here, put_nowhere, value_here, value_nowhere}
+use Rattle.named_variables.proofs.variables.put.Goals as goal
 
 -- the name is there
 pub returns-in-Some-clause-put : goal.returns-in-Some-clause-put

@@ -1,0 +1,2 @@
+mod ThreadLemmas
+mod VariableLemmas

@@ -1,0 +1,3 @@
+pub mod Lending
+pub mod Names
+pub mod Threads
