@@ -14,8 +14,8 @@ use Rattle.bridge_model.specs.RootRuns.{Moved, begins_statement, calls_on, idle_
 use Rattle.bridge_model.specs.Settings.{Setting}
 use Rattle.bridge_model.specs.Sides.{RootState, Side, idle, waits_call, waits_query, answered, state_of, stands_by}
 use Rattle.bridge_model.specs.declared.cause.Cause.{Cause}
-use Rattle.bridge_state.specs.Telling.{state_told}
-use Rattle.bridge_state.specs.declared.telling.RootState.TheVariants as told
+use Rattle.bridge_endpoint.specs.Telling.{state_told}
+use Rattle.bridge_endpoint.specs.Telling as told
 use Rattle.bridge_endpoint.specs.Journals.{Endpoint, setting_at, side_at}
 use Rattle.bridge_core.specs.Asking.{asks}
 use Rattle.bridge_core.specs.Moving.{Does, DoesAny, DoesOr, next_move}

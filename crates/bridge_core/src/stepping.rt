@@ -4,7 +4,7 @@ ghost use Rattle.bridge_model.specs.Entries.{dropped};
 ghost use Rattle.bridge_model.specs.RootRuns.{lets_loose, statement_at};
 ghost use Rattle.bridge_model.specs.Roots.{holds_pair};
 ghost use Rattle.bridge_model.specs.Sides.{idle, state_of};
-ghost use Rattle.bridge_state.specs.Telling.{state_told};
+ghost use Rattle.bridge_endpoint.specs.Telling.{state_told};
 ghost use Rattle.plan_model.specs.Roots.{next_loose, statements_in};
 ghost use Rattle.plan_types.specs.Statements.{root_statement_of};
 ghost use Rattle.uno_model.specs.Values.{Ref};

@@ -4,7 +4,7 @@ ghost use Rattle.std.specs.Vec.{vec_capacity, vec_len};
 ghost use Rattle.bridge_model.specs.RootRuns.{line_of, outcome_text, takes_outcome, statement_at};
 ghost use Rattle.bridge_model.specs.Roots.{outcome_in};
 ghost use Rattle.bridge_model.specs.Sides.{Outcome as Plain, answer, state_of};
-ghost use Rattle.bridge_tables.specs.Roots.{outcome_of};
+ghost use Rattle.bridge_endpoint.specs.Telling.{outcome_of};
 ghost use Rattle.message_model.specs.Messages.{returned};
 ghost use Rattle.named_variables.specs.Threads.{HasRoom};
 ghost use Rattle.plan_model.specs.Statements.{RootStatement as Statement};

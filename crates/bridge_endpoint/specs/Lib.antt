@@ -3,3 +3,4 @@ pub mod Entering
 pub mod Journals
 pub mod Kept
 pub mod Refusing
+pub mod Telling

@@ -6,8 +6,8 @@ use Rattle.bridge_model.specs.RootRuns.{Moved, begins, begins_statement, calls_o
 use Rattle.bridge_model.specs.Settings.{Setting}
 use Rattle.bridge_model.specs.Sides.{Outcome, RootState, Side, answered, idle, stands, state_of, waits_call, waits_query}
 use Rattle.bridge_model.specs.Steps.{has_entries}
-use Rattle.bridge_state.specs.Telling.{state_told}
-use Rattle.bridge_state.specs.declared.telling.RootState.TheVariants as told
+use Rattle.bridge_endpoint.specs.Telling.{state_told}
+use Rattle.bridge_endpoint.specs.Telling as told
 use Rattle.world_model.specs.Moves.{does_move}
 use Rattle.plan_model.specs.Calling.{given_values, number_in, object_of}
 use Rattle.plan_model.specs.Evaluation.{value_of_word}

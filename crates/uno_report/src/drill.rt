@@ -4,7 +4,7 @@ ghost use Rattle.std.specs.List.{count_by, flat_map};
 ghost use Rattle.std.specs.Prelude.{◌≡◌, ◌+◌, ◌+ℤ◌, ◌++◌, IfOk, codes, cond, map};
 ghost use Rattle.std.specs.String.{string_bytes};
 ghost use Rattle.behaviour.specs.Roots.{run_of};
-ghost use Rattle.bridge_state.specs.Telling.{counts_told};
+ghost use Rattle.bridge_endpoint.specs.Telling.{counts_told};
 ghost use Rattle.bridge_world.specs.Playing.{progress_of};
 ghost use Rattle.plan_types.specs.Frames.{variables_of};
 ghost use Rattle.report_model.specs.Drills.{how_many_say, number_of, said_in, says, sum_in, sum_of, summary};

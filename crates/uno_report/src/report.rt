@@ -3,7 +3,7 @@ ghost use Rattle.std.specs.List.{flat_map};
 ghost use Rattle.std.specs.Prelude.{◌≡◌, ◌++◌, IfOk, OnOk, map};
 ghost use Rattle.std.specs.String.{string_bytes};
 ghost use Rattle.behaviour.specs.Roots.{run_of};
-ghost use Rattle.bridge_state.specs.Telling.{counts_told};
+ghost use Rattle.bridge_endpoint.specs.Telling.{counts_told};
 ghost use Rattle.report_model.specs.Reports.{counts_text, line_text, report, root_text};
 
 use behaviour::RootRun;

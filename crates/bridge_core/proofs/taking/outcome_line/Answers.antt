@@ -2,7 +2,7 @@ use Rattle.std.proofs.Common.{◌≡◌, ◌∙◌, ap, subst, sym, IfOk}
 use Rattle.bridge_model.specs.RootRuns.{line_of, outcome_text}
 use Rattle.bridge_model.specs.Sides.{answer}
 use Rattle.message_model.specs.Messages.{raised}
-use Rattle.bridge_tables.specs.Roots.{outcome_of}
+use Rattle.bridge_endpoint.specs.Telling.{outcome_of}
 use Rattle.plan_types.specs.Statements.{root_statement_of}
 use Rattle.behaviour.specs.Roots.{run_of}
 use Rattle.bridge_core.proofs.AnyLemmas.{any_parts}

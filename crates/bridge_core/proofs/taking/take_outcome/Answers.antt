@@ -3,7 +3,7 @@ use Rattle.bridge_model.specs.Entries.{took}
 use Rattle.bridge_model.specs.RootRuns.{statement_at, takes_outcome}
 use Rattle.bridge_model.specs.Roots.{outcome_in}
 use Rattle.bridge_model.specs.Sides.{state_of}
-use Rattle.bridge_tables.specs.Roots.{outcome_of}
+use Rattle.bridge_endpoint.specs.Telling.{outcome_of}
 use Rattle.plan_types.specs.Statements.{root_statement_of}
 use Rattle.behaviour.specs.Roots.{run_of}
 use Rattle.bridge_endpoint.specs.Journals.{setting_at, side_at, with_entry}

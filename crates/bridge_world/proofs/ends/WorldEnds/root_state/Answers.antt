@@ -1,6 +1,6 @@
 use Rattle.std.proofs.Common.{◌≡◌}
 use Rattle.bridge_model.specs.Sides.{state_of}
-use Rattle.bridge_state.specs.Telling.{state_told}
+use Rattle.bridge_endpoint.specs.Telling.{state_told}
 use Rattle.bridge_world.specs.Joined.{end_at}
 use Rattle.bridge_world.proofs.EndCalls.{seen_by}
 use Rattle.bridge_world.proofs.ends.WorldEnds.root_state.Goals as goal

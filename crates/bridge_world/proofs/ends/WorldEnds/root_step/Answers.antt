@@ -2,8 +2,8 @@ use Rattle.std.proofs.Common.{◌≡◌, ◌↔◌, ◌+◌, length}
 use Rattle.behaviour.specs.Roots.{run_of}
 use Rattle.bridge_model.specs.Sides.{state_of}
 use Rattle.bridge_core.specs.declared.moved.RootMoved.TheVariants as RootMoved
-use Rattle.bridge_state.specs.Telling.{state_told}
-use Rattle.bridge_state.specs.declared.telling.RootState.TheVariants as RootState
+use Rattle.bridge_endpoint.specs.Telling.{state_told}
+use Rattle.bridge_endpoint.specs.Telling as RootState
 use Rattle.bridge_world.specs.Joined.{end_at, joined}
 use Rattle.bridge_world.proofs.EndCalls.{calls_a, calls_b, is_seen, marked_a, marked_b, world_a, world_b}
 use Rattle.bridge_world.proofs.PipingCalls.{both_known}

@@ -5,7 +5,7 @@ use Rattle.bridge_endpoint.specs.Journals.{with_entry}
 use Rattle.bridge_model.specs.Entries.{took}
 use Rattle.bridge_model.specs.Roots.{outcome_in}
 use Rattle.bridge_model.specs.Sides.{state_of}
-use Rattle.bridge_tables.specs.Roots.{outcome_of}
+use Rattle.bridge_endpoint.specs.Telling.{outcome_of}
 use Rattle.bridge_world.proofs.EndCalls.{calls_a, calls_b, did, if_none, if_some, is_seen, marked_a, marked_b, world_a, world_b}
 use Rattle.bridge_world.proofs.OneEntry.{goes_some}
 use Rattle.bridge_world.proofs.Unmarked.{unmark_more}
