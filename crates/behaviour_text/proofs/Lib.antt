@@ -1,3 +1,4 @@
+pub mod CalledLaws
 pub mod CheckLemmas
 pub mod Different
 pub mod FindLemmas
@@ -5,6 +6,7 @@ pub mod FunctionLemmas
 pub mod IndexLemmas
 pub mod ParamLemmas
 pub mod ReadLemmas
+pub mod ScopeLemmas
 pub mod StatementLemmas
 pub mod StepLemmas
 pub mod TermLoops

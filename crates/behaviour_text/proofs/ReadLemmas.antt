@@ -13,10 +13,12 @@ use Rattle.plan_reading_model.specs.TextReading.{comes, wrong}
 use Rattle.plan_model.specs.Forms.{is_line}
 use Rattle.plan_reading_model.proofs.LineLaws.{line_back}
 use Rattle.uno_model.specs.Entities.{Entity}
-use Rattle.behaviour_text.specs.Reading.{Reads, Stops, StopsAt}
+use Rattle.behaviour_text.specs.Checks.{WrongBy}
+use Rattle.behaviour_text.specs.Reading.{Reads}
+use Rattle.behaviour_text.specs.declared.line_error.LineError.{LineError}
+use Rattle.behaviour_text.specs.declared.line_error.LineError.TheVariants as error
 use Rattle.plan_types.specs.declared.plan.Plan as rust
 use Rattle.behaviour_text.specs.declared.error.PlanError.{PlanError}
-use Rattle.behaviour_text.specs.declared.error.PlanError.TheVariants as error
 
 -- ---- lines that say something, and others
 
@@ -28,10 +30,6 @@ module _ (reg : List Entity) (last n : ℕ) (l text : List ℕ) (ls : List (List
   pub says : false ≡ is_skipped text → comes reg last c (said_from n (l ∷ ls)) ≡ comes reg last c (record { number = n; text = text } ∷ said_from (suc n) ls)
   unfolding said_from
   says said = rw (← same, ← said) refl
-
-pub stops_so : (e : PlanError) (v w : Result Plan Wrong) → v ≡ w → Stops e w → Stops e v
-stops_so error.NoMemory v w same stops = tt
-stops_so (error.BadLine n why) v w same stops = same ∙ stops
 
 -- ---- one line, and those behind it
 
@@ -47,13 +45,12 @@ module _ (reg : List Entity) (last n : ℕ) (text : List ℕ) (c : Context) (ns 
   unfolding comes
   reads_wrong l why is reason = rw (is, reason) refl
 
+  pub reads_wrong_by : (l : Line) (e : LineError) (why : LineReason) → line_at reg text ≡ Some l → e ≡ error.Wrong why → WrongBy e (reason_of reg c l) → all ≡ wrong n why
+  reads_wrong_by l e why is same reason = reads_wrong l why is (subst (λ x. WrongBy x (reason_of reg c l)) same reason)
+
   pub reads_right : (l : Line) (d : Context) → line_at reg text ≡ Some l → reason_of reg c l ≡ None → d ≡ behind reg l c → all ≡ comes reg last d ns
   unfolding comes
   reads_right l d is reason here = rw (is, reason, here) refl
-
-  pub stops_there : (l : Line) (e : PlanError) → line_at reg text ≡ Some l → StopsAt n e (reason_of reg c l) → Stops e all
-  stops_there l error.NoMemory is stops = tt
-  stops_there l (error.BadLine m why) is stops = rw stops.0 (reads_wrong l why is stops.1)
 
 pub at_registry : (reg words : List Entity) (text : List ℕ) (found wanted : Option Line) → found ≡ line_at words text → words ≡ reg → found ≡ wanted → line_at reg text ≡ wanted
 at_registry reg words text found wanted reads same is = ap (λ r. line_at r text) (sym same) ∙ sym reads ∙ is

@@ -1,12 +1,11 @@
 -- What a line does, step by step.
-use Rattle.std.proofs.Common.{◌≡◌, ℕ, Bool, true, false, not, List, [], ◌∷◌, ◌++◌, refl, sym, ap, ◌∙◌, Option, None, Some, arith, if◌then◌else◌}
+use Rattle.std.proofs.Common.{◌≡◌, true, false, List, refl, ap, ◌∙◌, Option, None, Some, arith}
 use Rattle.std.specs.Prelude.{is_some}
 use Rattle.plan_model.specs.Building.{behind, with_line, with_result, behind_statement, behind_root_statement}
 use Rattle.plan_model.specs.Contexts.{Scoped, Context, Block, at_top, in_behaviour, in_method, in_thread}
 use Rattle.plan_model.specs.Fitting.{all_fits, statement_fits}
 use Rattle.plan_model.specs.Forms.{is_line}
 use Rattle.plan_model.specs.Keeps.{reason_of, has_form}
-use Rattle.plan_model.specs.LinePlaces.{may_stand}
 use Rattle.plan_model.specs.Lines.{Line}
 use Rattle.plan_model.specs.Lines as line
 use Rattle.plan_model.specs.Plans.{Plan}
@@ -148,3 +147,7 @@ or_late None later = later
 pub reasons : (reg : List Entity) (c : Context) (l : Line) → is_line reg l ≡ true → reason_of reg c l ≡ or_late (early_reason reg c l) (late_reason reg c l)
 unfolding reason_of has_form
 reasons reg c l formed = grind (arith, formed)
+
+-- where there is no early one
+pub late_only : (reg : List Entity) (c : Context) (l : Line) → is_line reg l ≡ true → early_reason reg c l ≡ None → reason_of reg c l ≡ late_reason reg c l
+late_only reg c l formed early = reasons reg c l formed ∙ ap (λ r. or_late r (late_reason reg c l)) early

@@ -1,8 +1,9 @@
 -- Tests of all terms of a list, one after the other.
-use Rattle.std.proofs.Common.{◌≡◌, ℕ, ◌<◌, ◌≤◌, ◌+◌, suc, max, nat_le, Bool, true, false, ◌&&◌, List, [], ◌∷◌, length, map, drop, get_or, refl, sym, ap, ◌∙◌, arith}
+use Rattle.std.proofs.Common.{◌≡◌, ℕ, ◌<◌, ◌≤◌, ◌+◌, max, nat_le, Bool, true, false, ◌&&◌, List, [], ◌∷◌, length, drop, get_or, refl, sym, ap, ◌∙◌, arith}
 use Rattle.std.proofs.lemmas.List.{drop_more, drop_all}
 use Rattle.std.proofs.lemmas.Bool.{and_parts, and_from, leb-true, le-leb}
 use Rattle.std.specs.Bool.{Decides, one_answer}
+use Rattle.std.specs.List.{list_all}
 use Rattle.plan_model.specs.Contexts.{Context}
 use Rattle.plan_model.specs.Forms.{is_root_term, are_root_terms}
 use Rattle.plan_model.specs.KnownNames.{is_term_known, are_terms_known}
@@ -37,6 +38,10 @@ module _ {one : plain.Term → Bool} {all : plain.Terms → Bool} (tests : Tests
 
   pub ends : (ts : List Term) (i : ℕ) → length ts ≤ i → true ≡ all (terms_of (drop i ts))
   ends ts i past = rw (drop_all i ts past) (sym tests.nil)
+
+  pub each_told : (ts : List plain.Term) → all (plain.terms ts) ≡ list_all one ts
+  each_told [] = tests.nil
+  each_told (t ∷ ts) = tests.cons t (plain.terms ts) ∙ ap (λ b. one t && b) (each_told ts)
 
 -- ---- the tests
 

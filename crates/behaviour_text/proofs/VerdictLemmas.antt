@@ -1,13 +1,13 @@
 -- What comes of a text by its front: its size, and its first line.
-use Rattle.std.proofs.Common.{◌≡◌, ◌≢◌, ℕ, ◌+◌, ◌<◌, ◌≤◌, suc, nat_lt, Bool, true, false, List, [], ◌∷◌, length, refl, sym, ap, subst, ◌∙◌, arith}
+use Rattle.std.proofs.Common.{◌≡◌, ◌≢◌, ℕ, ◌+◌, ◌<◌, ◌≤◌, suc, nat_lt, true, false, List, [], ◌∷◌, length, refl, ap, subst, arith}
 use Rattle.std.specs.Prelude.{Result, Ok, Err, IfOk}
 use Rattle.std.specs.Str.{bytes_eq}
 use Rattle.plan_model.specs.Contexts.{opening}
-use Rattle.plan_model.specs.Keeps.{is_too_large, IsTextOf, IsVerdict, Wrong}
+use Rattle.plan_model.specs.Keeps.{is_too_large, IsTextOf, IsVerdict}
 use Rattle.plan_model.specs.Plans.{Plan}
 use Rattle.plan_model.specs.PlanText.{behind_blanks, first_line, lines_of, said_from}
 use Rattle.plan_model.specs.declared.line_reason.LineReason.{LineReason}
-use Rattle.plan_model.specs.declared.line_reason.LineReason.TheVariants.{Form}
+use Rattle.plan_model.specs.declared.line_reason.LineReason.TheVariants.{Form, Limit}
 use Rattle.plan_reading_model.proofs.TextVerdicts.{read_verdict}
 use Rattle.plan_reading_model.specs.TextReading.{comes, verdict, verdict_by}
 use Rattle.plan_types.specs.Plans.{plan_of}
@@ -25,6 +25,18 @@ small bytes within = not_less (length bytes) within
   where
     not_less : (n : ℕ) → n ≤ 4194304 → nat_lt 4194304 n ≡ false
     not_less n few = grind (arith)
+
+-- a text behind the limit is too large
+large : (bytes : List ℕ) → 4194304 < length bytes → is_too_large bytes ≡ true
+unfolding is_too_large
+large bytes long = is_more (length bytes) long
+  where
+    is_more : (n : ℕ) → 4194304 < n → nat_lt 4194304 n ≡ true
+    is_more n many = grind (arith)
+
+pub large_front : (reg : List Entity) (bytes : List ℕ) → 4194304 < length bytes → verdict reg bytes ≡ Err (record { line = 0; reason = Limit })
+unfolding verdict
+large_front reg bytes long = rw (large bytes long) refl
 
 -- a first line that is another one
 pub wrong_front : (reg : List Entity) (bytes first rest : List ℕ) → length bytes ≤ 4194304 → (bytes ≢ [] → lines_of bytes ≡ first ∷ lines_of rest)

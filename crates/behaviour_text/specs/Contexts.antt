@@ -6,7 +6,6 @@ use Rattle.plan_types.specs.Plans.{method_of, plan_of}
 use Rattle.plan_types.specs.Statements.{root_statement_of}
 use Rattle.type_registry.specs.Functions.{function_of}
 use Rattle.behaviour_text.specs.declared.context.OpenBehaviour.{OpenBehaviour}
-use Rattle.behaviour_text.specs.declared.context.OpenMethod.{OpenMethod}
 use Rattle.behaviour_text.specs.declared.context.Block.{Block}
 use Rattle.behaviour_text.specs.declared.context.Block.TheVariants as block
 use Rattle.behaviour_text.specs.declared.context.Context.{Context}

@@ -1,3 +1,4 @@
+pub mod Called
 pub mod Checks
 pub mod Constructors
 pub mod Contexts

@@ -1,8 +1,7 @@
 -- What the reading of a text gives: what the verdict gives, unless memory ran out.
-use Rattle.std.specs.Prelude.{◌≡◌, ℕ, Option, Some, Result, Ok, Err}
+use Rattle.std.specs.Prelude.{◌≡◌, Result, Ok, Err}
 use Rattle.plan_model.specs.Keeps.{Wrong}
 use Rattle.plan_model.specs.Plans as plain
-use Rattle.plan_model.specs.declared.line_reason.LineReason.{LineReason}
 use Rattle.plan_types.specs.Plans.{plan_of}
 use Rattle.plan_types.specs.declared.plan.Plan.{Plan}
 use Rattle.behaviour_text.specs.declared.error.PlanError.{PlanError}
@@ -15,8 +14,3 @@ Stops (error.BadLine n why) verdict = verdict ≡ Err (record { line = n; reason
 abbrev pub Reads : Result Plan PlanError → Result plain.Plan Wrong → Type 0
 Reads (Ok p) verdict = verdict ≡ Ok (plan_of p)
 Reads (Err e) verdict = Stops e verdict
-
--- the same of one line, by its number and the reason for which it is wrong
-abbrev pub StopsAt : ℕ → PlanError → Option LineReason → Type 0
-StopsAt n error.NoMemory reason = Unit {0}
-StopsAt n (error.BadLine m why) reason = (m ≡ n) × (reason ≡ Some why)

@@ -1,14 +1,13 @@
 //! What is given for the parameters of a function.
-ghost use Rattle.std.specs.Prelude.{◌≡◌, ◌++◌, ℕ, List, map, option_map};
+ghost use Rattle.std.specs.Prelude.{◌≡◌, ℕ, List, map, option_map};
 ghost use Rattle.plan_model.specs.Expressions as e;
 ghost use Rattle.plan_model.specs.Typing as typing;
 ghost use Rattle.plan_model.specs.Typing.{variable_in, gets, out_argument};
 ghost use Rattle.plan_types.specs.Expressions.{argument_of};
 ghost use Rattle.plan_lines.specs.Terms.{term_of};
-ghost use Rattle.uno_entities.specs.Entities.{param_of};
+ghost use Rattle.type_registry.specs.Functions.{lent_function, lent_param};
 ghost use Rattle.uno_entities.specs.TypeNames.{kind_of};
 ghost use Rattle.behaviour_text.specs.Checks.{Gives, before};
-ghost use Rattle.behaviour_text.specs.Typed.{behind_list};
 
 use crate::checker::Checker;
 use crate::kinds::{LentKind, same_kind};
@@ -16,69 +15,56 @@ use crate::line_error::LineError;
 use crate::words::kind_of_variable;
 use plan_lines::Term;
 use plan_types::{Argument, LineReason, Word};
-use uno_types::{Name, Param, TypeName, Way};
+use type_registry::{FunctionRef, ParamRef};
+use uno_types::{Name, TypeName, Way};
 
 impl Checker<'_> {
-    /// An argument for each parameter.
+    /// An argument for each parameter: each term fits the one at its place, and there are as many.
     pub(crate) fn arguments_of(
         &self,
-        params: &[Param],
+        called: &FunctionRef<'_>,
         terms: &[Term],
     ) -> Result<Vec<Argument>, LineError>
-        ensures { Gives (λ args. map argument_of args.items) result (typing.arguments_of self.now.registry.now (before self.now) (map param_of params.now) (map term_of terms.now)) }
+        ensures { Gives (λ args. map argument_of args.items) result (typing.arguments_of self.now.registry.now (before self.now) (lent_function called.now).params (map term_of terms.now)) }
     {
         let mut all = Vec::new(self.alloc);
-        self.push_arguments(params, terms, &mut all)?;
-        Ok(all)
-    }
-
-    /// Pushes an argument for each parameter: each term fits the one at its place, and there are as many.
-    fn push_arguments(
-        &self,
-        params: &[Param],
-        terms: &[Term],
-        all: &mut Vec<Argument>,
-    ) -> Result<(), LineError>
-        ensures { Gives (λ _. map argument_of all.new.items) result (behind_list (map argument_of all.old.items) (typing.arguments_of self.now.registry.now (before self.now) (map param_of params.now) (map term_of terms.now))) }
-    {
-        let mut rest = terms;
-        for param in params {
-            let Some((term, behind)) = rest.split_first() else {
+        for term in terms {
+            let Some(param) = called.param(all.len()) else {
                 return Err(LineError::Wrong(LineReason::Misfit));
             };
             let argument = self.argument_of(param, term)?;
             all.push(argument)?;
-            rest = behind;
         }
-        if !rest.is_empty() {
+        let count = called.param_count();
+        if all.len() < count {
             return Err(LineError::Wrong(LineReason::Misfit));
         }
-        Ok(())
+        Ok(all)
     }
 
     /// What is given for a parameter, where it fits.
     #[tactic(auto, unfolding(plan_model::specs::Typing::argument_of))]
-    fn argument_of(&self, param: &Param, term: &Term) -> Result<Argument, LineError>
-        ensures { Gives argument_of result (typing.argument_of self.now.registry.now (before self.now) (param_of param.now) (term_of term.now)) }
+    fn argument_of(&self, param: ParamRef<'_>, term: &Term) -> Result<Argument, LineError>
+        ensures { Gives argument_of result (typing.argument_of self.now.registry.now (before self.now) (lent_param param.entry) (term_of term.now)) }
     {
         match param.way {
-            Way::Into => Ok(Argument::Into(self.expression_of(term, &param.kind)?)),
+            Way::Into => Ok(Argument::Into(self.expression_of(term, param.kind)?)),
             Way::Out => Ok(Argument::Out(self.variable_for(param, term)?)),
             Way::Both => Ok(Argument::Both(self.variable_for(param, term)?)),
         }
     }
 
     /// The variable that gets the value of a parameter which comes out.
-    fn variable_for(&self, param: &Param, term: &Term) -> Result<Name, LineError>
-        ensures { (mk : List ℕ → e.Argument) → Gives mk result (out_argument self.now.registry.now (before self.now) (param_of param.now) mk (variable_in (term_of term.now))) }
+    fn variable_for(&self, param: ParamRef<'_>, term: &Term) -> Result<Name, LineError>
+        ensures { (mk : List ℕ → e.Argument) → Gives mk result (out_argument self.now.registry.now (before self.now) (lent_param param.entry) mk (variable_in (term_of term.now))) }
     {
         let Some(name) = variable_in(term) else {
             return Err(LineError::Wrong(LineReason::Misfit));
         };
-        let Some(from) = kind_of_variable(self.context, name.as_str()) else {
+        let Some(from) = kind_of_variable(self.context, name) else {
             return Err(LineError::Wrong(LineReason::Misfit));
         };
-        if !self.gets(param.way, &param.kind, from) {
+        if !self.gets(param.way, param.kind, from) {
             return Err(LineError::Wrong(LineReason::Misfit));
         }
         Ok(name.copy()?)

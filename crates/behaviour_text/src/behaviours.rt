@@ -5,7 +5,6 @@ ghost use Rattle.std.specs.Str.{bytes_eq};
 ghost use Rattle.plan_model.specs.Contexts.{behaviour_named, behaviour_number, open_behaviours};
 ghost use Rattle.plan_model.specs.KnownNames.{is_behaviour_known};
 ghost use Rattle.plan_types.specs.Plans.{behaviour_of};
-ghost use Rattle.plan_types.specs.declared.plan.Behaviour.{Behaviour};
 ghost use Rattle.behaviour_text.specs.Contexts.{block_of, context_of, open_of};
 ghost use Rattle.behaviour_text.specs.LentBehaviours.{lent_behaviour, listed};
 
@@ -66,19 +65,16 @@ fn open_named<'a>(block: &'a Block, name: &str) -> Option<BehaviourRef<'a>>
     Some(lent_open(behaviour))
 }
 
-fn place_named(behaviours: &[Behaviour], name: &str) -> Option<usize>
-    ensures { result ≡ position (λ (b : Behaviour). bytes_eq name.now b.name) behaviours.now }
-{
-    behaviours
-        .iter()
-        .position(|behaviour| name == behaviour.name.as_str())
-}
-
 /// The place of the first behaviour of this name.
 fn place_of(behaviours: &[Behaviour], name: &str) -> Option<usize>
     ensures { result ≡ position (λ b. bytes_eq name.now b.name) (map behaviour_of behaviours.now) }
 {
-    place_named(behaviours, name)
+    for place in 0..behaviours.len() {
+        if name == behaviours[place].name.as_str() {
+            return Some(place);
+        }
+    }
+    None
 }
 
 fn closed_named<'a>(behaviours: &'a [Behaviour], name: &str) -> Option<BehaviourRef<'a>>

@@ -3,7 +3,6 @@ ghost use Rattle.std.specs.Prelude.{◌≡◌};
 ghost use Rattle.behaviour_text.specs.declared.error.PlanError.TheVariants.{NoMemory};
 
 use plan_types::LineReason;
-use std::alloc::{AllocError, AllocFailed};
 
 /// Why a text is not read.
 #[derive(Clone, Copy, Debug, PartialEq, Eq)]
@@ -11,22 +10,6 @@ pub enum PlanError {
     NoMemory,
     /// The first line that is wrong, by its number from 1, and why; line 0 where the text is too large.
     BadLine(u32, LineReason),
-}
-
-impl From<AllocError> for PlanError {
-    ghost from_gives = { λ _ e. e ≡ NoMemory };
-
-    fn from(_: AllocError) -> PlanError {
-        PlanError::NoMemory
-    }
-}
-
-impl<T: Drop> From<AllocFailed<T>> for PlanError {
-    ghost from_gives = { λ _ e. e ≡ NoMemory };
-
-    fn from(_: AllocFailed<T>) -> PlanError {
-        PlanError::NoMemory
-    }
 }
 
 impl From<uno_base::NoMemory> for PlanError {

@@ -1,15 +1,15 @@
 //! Whether each behaviour that a line of the top or of a behaviour names fits its place.
-ghost use Rattle.std.specs.Prelude.{◌≡◌, ◌↔◌, ◌&&◌, Some, map, option_map, IsTrue};
+ghost use Rattle.std.specs.Prelude.{◌≡◌, ◌↔◌, ◌&&◌, map, option_map, IsTrue};
 ghost use Rattle.std.specs.List.{list_all};
 ghost use Rattle.std.specs.Str.{bytes_eq};
 ghost use Rattle.plan_model.specs.Contexts as plain;
-ghost use Rattle.plan_model.specs.Fitting.{base_of, base_in, serves, serves_all, service_fits, method_fits};
+ghost use Rattle.plan_model.specs.Fitting.{base_of, serves, serves_all, service_fits, method_fits};
 ghost use Rattle.plan_model.specs.Services.{constructors_of};
 ghost use Rattle.plan_model.specs.TypedStatements.{supports_named};
 ghost use Rattle.uno_model.specs.Codes.{same_kind};
 ghost use Rattle.uno_model.specs.Kinds as kd;
 ghost use Rattle.uno_model.specs.Registry.{find_entity};
-ghost use Rattle.uno_entities.specs.Entities.{body_of, constructor_of, entity_of, field_of};
+ghost use Rattle.uno_entities.specs.Entities.{constructor_of, field_of};
 ghost use Rattle.uno_entities.specs.TypeNames.{kind_of};
 ghost use Rattle.behaviour_text.specs.Checks.{before};
 ghost use Rattle.behaviour_text.specs.Constructors.{is_among};
@@ -19,7 +19,7 @@ use crate::behaviours::{BehaviourRef, behaviour_named};
 use crate::checker::Checker;
 use crate::context::Block;
 use crate::kinds::same_kind;
-use uno_types::{Body, Constructor, Entity, Field, Name, Registry, Service, Singleton, TypeName};
+use uno_types::{Body, Constructor, Field, Name, Registry, Service, Singleton, TypeName};
 
 impl Checker<'_> {
     /// A method is of a behaviour that supports the interface.
@@ -56,15 +56,9 @@ impl Checker<'_> {
 fn base_of<'a>(registry: &'a Registry, name: &Name) -> &'a str
     ensures { result.now ≡ base_of (find_entity name.now registry.now) }
 {
-    match registry.find(name.as_str()) {
-        Some(entity) => base_in(entity),
-        None => "",
-    }
-}
-
-fn base_in(entity: &Entity) -> &str
-    ensures { result.now ≡ base_in (body_of entity.now.body) }
-{
+    let Some(entity) = registry.find(name.as_str()) else {
+        return "";
+    };
     match &entity.body {
         Body::Service(Service::New { base, .. }) => base.as_str(),
         Body::Singleton(Singleton::New { base }) => base.as_str(),
@@ -76,15 +70,9 @@ fn base_in(entity: &Entity) -> &str
 fn constructors_of<'a>(registry: &'a Registry, name: &Name) -> &'a [Constructor]
     ensures { map constructor_of result.now ≡ constructors_of (find_entity name.now registry.now) }
 {
-    match registry.find(name.as_str()) {
-        Some(entity) => constructors_in(entity),
-        None => &[],
-    }
-}
-
-fn constructors_in(entity: &Entity) -> &[Constructor]
-    ensures { map constructor_of result.now ≡ constructors_of (Some (entity_of entity.now)) }
-{
+    let Some(entity) = registry.find(name.as_str()) else {
+        return &[];
+    };
     match &entity.body {
         Body::Service(Service::New { constructors, .. }) => constructors.as_slice(),
         _ => &[],

@@ -1,23 +1,20 @@
 //! Functions by their names.
-ghost use Rattle.std.specs.Prelude.{◌≡◌, ℕ, List, ◌++◌, ◌∷◌, [], ◌<◌, None, drop, length, map, option_map, slice_get, IfOk, IfSome, MatchOption, is_some};
+ghost use Rattle.std.specs.Prelude.{◌≡◌, ℕ, List, ◌++◌, map, option_map, IfOk, MatchOption};
 ghost use Rattle.std.specs.List.{find, flat_map};
 ghost use Rattle.std.specs.Str.{bytes_eq};
 ghost use Rattle.plan_model.specs.Contexts.{declared_function, called_function};
-ghost use Rattle.uno_model.specs.Functions.{accessors_of, calls_of, declared_in, functions_of, setter};
-ghost use Rattle.type_registry.specs.Functions.{function_of, functions_at, lent_function};
-ghost use Rattle.uno_entities.specs.Entities.{attribute_of, body_of, member_of};
-ghost use Rattle.plan_model.specs.declared.line_reason.LineReason.TheVariants.{Unknown};
-ghost use Rattle.behaviour_text.specs.Checks.{Gives, Passes};
+ghost use Rattle.uno_model.specs.Functions.{accessors_of, calls_of, declared_in};
+ghost use Rattle.type_registry.specs.Functions.{lent_function};
+ghost use Rattle.type_registry.specs.Met.{names_at};
+ghost use Rattle.uno_entities.specs.Entities.{body_of, member_of};
+ghost use Rattle.behaviour_text.specs.Called.{called_by, called_of};
 
 use crate::checker::Checker;
-use crate::line_error::LineError;
-use plan_types::LineReason;
-use type_registry::{Function, FunctionRef, TableError, function_table};
+use crate::known::is_interface_there;
+use type_registry::{FunctionRef, interfaces_of};
 use uno_base::NoMemory;
-use uno_types::{Attribute, Body, Entity, Member, Name, Registry};
-
-/// How many functions each interface has that no call names: queryInterface, acquire and release.
-const ROOT_FUNCTIONS: usize = 3;
+use uno_entities::X_INTERFACE;
+use uno_types::{Body, Entity, Member, Name, Registry};
 
 /// The function of this name that an interface declares itself.
 #[tactic(auto, unfolding(plan_model::specs::Contexts::declared_function))]
@@ -87,12 +84,6 @@ fn accessor_of<'a>(owner: &'a Name, member: &'a Member, name: &str) -> Option<Fu
     if attribute.read_only {
         return None;
     }
-    setter_of(owner, attribute, name)
-}
-
-fn setter_of<'a>(owner: &'a Name, attribute: &'a Attribute, name: &str) -> Option<FunctionRef<'a>>
-    ensures { option_map lent_function result ≡ find (λ f. bytes_eq name.now f.name) (setter owner.now (attribute_of attribute.now) ∷ []) }
-{
     if is_prefixed("set:", &attribute.name, name) {
         return Some(FunctionRef::Setter { owner, attribute });
     }
@@ -129,52 +120,42 @@ fn behind_prefix<'a>(prefix: &str, text: &'a str) -> Option<&'a str>
     text.strip_prefix(prefix)
 }
 
-impl Checker<'_> {
+impl<'a> Checker<'a> {
     /// The function of this name that a call of an interface may name.
-    #[tactic(auto, unfolding(plan_model::specs::Contexts::called_function))]
-    pub(crate) fn called_function(&self, face: &str, name: &str) -> Result<Function, LineError>
-        ensures { Gives function_of result (called_function self.now.registry.now face.now name.now) }
+    pub(crate) fn called_function(
+        &self,
+        face: &str,
+        name: &str,
+    ) -> Result<Option<FunctionRef<'a>>, NoMemory>
+        ensures { IfOk result (λ found. option_map lent_function found ≡ called_function self.now.registry.now face.now name.now) }
     {
-        let mut table = self.functions_of(face)?;
-        let Some(place) = place_of(&table, name) else {
-            return Err(LineError::Wrong(LineReason::Misfit));
-        };
-        Ok(table.swap_remove(place))
-    }
-
-    /// Refuses a name that no function has which a call of the interface may name.
-    #[tactic(auto, unfolding(plan_model::specs::Contexts::called_function))]
-    pub(crate) fn knows_function(&self, face: &str, name: &str) -> Result<(), LineError>
-        ensures { Passes Unknown result (is_some (called_function self.now.registry.now face.now name.now)) }
-    {
-        let table = self.functions_of(face)?;
-        match place_of(&table, name) {
-            Some(_) => Ok(()),
-            None => Err(LineError::Wrong(LineReason::Unknown)),
+        if !is_interface_there(self.registry, face) {
+            return Ok(None);
         }
-    }
-
-    /// The functions of an interface; what is none has none.
-    fn functions_of(&self, face: &str) -> Result<Vec<Function>, NoMemory>
-        ensures { IfOk result (λ table. functions_at table.items ≡ functions_of self.now.registry.now face.now) }
-    {
-        match function_table(self.alloc, self.registry, face) {
-            Ok(table) => Ok(table),
-            Err(TableError::NoMemory) => Err(NoMemory),
-            Err(TableError::NotInterface) => Ok(Vec::new(self.alloc)),
-        }
+        let faces = interfaces_of(self.alloc, self.registry, face)?;
+        Ok(called_in(self.registry, faces.names(), name))
     }
 }
 
-/// The place of the first function of this name that a call may name.
-fn place_of(table: &[Function], name: &str) -> Option<usize>
-    ensures place { MatchOption result (find (λ f. bytes_eq name.now f.name) (drop 3 (functions_at table.now)) ≡ None) (λ i. find (λ f. bytes_eq name.now f.name) (drop 3 (functions_at table.now)) ≡ slice_get (functions_at table.now) i) }
-    ensures within { IfSome result (λ i. i < length table.now) }
+/// The first function of this name that one of these interfaces declares.
+fn called_in<'a>(registry: &'a Registry, faces: &[&str], name: &str) -> Option<FunctionRef<'a>>
+    ensures { option_map lent_function result ≡ find (λ f. bytes_eq name.now f.name) (called_by registry.now (names_at faces.now)) }
 {
-    for place in ROOT_FUNCTIONS..table.len() {
-        if name == table[place].name.as_str() {
-            return Some(place);
+    for face in faces {
+        if let Some(function) = called_of(registry, face, name) {
+            return Some(function);
         }
     }
     None
+}
+
+/// The function of this name that an interface declares, where that is not XInterface.
+#[tactic(auto, unfolding(plan_model::specs::Contexts::declared_function, crate::specs::Called::called_of))]
+fn called_of<'a>(registry: &'a Registry, face: &str, name: &str) -> Option<FunctionRef<'a>>
+    ensures { option_map lent_function result ≡ find (λ f. bytes_eq name.now f.name) (called_of registry.now face.now) }
+{
+    if face == X_INTERFACE {
+        return None;
+    }
+    declared_function(registry, face, name)
 }

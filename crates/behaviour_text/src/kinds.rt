@@ -6,7 +6,6 @@ ghost use Rattle.plan_model.specs.KnownNames.{is_type_known};
 ghost use Rattle.plan_model.specs.Typing.{is_whole};
 ghost use Rattle.uno_model.specs.Codes.{same_kind};
 ghost use Rattle.uno_model.specs.Kinds.{interface_of};
-ghost use Rattle.uno_model.specs.Kinds as kd;
 ghost use Rattle.uno_model.specs.NamedTypes.{type_of_text};
 ghost use Rattle.uno_model.specs.Reaches.{is_base_of};
 ghost use Rattle.uno_model.specs.Sound.{IsSound};
@@ -109,61 +108,12 @@ impl Checker<'_> {
     pub(crate) fn kind_fits(&self, wanted: &TypeName, from: LentKind<'_>) -> bool
         ensures { result ≡ kind_fits self.now.registry.now (kind_of wanted.now) (lent_kind from.entry) }
     {
-        match wanted {
-            TypeName::Interface(wanted) => self.interface_fits(wanted, from),
-            TypeName::Void
-            | TypeName::Char
-            | TypeName::Boolean
-            | TypeName::Byte
-            | TypeName::Short
-            | TypeName::UnsignedShort
-            | TypeName::Long
-            | TypeName::UnsignedLong
-            | TypeName::Hyper
-            | TypeName::UnsignedHyper
-            | TypeName::Str
-            | TypeName::Kind
-            | TypeName::Any
-            | TypeName::Enum(_)
-            | TypeName::Struct(_)
-            | TypeName::Exception(_)
-            | TypeName::Sequence(_) => is_same(wanted, from),
-        }
-    }
-
-    /// Whether a value of a type fits an interface.
-    fn interface_fits(&self, wanted: &Name, from: LentKind<'_>) -> bool
-        ensures { result ≡ kind_fits self.now.registry.now (kd.interface wanted.now) (lent_kind from.entry) }
-    {
-        match from {
-            LentKind::Interface(name) => self.is_base_of(wanted.as_str(), name.as_str()),
-            LentKind::Whole(kind) => self.whole_fits(wanted, kind),
-        }
-    }
-
-    #[tactic(auto, unfolding(uno_model::specs::Codes::same_kind))]
-    fn whole_fits(&self, wanted: &Name, from: &TypeName) -> bool
-        ensures { result ≡ kind_fits self.now.registry.now (kd.interface wanted.now) (kind_of from.now) }
-    {
-        match from {
-            TypeName::Interface(name) => self.is_base_of(wanted.as_str(), name.as_str()),
-            TypeName::Void
-            | TypeName::Char
-            | TypeName::Boolean
-            | TypeName::Byte
-            | TypeName::Short
-            | TypeName::UnsignedShort
-            | TypeName::Long
-            | TypeName::UnsignedLong
-            | TypeName::Hyper
-            | TypeName::UnsignedHyper
-            | TypeName::Str
-            | TypeName::Kind
-            | TypeName::Any
-            | TypeName::Enum(_)
-            | TypeName::Struct(_)
-            | TypeName::Exception(_)
-            | TypeName::Sequence(_) => false,
+        let Some(base) = wanted.interface() else {
+            return is_same(wanted, from);
+        };
+        match from.face() {
+            Some(name) => self.is_base_of(base.as_str(), name.as_str()),
+            None => false,
         }
     }
 }
@@ -180,7 +130,7 @@ fn is_same(wanted: &TypeName, from: LentKind<'_>) -> bool
 {
     match from {
         LentKind::Interface(name) => wanted.is_interface(name),
-        LentKind::Whole(kind) => same_kind(wanted, kind),
+        LentKind::Whole(kind) => wanted.is(kind),
     }
 }
 

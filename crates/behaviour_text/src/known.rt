@@ -5,6 +5,7 @@ ghost use Rattle.plan_model.specs.Contexts.{declared_function, kind_of_field};
 ghost use Rattle.plan_model.specs.KnownNames.{names_are_known, is_term_known, is_type_known, is_word_known, is_variable_known, is_behaviour_known, is_result_known, is_back_known, is_called_known, is_new_service, is_new_singleton};
 ghost use Rattle.plan_model.specs.TypedStatements.{face_of_word};
 ghost use Rattle.plan_model.specs.declared.line_reason.LineReason.TheVariants.{Unknown};
+ghost use Rattle.uno_model.specs.BuiltIn.{HasBuiltIn};
 ghost use Rattle.uno_model.specs.Sound.{is_there, is_interface};
 ghost use Rattle.plan_types.specs.Expressions.{word_of};
 ghost use Rattle.plan_lines.specs.Lines.{declared_of, line_of};
@@ -22,6 +23,7 @@ use crate::functions::declared_function;
 use crate::line_error::LineError;
 use crate::statements::face_of_word;
 use crate::words::{kind_of_field, kind_of_variable, kind_of_word};
+use entity_rules::{Wanted, is_there};
 use plan_lines::{Declared, Line, Term};
 use plan_types::{LineReason, Word};
 use uno_types::{Body, Name, Registry, Service, Singleton};
@@ -121,9 +123,12 @@ impl Checker<'_> {
     fn knows_called(&self, target: &Word, function: &Name) -> Result<(), LineError>
         ensures { Passes Unknown result (is_called_known self.now.registry.now (face_of_word (before self.now) (word_of target.now)) function.now) }
     {
-        match face_of_word(self.context, target) {
-            Some(face) => self.knows_function(face.as_str(), function.as_str()),
-            None => Ok(()),
+        let Some(face) = face_of_word(self.context, target) else {
+            return Ok(());
+        };
+        match self.called_function(face.as_str(), function.as_str())? {
+            Some(_) => Ok(()),
+            None => Err(LineError::Wrong(LineReason::Unknown)),
         }
     }
 
@@ -158,16 +163,19 @@ pub(crate) fn known(is: bool) -> Result<(), LineError>
 fn are_interfaces(registry: &Registry, names: &[Name]) -> bool
     ensures { result ≡ list_all (is_there registry.now is_interface) names.now }
 {
-    names.iter().all(|name| is_interface_there(registry, name))
+    for name in names {
+        if !is_interface_there(registry, name.as_str()) {
+            return false;
+        }
+    }
+    true
 }
 
-fn is_interface_there(registry: &Registry, name: &Name) -> bool
-    ensures { result ≡ is_there registry.now is_interface name.now }
+pub(crate) fn is_interface_there(registry: &Registry, name: &str) -> bool
+    ensures is { result ≡ is_there registry.now is_interface name.now }
+    ensures built_in { HasBuiltIn registry.now }
 {
-    match registry.find(name.as_str()) {
-        Some(entity) => matches!(&entity.body, Body::Interface { .. }),
-        None => false,
-    }
+    is_there(registry.entities(), Wanted::Interface, name)
 }
 
 fn is_service_there(registry: &Registry, name: &Name) -> bool
@@ -203,7 +211,7 @@ pub(crate) fn is_word_known(context: &Context, word: &Word) -> bool
 fn is_variable_known(context: &Context, name: &Name) -> bool
     ensures { result ≡ is_variable_known (context_of context.now) name.now }
 {
-    kind_of_variable(context, name.as_str()).is_some()
+    kind_of_variable(context, name).is_some()
 }
 
 fn is_field_known(context: &Context, name: &Name) -> bool

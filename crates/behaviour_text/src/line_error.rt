@@ -3,21 +3,13 @@ ghost use Rattle.std.specs.Prelude.{◌≡◌};
 ghost use Rattle.behaviour_text.specs.declared.line_error.LineError.TheVariants.{NoMemory};
 
 use plan_types::LineReason;
-use std::alloc::{AllocError, AllocFailed};
+use std::alloc::AllocFailed;
 
 /// Want of memory, or what is wrong with a line.
 #[derive(Clone, Copy)]
 pub(crate) enum LineError {
     NoMemory,
     Wrong(LineReason),
-}
-
-impl From<AllocError> for LineError {
-    ghost from_gives = { λ _ e. e ≡ NoMemory };
-
-    fn from(_: AllocError) -> LineError {
-        LineError::NoMemory
-    }
 }
 
 impl<T: Drop> From<AllocFailed<T>> for LineError {

@@ -96,7 +96,7 @@ fn all_differ(alloc: Global, names: &[Name]) -> Result<bool, NoMemory>
 fn is_variable(context: &Context, name: &Name) -> bool
     ensures { result ≡ is_variable (context_of context.now) name.now }
 {
-    context.variables.has(name.as_str())
+    context.variables.has(name)
 }
 
 fn is_field(context: &Context, name: &Name) -> bool

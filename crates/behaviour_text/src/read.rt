@@ -1,17 +1,14 @@
 //! The plan that a text says.
-ghost use Rattle.std.specs.Prelude.{◌≡◌, ℕ, suc, ◌+◌, ◌<◌, ◌≤◌, ◌^◌, length, List, ◌∷◌, Ok, Err, IfOk, IfErr, OnOk, IsTrue, None, true, false};
+ghost use Rattle.std.specs.Prelude.{◌≡◌, ℕ, suc, ◌+◌, ◌≤◌, length, List, ◌∷◌, Err, IfOk, IfErr, OnOk};
 ghost use Rattle.plan_model.specs.Contexts.{opening};
-ghost use Rattle.plan_model.specs.Building.{behind};
-ghost use Rattle.plan_model.specs.Forms.{is_line};
-ghost use Rattle.plan_model.specs.Keeps.{at_end, reason_of, IsTextOf, IsVerdict, Wrong};
-ghost use Rattle.plan_lines.specs.Lines.{line_of};
-ghost use Rattle.plan_model.specs.PlanText.{Numbered, said_from, lines_of, lines_behind, begins_plan};
+ghost use Rattle.plan_model.specs.Keeps.{at_end, IsTextOf, IsVerdict};
+ghost use Rattle.plan_model.specs.PlanText.{said_from, lines_of};
 ghost use Rattle.plan_model.specs.declared.line_reason.LineReason.{LineReason};
 ghost use Rattle.uno_model.specs.Sound.{IsSound};
-ghost use Rattle.plan_reading_model.specs.TextReading.{verdict, verdict_by, comes};
+ghost use Rattle.plan_reading_model.specs.TextReading.{comes};
 ghost use Rattle.plan_types.specs.Plans.{plan_of};
 ghost use Rattle.behaviour_text.specs.Contexts.{context_of};
-ghost use Rattle.behaviour_text.specs.Reading.{Reads, Stops, StopsAt};
+ghost use Rattle.behaviour_text.specs.Reading.{Reads, Stops};
 
 mod text;
 
@@ -20,7 +17,7 @@ use crate::context::{Block, Context};
 use crate::line_error::LineError;
 use crate::scope::Scope;
 use crate::step::step;
-use plan_lines::{Line, Words, read_line};
+use plan_lines::{Words, read_line};
 use plan_types::{LineReason, Plan};
 use std::alloc::Global;
 use text::{begins_plan, behind_blanks, is_skipped, next_line, split_line};
@@ -30,18 +27,11 @@ use uno_types::Registry;
 const MOST_BYTES: usize = 4_194_304;
 
 /// The plan that a text says, or the first line of it that is wrong.
+#[tactic(auto, unfolding(plan_reading_model::specs::TextReading::verdict, plan_model::specs::Keeps::is_too_large))]
 pub fn read_plan(alloc: Global, registry: &Registry, bytes: &[u8]) -> Result<Plan, PlanError>
     requires { IsSound registry.now }
     ensures text { IfOk result (λ p. IsTextOf registry.now bytes.now (plan_of p)) }
     ensures refused { (n : ℕ) (why : LineReason) → result ≡ Err (PlanError.BadLine n why) → IsVerdict registry.now bytes.now (Err (record { line = n; reason = why })) }
-{
-    read_text(alloc, registry, bytes)
-}
-
-#[tactic(auto, unfolding(plan_reading_model::specs::TextReading::verdict, plan_model::specs::Keeps::is_too_large))]
-fn read_text(alloc: Global, registry: &Registry, bytes: &[u8]) -> Result<Plan, PlanError>
-    requires { IsSound registry.now }
-    ensures { Reads result (verdict registry.now bytes.now) }
 {
     if bytes.len() > MOST_BYTES {
         return Err(PlanError::BadLine(0, LineReason::Limit));
@@ -126,51 +116,11 @@ fn read_said(
     if is_skipped(text) {
         return Ok(());
     }
-    match read_text_line(alloc, registry, words, context, number, text) {
-        Ok(()) => Ok(()),
-        Err(error) => Err(error),
-    }
-}
-
-/// Reads a line that says something.
-fn read_text_line(
-    alloc: Global,
-    registry: &Registry,
-    words: &Words<'_>,
-    context: &mut Context,
-    number: u32,
-    text: &[u8],
-) -> Result<(), PlanError>
-    requires sound { IsSound registry.now }
-    requires same { words.now ≡ registry.now }
-    ensures on { OnOk result ((last : ℕ) (ns : List Numbered) → comes registry.now last (context_of context.old) (record { number = number; text = text.now } ∷ ns) ≡ comes registry.now last (context_of context.new) ns) }
-    ensures wrong { IfErr result (λ e. (last : ℕ) (ns : List Numbered) → Stops e (comes registry.now last (context_of context.old) (record { number = number; text = text.now } ∷ ns))) }
-{
     let found = read_line(alloc, words, text)?;
     let Some(line) = found else {
         return Err(PlanError::BadLine(number, LineReason::Form));
     };
-    match read_one(alloc, registry, context, number, &line) {
-        Ok(()) => Ok(()),
-        Err(error) => Err(error),
-    }
-}
-
-/// Goes on behind a line.
-fn read_one(
-    alloc: Global,
-    registry: &Registry,
-    context: &mut Context,
-    number: u32,
-    line: &Line,
-) -> Result<(), PlanError>
-    requires sound { IsSound registry.now }
-    requires formed { IsTrue (is_line registry.now (line_of line.now)) }
-    ensures right { OnOk result (reason_of registry.now (context_of context.old) (line_of line.now) ≡ None) }
-    ensures behind { OnOk result (context_of context.new ≡ behind registry.now (line_of line.now) (context_of context.old)) }
-    ensures wrong { IfErr result (λ e. StopsAt number e (reason_of registry.now (context_of context.old) (line_of line.now))) }
-{
-    match step(alloc, registry, context, line) {
+    match step(alloc, registry, context, &line) {
         Ok(()) => Ok(()),
         Err(LineError::NoMemory) => Err(PlanError::NoMemory),
         Err(LineError::Wrong(why)) => Err(PlanError::BadLine(number, why)),

@@ -89,7 +89,7 @@ impl Checker<'_> {
     fn set_variable(&self, name: &Name, term: &Term) -> Result<Statement, LineError>
         ensures { Gives statement_of result (typed.set_of self.now.registry.now (before self.now) (s.set_variable name.now) (plain.kind_of_variable (before self.now) name.now) (term_of term.now)) }
     {
-        let Some(kind) = kind_of_variable(self.context, name.as_str()) else {
+        let Some(kind) = kind_of_variable(self.context, name) else {
             return Err(LineError::Wrong(LineReason::Misfit));
         };
         let name = name.copy()?;
@@ -112,7 +112,7 @@ impl Checker<'_> {
     fn drop_of(&self, name: &Name) -> Result<Statement, LineError>
         ensures { Gives statement_of result (typed.drop_of (before self.now) name.now) }
     {
-        if self.context.variables.comes_out(name.as_str()) {
+        if self.context.variables.comes_out(name) {
             return Err(LineError::Wrong(LineReason::Misfit));
         }
         Ok(Statement::Drop(name.copy()?))

@@ -1,5 +1,5 @@
 //! A line behind those before it: the reason for which it is wrong, or what stands behind it.
-ghost use Rattle.std.specs.Prelude.{◌≡◌, false, true, is_some, Some, IsTrue, IfOk, OnOk};
+ghost use Rattle.std.specs.Prelude.{◌≡◌, false, true, is_some, Some, IsTrue, OnOk};
 ghost use Rattle.plan_model.specs.Building.{behind};
 ghost use Rattle.plan_model.specs.Fitting.{all_fits};
 ghost use Rattle.plan_model.specs.Forms.{is_line};
@@ -41,7 +41,13 @@ pub(crate) fn step(
     ensures behind { OnOk result (context_of context.new ≡ behind registry.now (line_of line.now) (context_of context.old)) }
 {
     check_names(alloc, registry, context, line)?;
-    late_step(alloc, registry, context, line)
+    if !is_statement(line) {
+        return block_step(alloc, registry, context, line);
+    }
+    if is_thread(&context.block) {
+        return thread_step(alloc, registry, context, line);
+    }
+    method_step(alloc, registry, context, line)
 }
 
 /// Refuses a line that may not stand there, or of which a name is not known or not new.
@@ -69,21 +75,19 @@ fn check_names(
     Ok(())
 }
 
-/// The other reasons, and what stands behind.
+/// The other reasons of a line that is no statement, and what stands behind it.
 #[tactic(auto, unfolding(plan_model::specs::Fitting::all_fits, plan_model::specs::Building::behind))]
-fn late_step(
+fn block_step(
     alloc: Global,
     registry: &Registry,
     context: &mut Context,
     line: &Line,
 ) -> Result<(), LineError>
-    requires { IsSound registry.now }
+    requires sound { IsSound registry.now }
+    requires other { is_statement (line_of line.now) ≡ false }
     ensures reason { Clears result (late_reason registry.now (context_of context.old) (line_of line.now)) }
     ensures behind { OnOk result (context_of context.new ≡ behind registry.now (line_of line.now) (context_of context.old)) }
 {
-    if is_statement(line) {
-        return statement_step(alloc, registry, context, line);
-    }
     if !line_fits(alloc, registry, context, line) {
         return Err(LineError::Wrong(LineReason::Misfit));
     }
@@ -159,24 +163,6 @@ fn go_behind(
     }
 }
 
-/// The other reasons of a statement, and what stands behind it.
-fn statement_step(
-    alloc: Global,
-    registry: &Registry,
-    context: &mut Context,
-    line: &Line,
-) -> Result<(), LineError>
-    requires sound { IsSound registry.now }
-    requires is { is_statement (line_of line.now) ≡ true }
-    ensures reason { Clears result (late_reason registry.now (context_of context.old) (line_of line.now)) }
-    ensures behind { OnOk result (context_of context.new ≡ behind registry.now (line_of line.now) (context_of context.old)) }
-{
-    if is_thread(&context.block) {
-        return thread_step(alloc, registry, context, line);
-    }
-    method_step(alloc, registry, context, line)
-}
-
 /// Whether the block is that of a root.
 fn is_thread(block: &Block) -> bool
     ensures { result ≡ is_thread (block_of block.now) }
@@ -184,6 +170,7 @@ fn is_thread(block: &Block) -> bool
     matches!(block, Block::Thread(_))
 }
 
+/// The other reasons of a statement of a method, and what stands behind it.
 fn method_step(
     alloc: Global,
     registry: &Registry,
@@ -194,22 +181,6 @@ fn method_step(
     ensures reason { Clears result (by_found (is_some (typed.statement_of registry.now (context_of context.old) (line_of line.now))) (context_of context.old) (line_of line.now)) }
     ensures behind { OnOk result (context_of context.new ≡ with_method_statement (typed.statement_of registry.now (context_of context.old) (line_of line.now)) (context_of context.old)) }
 {
-    let statement = method_statement(alloc, registry, context, line)?;
-    push_statement(alloc, context, statement)?;
-    Ok(())
-}
-
-/// The statement of a method that a line is, where that fits and there is room for it.
-fn method_statement(
-    alloc: Global,
-    registry: &Registry,
-    context: &Context,
-    line: &Line,
-) -> Result<Statement, LineError>
-    requires { IsSound registry.now }
-    ensures reason { Clears result (by_found (is_some (typed.statement_of registry.now (context_of context.now) (line_of line.now))) (context_of context.now) (line_of line.now)) }
-    ensures statement { IfOk result (λ s. typed.statement_of registry.now (context_of context.now) (line_of line.now) ≡ Some (statement_of s)) }
-{
     let checker = Checker {
         alloc,
         registry,
@@ -219,7 +190,8 @@ fn method_statement(
     if !keeps_limits(context, line) {
         return Err(LineError::Wrong(LineReason::Limit));
     }
-    Ok(statement)
+    push_statement(alloc, context, statement)?;
+    Ok(())
 }
 
 /// A statement more of the open method, and the variables behind it.
@@ -240,6 +212,7 @@ fn push_statement(
     }
 }
 
+/// The other reasons of a statement of a root, and what stands behind it.
 fn thread_step(
     alloc: Global,
     registry: &Registry,
@@ -250,22 +223,6 @@ fn thread_step(
     ensures reason { Clears result (by_found (is_some (typed.root_statement_of registry.now (context_of context.old) (line_of line.now))) (context_of context.old) (line_of line.now)) }
     ensures behind { OnOk result (context_of context.new ≡ with_thread_statement (typed.root_statement_of registry.now (context_of context.old) (line_of line.now)) (context_of context.old)) }
 {
-    let statement = thread_statement(alloc, registry, context, line)?;
-    push_root_statement(alloc, context, statement)?;
-    Ok(())
-}
-
-/// The statement of a root that a line is, where that fits and there is room for it.
-fn thread_statement(
-    alloc: Global,
-    registry: &Registry,
-    context: &Context,
-    line: &Line,
-) -> Result<RootStatement, LineError>
-    requires { IsSound registry.now }
-    ensures reason { Clears result (by_found (is_some (typed.root_statement_of registry.now (context_of context.now) (line_of line.now))) (context_of context.now) (line_of line.now)) }
-    ensures statement { IfOk result (λ s. typed.root_statement_of registry.now (context_of context.now) (line_of line.now) ≡ Some (root_statement_of s)) }
-{
     let checker = Checker {
         alloc,
         registry,
@@ -275,7 +232,8 @@ fn thread_statement(
     if !keeps_limits(context, line) {
         return Err(LineError::Wrong(LineReason::Limit));
     }
-    Ok(statement)
+    push_root_statement(alloc, context, statement)?;
+    Ok(())
 }
 
 /// A statement more of the open root, and the variables behind it.

@@ -26,7 +26,7 @@ pub(crate) fn scope_behind(
         Statement::Query(query) => add_interface(variables, &query.to, &query.wanted),
         Statement::Make(making) => add_interface(variables, &making.to, &making.face),
         Statement::Drop(name) => {
-            variables.remove(name.as_str());
+            variables.remove(name);
             Ok(())
         }
         Statement::SetVariable(_, _)
@@ -57,7 +57,7 @@ pub(crate) fn scope_behind_root(
         RootStatement::Query(query) => add_interface(variables, &query.to, &query.wanted),
         RootStatement::Make(making) => add_interface(variables, &making.to, &making.face),
         RootStatement::Drop(name) => {
-            variables.remove(name.as_str());
+            variables.remove(name);
             Ok(())
         }
         RootStatement::Same(_, _) | RootStatement::Dispose => Ok(()),

@@ -10,11 +10,11 @@ use crate::context::{Block, Context};
 use crate::kinds::LentKind;
 use plan_types::Word;
 use uno_base::NoMemory;
-use uno_types::TypeName;
+use uno_types::{Name, TypeName};
 
 /// The type of a variable.
 #[tactic(auto, unfolding(plan_model::specs::Contexts::kind_of_variable))]
-pub(crate) fn kind_of_variable<'a>(context: &'a Context, name: &str) -> Option<&'a TypeName>
+pub(crate) fn kind_of_variable<'a>(context: &'a Context, name: &Name) -> Option<&'a TypeName>
     ensures { option_map (λ k. kind_of k.now) result ≡ kind_of_variable (context_of context.now) name.now }
 {
     context.variables.kind(name)
@@ -54,7 +54,7 @@ pub(crate) fn kind_of_word<'a>(context: &'a Context, word: &Word) -> Option<Lent
     ensures { option_map lent_kind result ≡ kind_of_word (context_of context.now) (word_of word.now) }
 {
     match word {
-        Word::Variable(name) => lent(kind_of_variable(context, name.as_str())),
+        Word::Variable(name) => lent(kind_of_variable(context, name)),
         Word::Field(name) => lent(kind_of_field(context, name.as_str())),
         Word::Own => own_kind(&context.block),
     }

@@ -57,9 +57,6 @@ impl Checker<'_> {
     pub(crate) fn knows_terms(&self, terms: &[Term]) -> Result<(), LineError>
         ensures { Passes Unknown result (list_all (is_term_known self.now.registry.now (before self.now)) (map term_of terms.now)) }
     {
-        for term in terms {
-            self.knows_term(term)?;
-        }
-        Ok(())
+        self.knows_parts(terms)
     }
 }

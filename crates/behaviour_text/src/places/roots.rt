@@ -46,10 +46,5 @@ fn are_root_terms(terms: &[Term]) -> bool
 pub(crate) fn are_root_arguments(terms: &[Term]) -> bool
     ensures { result ≡ list_all is_root_term (map term_of terms.now) }
 {
-    for term in terms {
-        if !is_root_term(term) {
-            return false;
-        }
-    }
-    true
+    are_root_terms(terms)
 }

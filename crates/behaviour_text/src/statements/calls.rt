@@ -1,5 +1,6 @@
 //! Calls, queries and new objects.
 ghost use Rattle.std.specs.Prelude.{◌≡◌, Some, map, option_map, IfOk};
+ghost use Rattle.plan_model.specs.Contexts.{kind_fits};
 ghost use Rattle.plan_model.specs.Evaluation.{both_values};
 ghost use Rattle.plan_model.specs.TypedStatements as typed;
 ghost use Rattle.plan_model.specs.TypedStatements.{face_of_word, supports_named};
@@ -9,8 +10,9 @@ ghost use Rattle.plan_types.specs.Expressions.{word_of};
 ghost use Rattle.plan_types.specs.Statements.{call_of, callee_of, making_of, query_of};
 ghost use Rattle.plan_lines.specs.Lines.{declared_of};
 ghost use Rattle.plan_lines.specs.Terms.{term_of};
-ghost use Rattle.type_registry.specs.Functions.{function_of};
-ghost use Rattle.uno_entities.specs.Entities.{field_of, param_of};
+ghost use Rattle.type_registry.specs.Functions.{lent_function};
+ghost use Rattle.uno_entities.specs.Entities.{field_of};
+ghost use Rattle.uno_entities.specs.TypeNames.{kind_of};
 ghost use Rattle.behaviour_text.specs.Checks.{Gives, before};
 ghost use Rattle.behaviour_text.specs.Contexts.{context_of};
 ghost use Rattle.behaviour_text.specs.LentBehaviours.{lent_behaviour};
@@ -23,9 +25,9 @@ use crate::line_error::LineError;
 use crate::words::{copy_word, kind_of_word};
 use plan_lines::{Declared, Term};
 use plan_types::{Call, Callee, LineReason, Making, Query, Word};
-use type_registry::Function;
+use type_registry::FunctionRef;
 use uno_base::NoMemory;
-use uno_types::{Field, Name};
+use uno_types::{Field, Name, TypeName};
 
 /// The name of the interface of what a word stands for.
 pub(crate) fn face_of_word<'a>(context: &'a Context, word: &Word) -> Option<&'a Name>
@@ -49,24 +51,28 @@ impl Checker<'_> {
         let Some(face) = face_of_word(self.context, target) else {
             return Err(LineError::Wrong(LineReason::Misfit));
         };
-        let called = self.called_function(face.as_str(), function.as_str())?;
-        let call = self.call_with(to, target, &called, terms)?;
-        Ok(call)
+        let found = self.called_function(face.as_str(), function.as_str())?;
+        let Some(called) = found else {
+            return Err(LineError::Wrong(LineReason::Misfit));
+        };
+        self.call_with(to, target, function, &called, terms)
     }
 
     fn call_with(
         &self,
         to: &Option<Declared>,
         target: &Word,
-        called: &Function,
+        function: &Name,
+        called: &FunctionRef<'_>,
         terms: &[Term],
     ) -> Result<Call, LineError>
-        ensures { Gives call_of result (both_values (typing.arguments_of self.now.registry.now (before self.now) (function_of called.now).params (map term_of terms.now)) (typed.result_field self.now.registry.now (function_of called.now) (option_map declared_of to.now)) (typed.call_with (word_of target.now) (function_of called.now))) }
+        requires { function.now ≡ (lent_function called.now).name }
+        ensures { Gives call_of result (both_values (typing.arguments_of self.now.registry.now (before self.now) (lent_function called.now).params (map term_of terms.now)) (typed.result_field self.now.registry.now (lent_function called.now) (option_map declared_of to.now)) (typed.call_with (word_of target.now) (lent_function called.now))) }
     {
         let target = copy_word(target)?;
-        let callee = callee_of(called)?;
+        let callee = callee_of(called.owner(), function)?;
         let to = self.result_field(called, to)?;
-        let arguments = self.arguments_of(&called.params, terms)?;
+        let arguments = self.arguments_of(called, terms)?;
         Ok(Call {
             target,
             callee,
@@ -78,19 +84,28 @@ impl Checker<'_> {
     /// The variable of a result, which the result's type has to fit.
     fn result_field(
         &self,
-        called: &Function,
+        called: &FunctionRef<'_>,
         to: &Option<Declared>,
     ) -> Result<Option<Field>, LineError>
-        ensures { Gives (λ to. option_map field_of to) result (typed.result_field self.now.registry.now (function_of called.now) (option_map declared_of to.now)) }
+        ensures { Gives (λ to. option_map field_of to) result (typed.result_field self.now.registry.now (lent_function called.now) (option_map declared_of to.now)) }
     {
         let Some(declared) = to else {
             return Ok(None);
         };
         let field = self.declared_field(declared)?;
-        if !self.kind_fits(&field.kind, LentKind::Whole(&called.result)) {
+        if !self.result_fits(&field.kind, called) {
             return Err(LineError::Wrong(LineReason::Misfit));
         }
         Ok(Some(field))
+    }
+
+    fn result_fits(&self, wanted: &TypeName, called: &FunctionRef<'_>) -> bool
+        ensures { result ≡ kind_fits self.now.registry.now (kind_of wanted.now) (lent_function called.now).result_kind }
+    {
+        match called.result() {
+            Some(kind) => self.kind_fits(wanted, LentKind::Whole(kind)),
+            None => self.kind_fits(wanted, LentKind::Whole(&TypeName::Void)),
+        }
     }
 
     /// A query of the target for an interface.
@@ -152,11 +167,11 @@ impl Checker<'_> {
     }
 }
 
-fn callee_of(called: &Function) -> Result<Callee, NoMemory>
-    ensures { IfOk result (λ callee. callee_of callee ≡ record { owner = (function_of called.now).owner; name = (function_of called.now).name }) }
+fn callee_of(owner: &Name, name: &Name) -> Result<Callee, NoMemory>
+    ensures { IfOk result (λ callee. callee_of callee ≡ record { owner = owner.now; name = name.now }) }
 {
-    let owner = called.owner.copy()?;
-    let name = called.name.copy()?;
+    let owner = owner.copy()?;
+    let name = name.copy()?;
     Ok(Callee { owner, name })
 }
 

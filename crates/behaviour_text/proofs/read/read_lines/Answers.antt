@@ -1,4 +1,3 @@
-use Rattle.std.proofs.lemmas.List.{nil_from_length}
 use Rattle.behaviour_text.proofs.ReadLemmas.{none_left, reads_so}
 use Rattle.behaviour_text.proofs.read.read_lines.Goals as goal
 

@@ -1,4 +1,4 @@
-use Rattle.std.proofs.Common.{sym, ◌∙◌}
+use Rattle.std.proofs.Common.{◌∙◌}
 use Rattle.behaviour_text.proofs.TermLoops.{depth_tests, stops, goes_on, ends}
 use Rattle.behaviour_text.proofs.limits.nesting.+depth.Goals as goal
 
