@@ -1,3 +1,4 @@
+pub mod KeyLemmas
 pub mod LoopLemmas
 pub mod OrderLemmas
 pub mod PlaceLemmas

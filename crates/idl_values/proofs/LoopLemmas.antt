@@ -20,7 +20,7 @@ use Rattle.idl_trees.specs.Names.{place_of}
 use Rattle.idl_trees.specs.declared.place.Place as code
 use Rattle.idl_values.specs.Graph.{origin_places, places_from, used_place}
 use Rattle.idl_values.specs.Origins.{AddsOrigins, all_origins, constant_origins, item_origins, origin_behind, origin_of, origins_in, origins_of}
-use Rattle.idl_values.specs.Told.{later, number_at, number_told}
+use Rattle.idl_values.specs.Told.{later, mapped_at, number_told}
 use Rattle.idl_values.specs.declared.origins.Origin.{Origin}
 
 -- ---- origins
@@ -122,7 +122,7 @@ noted_last : (b : Bool) (n : ℕ) (o : Option ℕ) → later o (if b then Some n
 noted_last true n o = refl
 noted_last false n o = refl
 
-pub number_nowhere : (numbers : BTreeMap (ℕ × ℕ) ℕ) → tree.IsEmpty numbers → (p : Place) → number_at numbers p ≡ None
+pub number_nowhere : (numbers : BTreeMap (ℕ × ℕ) ℕ) → tree.IsEmpty numbers → (p : Place) → mapped_at numbers p ≡ None
 number_nowhere numbers empty p = rw empty refl
 
 pub nothing_told : (p : Place) → None ≡ number_told [] p
@@ -154,9 +154,9 @@ same_number x y = by_less (nat_lt x y) refl (x == y) refl
     by_less false is false also = refl
 
 pub noted_at_place : (old new : BTreeMap (ℕ × ℕ) ℕ) (place : code.Place) (w : Option ℕ) → tree.Updates key_cmp old new (place.file, place.byte) w
-    → (p : Place) → number_at new p ≡ cond (is_at (place_of place) p) w (number_at old p)
+    → (p : Place) → mapped_at new p ≡ cond (is_at (place_of place) p) w (mapped_at old p)
 noted_at_place old new place w up p =
-    up.0 (p.file, p.byte) ∙ ap (λ b. cond b w (number_at old p)) (both_equal (nat_cmp place.file p.file) (nat_cmp place.byte p.byte) ∙ (λ i. same_number place.file p.file i && same_number place.byte p.byte i))
+    up.0 (p.file, p.byte) ∙ ap (λ b. cond b w (mapped_at old p)) (both_equal (nat_cmp place.file p.file) (nat_cmp place.byte p.byte) ∙ (λ i. same_number place.file p.file i && same_number place.byte p.byte i))
 
 -- ---- rows
 

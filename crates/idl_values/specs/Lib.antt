@@ -1,4 +1,5 @@
 pub mod Graph
+pub mod Keys
 pub mod Known
 pub mod Origins
 pub mod Places

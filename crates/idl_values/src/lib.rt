@@ -3,6 +3,7 @@
 
 mod expression;
 mod graph;
+mod keyed;
 mod origins;
 mod table;
 mod told;

@@ -1,11 +1,13 @@
 //! What the names that are used stand for, by the places where they are used.
-ghost use Rattle.std.specs.Prelude.{◌≡◌, IfOk, None, OnOk, Some, cond, get_or};
+ghost use Rattle.std.specs.Prelude.{◌≡◌, IfOk, None, OnOk, Some, cond, map, true};
 ghost use Rattle.idl_model.specs.Places as plain;
 ghost use Rattle.idl_model.specs.Places.{is_at};
 ghost use Rattle.idl_trees.specs.Names.{path_of, place_of};
+ghost use Rattle.idl_values.specs.Keys.{AreKeys, do_rise};
 ghost use Rattle.idl_values.specs.Places.{known_by};
-ghost use Rattle.idl_values.specs.Told.{number_at, number_told};
+ghost use Rattle.idl_values.specs.Told.{mapped_at, number_at, number_told};
 
+use crate::keyed::{Keyed, do_rise, keys_of};
 use idl_trees::{Path, Place};
 use std::alloc::Global;
 use std::collections::BTreeMap;
@@ -14,24 +16,66 @@ use uno_base::NoMemory;
 /// Numbers of paths, by the files and bytes of places.
 #[derive(Drop)]
 pub struct Told {
-    numbers: BTreeMap<(u32, u32), u32>,
+    numbers: Numbers,
+}
+
+/// Numbers beside the keys of their places, where these rise, as those of names do that are told in their order; or else in a map.
+#[derive(Drop)]
+enum Numbers {
+    Keyed(Keyed),
+    Mapped(BTreeMap<(u32, u32), u32>),
 }
 
 /// The numbers that are told at these places.
 pub fn places_told(alloc: Global, names: &[(Place, u32)]) -> Result<Told, NoMemory>
     ensures { IfOk result (λ told. (p : plain.Place) → number_at told.numbers p ≡ number_told names.now p) }
 {
-    let mut told = Told {
-        numbers: BTreeMap::new(alloc),
-    };
-    for name in names {
-        note(&mut told.numbers, name.0, name.1)?;
+    let keys = keys_of(alloc, names)?;
+    if do_rise(keys.as_slice()) {
+        return told_by_keys(alloc, names, keys);
     }
-    Ok(told)
+    told_by_map(alloc, names)
+}
+
+// ---- by keys
+
+fn told_by_keys(alloc: Global, names: &[(Place, u32)], keys: Vec<u64>) -> Result<Told, NoMemory>
+    requires keys { AreKeys names.now keys.items }
+    requires rise { do_rise keys.items ≡ true }
+    ensures { IfOk result (λ told. (p : plain.Place) → number_at told.numbers p ≡ number_told names.now p) }
+{
+    let numbers = numbers_of(alloc, names)?;
+    Ok(Told {
+        numbers: Numbers::Keyed(Keyed { keys, numbers }),
+    })
+}
+
+fn numbers_of(alloc: Global, names: &[(Place, u32)]) -> Result<Vec<u32>, NoMemory>
+    ensures { IfOk result (λ numbers. numbers.items ≡ map (λ name. name.1) names.now) }
+{
+    let mut numbers = Vec::with_capacity(alloc, names.len())?;
+    for name in names {
+        numbers.push(name.1)?;
+    }
+    Ok(numbers)
+}
+
+// ---- by a map
+
+fn told_by_map(alloc: Global, names: &[(Place, u32)]) -> Result<Told, NoMemory>
+    ensures { IfOk result (λ told. (p : plain.Place) → number_at told.numbers p ≡ number_told names.now p) }
+{
+    let mut numbers = BTreeMap::new(alloc);
+    for name in names {
+        note(&mut numbers, name.0, name.1)?;
+    }
+    Ok(Told {
+        numbers: Numbers::Mapped(numbers),
+    })
 }
 
 fn note(numbers: &mut BTreeMap<(u32, u32), u32>, place: Place, number: u32) -> Result<(), NoMemory>
-    ensures { OnOk result ((p : plain.Place) → number_at numbers.new p ≡ cond (is_at (place_of place) p) (Some number) (number_at numbers.old p)) }
+    ensures { OnOk result ((p : plain.Place) → mapped_at numbers.new p ≡ cond (is_at (place_of place) p) (Some number) (mapped_at numbers.old p)) }
 {
     numbers.insert((place.file, place.byte), number)?;
     Ok(())
@@ -42,7 +86,10 @@ impl Told {
     pub fn at(&self, place: Place) -> Option<u32>
         ensures { result ≡ number_at self.now.numbers (place_of place) }
     {
-        self.numbers.get(&(place.file, place.byte)).copied()
+        match &self.numbers {
+            Numbers::Keyed(keyed) => keyed.at(place),
+            Numbers::Mapped(numbers) => numbers.get(&(place.file, place.byte)).copied(),
+        }
     }
 }
 
