@@ -6,6 +6,7 @@ mod NameLemmas
 mod OwnerLemmas
 mod RepeatedLemmas
 pub mod SecondLaws
+mod SumsLemmas
 mod TwinsLemmas
 mod WalkLemmas
 mod WayLemmas

@@ -1,5 +1,5 @@
 -- Names that are met, and lists that are asked, one behind the other.
-use Rattle.std.proofs.Common.{◌≡◌, refl, sym, ap, ap₂, subst, ◌∙◌, ℕ, zero, suc, ◌+◌, ◌<◌, ◌≤◌, inl, inr, true, false, List, [], ◌∷◌, ◌++◌, length, map, take, get_or, append-nil, append_assoc, Option, None, Some, Contains, if◌then◌else◌, arith}
+use Rattle.std.proofs.Common.{◌≡◌, refl, sym, ap, subst, ◌∙◌, ℕ, zero, suc, ◌+◌, ◌<◌, ◌≤◌, inl, inr, true, false, List, [], ◌∷◌, ◌++◌, length, map, take, get_or, append-nil, append_assoc, Option, None, Some, unwrap_or, Contains, if◌then◌else◌, arith}
 use Rattle.std.proofs.lemmas.List.{map-append, take_all}
 use Rattle.std.proofs.lemmas.List.Elements.{Contains-append_cases, Contains-append_left, Contains-append_right}
 use Rattle.std.proofs.lemmas.Grind.{flat_map-append}
@@ -10,10 +10,14 @@ use Rattle.idl_model.specs.Places.{Place}
 use Rattle.idl_model.specs.Trees.{Attribute}
 use Rattle.idl_places.proofs.Steps.{Tells, told_behind}
 use Rattle.idl_repeated_names.specs.Meeting.{Asks, Meets, at_accessor, attribute_named, members_named, methods_named}
-use Rattle.idl_repeated_names.specs.Tables.{IsWithin, all_seconds, seconds}
-use Rattle.idl_repeated_names.specs.Twins.{HasMet, HaveKeys, IsKey, Named, NeedsNoOwn, name_at}
+use Rattle.idl_repeated_names.specs.Sums.{Sums, nothing, summary_of}
+use Rattle.idl_repeated_names.specs.Tables.{IsWithin, second_places}
+use Rattle.idl_repeated_names.specs.Twins.{FindsSeconds, HasMet, HaveKeys, Named, SumsSeconds, name_at}
+use Rattle.idl_repeated_names.specs.Walking.{IsOfLists}
+use Rattle.idl_repeated_names.specs.declared.least.Least.{Least}
 use Rattle.idl_repeated_names.specs.declared.twins.Twins.{Twins}
-use Rattle.idl_repeated_names.proofs.SecondLaws.{more_has, more_in}
+use Rattle.idl_repeated_names.proofs.SecondLaws.{seconds_told}
+use Rattle.idl_repeated_names.proofs.SumsLemmas.{sums_none}
 use Rattle.idl_rules_model.specs.NamesDiffer.{NameAt, second_names}
 use Rattle.idl_trees.specs.Names.{place_of}
 use Rattle.idl_trees.specs.declared.place.Place as code
@@ -24,13 +28,6 @@ use Rattle.uno_entities.specs.declared.entity.Singleton.{Singleton}
 use Rattle.uno_entities.specs.declared.entity.Singleton.TheVariants as singleton
 
 -- ---- names
-
-seconds_then : (own : Place) (ns xs ys : List NameAt) → all_seconds own ns (xs ++ ys) ≡ all_seconds own ns xs ++ all_seconds own (ns ++ xs) ys
-unfolding all_seconds
-seconds_then own ns [] ys = ap (λ ms. all_seconds own ms ys) (sym (append-nil ns))
-seconds_then own ns (x ∷ xs) ys =
-    ap (λ ps. seconds own ns x ++ ps) (seconds_then own (ns ++ x ∷ []) xs ys ∙ ap (λ ms. all_seconds own (ns ++ x ∷ []) xs ++ all_seconds own ms ys) (append_assoc ns (x ∷ []) xs))
-    ∙ sym (append_assoc (seconds own ns x) (all_seconds own (ns ++ x ∷ []) xs) (all_seconds own (ns ++ x ∷ xs) ys))
 
 pub keys_first : (xs ys : List Named) → HaveKeys (xs ++ ys) → HaveKeys xs
 keys_first [] ys have = tt
@@ -45,66 +42,26 @@ keys_both [] ys one other = other
 keys_both (x ∷ xs) ys one other = (one.0, keys_both xs ys one.1 other)
 
 pub meets_none : (t : Twins) → Meets t t []
-unfolding all_seconds
 meets_none t =
     record {
       met = λ ns has. subst (HasMet t) (sym (append-nil ns)) has;
       own = refl;
-      bare = λ so. (so, λ ns own has have more. refl);
-      least = λ ns ps has have more finds. subst (λ qs. FindsLeast qs t.least) (sym (append-nil ps)) finds;
+      least = refl;
+      found = λ ns has have finds. subst (λ ms. FindsSeconds ms t) (sym (append-nil ns)) finds;
     }
 
 pub meets_nothing : (t : Twins) (more : List Named) → more ≡ [] → Meets t t more
 meets_nothing t more none = subst (Meets t t) (sym none) (meets_none t)
-
-pub meets_one : (old new : Twins) (n : Named) → ((ns : List Named) → HasMet old ns → HasMet new (ns ++ n ∷ [])) → new.own ≡ old.own → NeedsNoOwn old new n
-    → ((ns : List Named) (ps : List Place) → HasMet old ns → HaveKeys ns → IsKey n.key → FindsLeast ps old.least → FindsLeast (ps ++ seconds (place_of old.own) (map name_at ns) (name_at n)) new.least)
-    → Meets old new (n ∷ [])
-unfolding all_seconds
-meets_one old new n met own bare least =
-    record {
-      met = met;
-      own = own;
-      bare = λ so. let needs = bare so in (needs.0, λ ns other has have more. ap (λ qs. qs ++ []) (needs.1 ns other has have more.0));
-      least = λ ns ps has have more finds.
-          subst (λ qs. FindsLeast (ps ++ qs) new.least) (sym (append-nil (seconds (place_of old.own) (map name_at ns) (name_at n)))) (least ns ps has have more.0 finds);
-    }
 
 pub meets_then : (old mid new : Twins) (xs ys : List Named) → Meets old mid xs → Meets mid new ys → Meets old new (xs ++ ys)
 meets_then old mid new xs ys first next =
     record {
       met = λ ns has. subst (HasMet new) (append_assoc ns xs ys) (next.met (ns ++ xs) (first.met ns has));
       own = next.own ∙ first.own;
-      bare = λ so.
-          let later = next.bare so in
-          let was = first.bare later.0 in (
-            was.0,
-            λ ns own has have more.
-                let one = keys_first xs ys more in
-                let each : Place → List Place = λ p. all_seconds p (map name_at ns) (map name_at (xs ++ ys)) in
-                let parts : Place → List Place = λ p. all_seconds p (map name_at ns) (map name_at xs) ++ all_seconds p (map name_at (ns ++ xs)) (map name_at ys) in
-                let split : (p : Place) → each p ≡ parts p = λ p.
-                ap (all_seconds p (map name_at ns)) (map-append name_at xs ys) ∙ seconds_then p (map name_at ns) (map name_at xs) (map name_at ys)
-                ∙ ap (λ ms. all_seconds p (map name_at ns) (map name_at xs) ++ all_seconds p ms (map name_at ys)) (sym (map-append name_at ns xs)) in
-                split own
-                ∙ ap₂ (λ qs rs. qs ++ rs) (was.1 ns own has have one)
-                (later.1 (ns ++ xs) own (first.met ns has) (keys_both ns xs have one) (keys_then xs ys more) ∙ ap (λ (o : code.Place). all_seconds (place_of o) (map name_at (ns ++ xs)) (map name_at ys)) first.own)
-                ∙ sym (split (place_of old.own)),
-          );
-      least = λ ns ps has have more finds.
-          let own : Place = place_of old.own in
-          let firsts = all_seconds own (map name_at ns) (map name_at xs) in
-          let nexts = all_seconds own (map name_at (ns ++ xs)) (map name_at ys) in
-          let one = keys_first xs ys more in
-          let so_far = first.least ns ps has have one finds in
-          let all = next.least (ns ++ xs) (ps ++ firsts) (first.met ns has) (keys_both ns xs have one) (keys_then xs ys more) so_far in
-          let same : FindsLeast ((ps ++ firsts) ++ nexts) new.least = subst (λ (o : code.Place). FindsLeast ((ps ++ firsts) ++ all_seconds (place_of o) (map name_at (ns ++ xs)) (map name_at ys)) new.least) first.own all in
-          subst (λ qs. FindsLeast qs new.least)
-          (append_assoc ps firsts nexts
-          ∙ ap (λ qs. ps ++ qs)
-          (ap (λ ms. firsts ++ all_seconds own ms (map name_at ys)) (map-append name_at ns xs) ∙ sym (seconds_then own (map name_at ns) (map name_at xs) (map name_at ys))
-          ∙ ap (all_seconds own (map name_at ns)) (sym (map-append name_at xs ys))))
-          same;
+      least = next.least ∙ first.least;
+      found = λ ns has have finds.
+          let all : HaveKeys ((ns ++ xs) ++ ys) = subst HaveKeys (sym (append_assoc ns xs ys)) have in
+          subst (λ ms. FindsSeconds ms new) (append_assoc ns xs ys) (next.found (ns ++ xs) (first.met ns has) all (first.found ns has (keys_first (ns ++ xs) ys all) finds));
     }
 
 pub meets_on : {X Y : Type 0} (whole : List Y → List Named) (each : Y → List Named) → Tells whole each → (view : X → Y) (xs : List X) (i : ℕ) (x : X) (first now next : Twins) → i < length xs → x ≡ get_or xs i x
@@ -169,14 +126,6 @@ same_least ps qs rs (Some p) to from least =
           elim (Contains-append_cases ps rs q has) [ inl here ↦ least.first q (Contains-append_left ps qs q here) | inr there ↦ least.first q (Contains-append_right ps qs q (from q there)) ];
     }
 
-seconds_in : (own : Place) (names : List NameAt) → IsWithin (all_seconds own [] names) (second_names own names)
-unfolding second_names
-seconds_in own names = more_has own names []
-
-in_seconds : (own : Place) (names : List NameAt) → IsWithin (second_names own names) (all_seconds own [] names)
-unfolding second_names
-in_seconds own names = more_in own names []
-
 -- ---- lists
 
 pub asks_none : (t : Twins) → Asks t t []
@@ -185,18 +134,33 @@ asks_none t = record { own = refl; least = λ ps have finds. subst (λ qs. Finds
 pub asks_nothing : (t : Twins) (lists : List (List Named)) → lists ≡ [] → Asks t t lists
 asks_nothing t lists none = subst (Asks t t) (sym none) (asks_none t)
 
-pub asks_one : (old begun new : Twins) (names : List Named) → HasMet begun [] → begun.own ≡ old.own → begun.least ≡ old.least → Meets begun new names → Asks old new (names ∷ [])
-asks_one old begun new names none own kept meets =
-    record {
-      own = meets.own ∙ own;
+-- these places count, that of the declaration where one is missing
+pub counts_one : (old new : Twins) (found : Least) (lists : List (List Named)) → new.own ≡ old.own
+    → ((them : List (Option Place)) (ps : List Place) → Sums them (summary_of found) → FindsLeast ps old.least → FindsLeast (ps ++ map (λ p. unwrap_or p (place_of old.own)) them) new.least)
+    → IsOfLists lists found → Asks old new lists
+counts_one old new found lists own least of_lists =
+    subst (Asks old new) (sym of_lists.1)
+    (record {
+      own = own;
       least = λ ps have finds.
           let at : Place = place_of old.own in
-          let all : List NameAt = map name_at names in
-          let met : FindsLeast (ps ++ all_seconds (place_of begun.own) [] all) new.least = meets.least [] ps none tt have.0 (subst (λ f. FindsLeast ps f) (sym kept) finds) in
-          let found : FindsLeast (ps ++ all_seconds at [] all) new.least = subst (λ (o : code.Place). FindsLeast (ps ++ all_seconds (place_of o) [] all) new.least) own met in
-          subst (λ qs. FindsLeast (ps ++ qs) new.least) (sym (append-nil (second_names at all)))
-          (same_least ps (all_seconds at [] all) (second_names at all) new.least (seconds_in at all) (in_seconds at all) found);
-    }
+          let all : List NameAt = map name_at of_lists.0 in
+          subst (λ qs. FindsLeast (ps ++ qs) new.least) (sym (append-nil (second_names at all) ∙ seconds_told at all)) (least (second_places all) ps (of_lists.2 have.0) finds);
+    })
+
+pub none_found : (found : Least) → summary_of found ≡ nothing → SumsSeconds [] found
+unfolding second_places
+none_found found is = subst (Sums []) (sym is) sums_none
+
+pub asks_one : (old begun met new : Twins) (names : List Named) → HasMet begun [] → begun.own ≡ old.own → summary_of begun.found ≡ nothing → begun.least ≡ old.least → Meets begun met names → new.own ≡ met.own
+    → ((them : List (Option Place)) (ps : List Place) → Sums them (summary_of met.found) → FindsLeast ps met.least → FindsLeast (ps ++ map (λ p. unwrap_or p (place_of met.own)) them) new.least)
+    → Asks old new (names ∷ [])
+asks_one old begun met new names none own nothing_found kept meets counted counts =
+    counts_one old new met.found (names ∷ []) (counted ∙ meets.own ∙ own)
+    (λ them ps sums finds.
+    subst (λ (o : code.Place). FindsLeast (ps ++ map (λ p. unwrap_or p (place_of o)) them) new.least) (meets.own ∙ own)
+    (counts them ps sums (subst (λ f. FindsLeast ps f) (sym (meets.least ∙ kept)) finds)))
+    (names, refl, λ have. meets.found [] none have (none_found begun.found nothing_found))
 
 pub lists_first : (xs ys : List (List Named)) → AllByRecursion HaveKeys (xs ++ ys) → AllByRecursion HaveKeys xs
 lists_first [] ys all = tt

@@ -1,11 +1,11 @@
 -- The least place of second names over all declarations.
-use Rattle.std.proofs.Common.{◌≡◌, refl, sym, ap, ap₂, subst, ◌∙◌, ℕ, zero, suc, ◌+◌, ◌<◌, ◌≤◌, Bool, true, false, not, ◌&&◌, List, [], ◌∷◌, ◌++◌, map, length, take, get_or, append-nil, Contains, inl, inr, Option, None, Some, option_map, cond, if◌then◌else◌, arith}
+use Rattle.std.proofs.Common.{◌≡◌, refl, sym, ap, ap₂, subst, ◌∙◌, ℕ, zero, suc, ◌+◌, ◌<◌, ◌≤◌, Bool, true, false, not, ◌&&◌, List, [], ◌∷◌, ◌++◌, map, length, take, get_or, append-nil, Option, None, Some, option_map, cond, arith}
 use Rattle.std.proofs.lemmas.Bool.{and_parts}
 use Rattle.std.proofs.lemmas.List.{take_all}
 use Rattle.std.proofs.lemmas.List.Concat.{flat_map-append}
 use Rattle.std.proofs.lemmas.List.Folds.{flat_map-map, list_all-map}
-use Rattle.std.proofs.lemmas.Slice.Eq.{bytes_eq-Decides}
 use Rattle.std.specs.List.{AllByRecursion, filter, find, flat_map, list_all}
+use Rattle.std.specs.Prelude.{IfSome}
 use Rattle.std.specs.Str.{bytes_eq}
 use Rattle.idl_joint_places.specs.Circles.{FindsLeast}
 use Rattle.idl_joint_places.proofs.LoopLemmas.{one_taken}
@@ -18,11 +18,10 @@ use Rattle.idl_names.specs.Collected.{declared_of}
 use Rattle.idl_names.specs.Paths.{Parts}
 use Rattle.idl_names.specs.declared.declaration.Declared as code
 use Rattle.idl_repeated_names.specs.Meeting.{Asks, arguments_named, at_id, member_named, own_lists, parameters_named, property_named}
-use Rattle.idl_repeated_names.specs.Over.{AreNamed, FindsMore, IsNamed, Knows, chain_of, fields_at, fields_named, fields_over, functions_at, functions_named, functions_over, has_kind, lists_left, lists_over, names_over, owned, told}
+use Rattle.idl_repeated_names.specs.Over.{AreNamed, FindsMore, IsNamed, Knows, fields_at, fields_named, fields_over, functions_at, functions_named, functions_over, lists_over, owned, told}
 use Rattle.idl_repeated_names.specs.Twins.{HaveKeys, Named, name_at}
-use Rattle.idl_repeated_names.specs.Walking.{AllAsked, AreAsked, AskedSoFar, IsRight, was_asked}
-use Rattle.idl_repeated_names.specs.declared.over.Kind.{Kind}
-use Rattle.idl_repeated_names.specs.declared.over.Kind.TheVariants.{Functions, Fields}
+use Rattle.idl_repeated_names.specs.Walking.{IsFoundOver, found_at}
+use Rattle.idl_repeated_names.specs.declared.least.Least.{Least}
 use Rattle.idl_repeated_names.specs.declared.owners.Entry.{Entry}
 use Rattle.idl_repeated_names.specs.declared.twins.Twins.{Twins}
 use Rattle.idl_repeated_names.specs.declared.walk.Asked.{Asked}
@@ -31,7 +30,7 @@ use Rattle.idl_repeated_names.proofs.MeetingLemmas.{lists_both, same_least}
 use Rattle.idl_repeated_names.proofs.NameLemmas.{fields_chained, fields_same, ids_named, joined_same, mapped_join, member_same, methods_same, own_fields_same, own_functions_same, parameters_same, property_same, twice_mapped}
 use Rattle.idl_repeated_names.proofs.OwnerLemmas.{Owners, at_index}
 use Rattle.idl_repeated_names.specs.Tables.{IsWithin}
-use Rattle.idl_repeated_names.proofs.SecondLaws.{in_both, in_left, in_none, in_right, itself}
+use Rattle.idl_repeated_names.proofs.SecondLaws.{in_both, in_left, in_right, itself}
 use Rattle.idl_rules_model.specs.NamesDiffer.{NameAt, all_fields, all_functions, fields_of, functions_of_owner, member_name, name_lists, parameter_names, property_name, repeated_names, second_names, without_place, written_at}
 use Rattle.idl_trees.specs.Names.{place_of}
 use Rattle.idl_trees.specs.Trees.{declaration_of}
@@ -41,7 +40,6 @@ use Rattle.uno_model.specs.Entities as uno
 use Rattle.uno_model.specs.Entities.{Entity}
 use Rattle.uno_model.specs.Functions.{Function, declared_by, interfaces_of}
 use Rattle.uno_model.specs.Registry.{find_entity, own_members}
-use Rattle.uno_model.proofs.PlaceLaws.{contains_behind, contains_cases, contains_head}
 
 -- ---- the names of an owner
 
@@ -66,31 +64,6 @@ find_passes passes test (y ∷ ys) x all found = by_test (test y) found (λ more
     by_test : (b : Bool) → cond b (Some y) (find test ys) ≡ Some x → (list_all passes ys ≡ true → find test ys ≡ Some x → passes x ≡ true) → passes x ≡ true
     by_test true is later = sym (ap passes (same_some is)) ∙ parts.0
     by_test false is later = later parts.1 is
-
--- what is found is there, and passes
-find_gives : {X : Type 0} (test : X → Bool) (xs : List X) (x : X) → find test xs ≡ Some x → Contains xs x × (test x ≡ true)
-find_gives test [] x found = let bad : ⊥ = cc in absurd bad
-find_gives test (y ∷ ys) x found = by_test (test y) refl found (λ there. find_gives test ys x there)
-  where
-    same_some : Some y ≡ Some x → y ≡ x
-    same_some is = cc
-
-    by_test : (b : Bool) → test y ≡ b → cond b (Some y) (find test ys) ≡ Some x → (find test ys ≡ Some x → Contains ys x × (test x ≡ true)) → Contains (y ∷ ys) x × (test x ≡ true)
-    by_test true passes is later = let same = same_some is in (subst (Contains (y ∷ ys)) same (contains_head y ys), subst (λ z. test z ≡ true) same passes)
-    by_test false fails is later = let rest = later is in (contains_behind y ys x rest.0, rest.1)
-
--- each of a list that is joined
-joined_has : {X : Type 0} (f : X → List Place) (xs : List X) (x : X) → Contains xs x → IsWithin (f x) (flat_map f xs)
-joined_has f [] x has = absurd (omega (arith, has.1))
-joined_has f (y ∷ ys) x has = elim (contains_cases y ys x has) [
-  | inl here ↦ subst (λ z. IsWithin (f z) (f y ++ flat_map f ys)) here (in_left (f y) (f y) (flat_map f ys) (itself (f y)))
-  | inr there ↦ in_right (f x) (f y) (flat_map f ys) (joined_has f ys x there)
-]
-
-told_there : {X Y : Type 0} (f : X → Y) (xs : List X) (i : ℕ) (x : X) → i < length xs → x ≡ get_or xs i x → Contains (map f xs) (f x)
-told_there f [] i x low is = absurd (omega (arith, low))
-told_there f (y ∷ ys) zero x low is = subst (λ z. Contains (f y ∷ map f ys) (f z)) (sym is) (contains_head (f y) (map f ys))
-told_there f (y ∷ ys) (suc i) x low is = contains_behind (f y) (map f ys) (f x) (told_there f ys i x (omega (arith, low)) is)
 
 inner_spelled : (d : Declared) → has_identifiers d ≡ true → list_all is_spelled (inner_ids d.body) ≡ true
 unfolding has_identifiers
@@ -174,41 +147,8 @@ module _ (ds : List Declared) (own : List ℕ → Option tree.Declaration) (buil
     over_keys reg name (tree.exception base members) = (keys_joined (fields_at own built) _ fields_at_keys, tt)
     over_keys reg name _ = tt
 
-    left_keys : (reg : List Entity) (name : List ℕ) (body : tree.Declaration) (b : Bool) → AllByRecursion HaveKeys (lists_left b own built reg name body)
-    left_keys reg name body true = tt
-    left_keys reg name body false = over_keys reg name body
-
-    all_keys : (reg : List Entity) (name : List ℕ) (body : tree.Declaration) (b : Bool) → list_all is_spelled (inner_ids body) ≡ true
-        → AllByRecursion HaveKeys (own_lists body ++ lists_left b own built reg name body)
-    all_keys reg name body b inner = lists_both (own_lists body) (lists_left b own built reg name body) (own_lists_keys body inner) (left_keys reg name body b)
-
-  -- ---- names over what is declared are in its lists
-
-  functions_listed : (reg : List Entity) (at : Place) (name : List ℕ) (body : tree.Declaration) → has_kind Functions (Some body) ≡ true
-      → IsWithin (second_names at (map name_at (functions_over own built reg name))) (flat_map (second_names at) (name_lists ds reg name body))
-  functions_listed reg at name (tree.interface base members) is =
-      let first : List Place = second_names at (flat_map member_name members) in
-      let functions : List Place = second_names at (all_functions ds reg name) in
-      let rows : List Place = flat_map (second_names at) (map parameter_names members) in
-      subst (λ ns. IsWithin (second_names at ns) (first ++ (functions ++ rows))) (sym (functions_over_same reg name))
-      (in_right functions first (functions ++ rows) (in_left functions functions rows (itself functions)))
-  functions_listed reg at name _ is = let bad : ⊥ = cc in absurd bad
-
-  fields_first : (reg : List Entity) (at : Place) (name : List ℕ) → IsWithin (second_names at (map name_at (fields_over own built reg name))) (second_names at (all_fields ds reg name) ++ [])
-  fields_first reg at name =
-      let fields : List Place = second_names at (all_fields ds reg name) in
-      subst (λ ns. IsWithin (second_names at ns) (fields ++ [])) (sym (fields_over_same reg name)) (in_left fields fields [] (itself fields))
-
-  fields_listed : (reg : List Entity) (at : Place) (name : List ℕ) (body : tree.Declaration) → has_kind Fields (Some body) ≡ true
-      → IsWithin (second_names at (map name_at (fields_over own built reg name))) (flat_map (second_names at) (name_lists ds reg name body))
-  fields_listed reg at name (tree.struct base members) is = fields_first reg at name
-  fields_listed reg at name (tree.exception base members) is = fields_first reg at name
-  fields_listed reg at name _ is = let bad : ⊥ = cc in absurd bad
-
-  over_listed : (kind : Kind) (reg : List Entity) (at : Place) (name : List ℕ) (body : tree.Declaration) → has_kind kind (Some body) ≡ true
-      → IsWithin (second_names at (map name_at (names_over kind own built reg name))) (flat_map (second_names at) (name_lists ds reg name body))
-  over_listed Functions reg at name body is = functions_listed reg at name body is
-  over_listed Fields reg at name body is = fields_listed reg at name body is
+    all_keys : (reg : List Entity) (name : List ℕ) (body : tree.Declaration) → list_all is_spelled (inner_ids body) ≡ true → AllByRecursion HaveKeys (own_lists body ++ lists_over own built reg name body)
+    all_keys reg name body inner = lists_both (own_lists body) (lists_over own built reg name body) (own_lists_keys body inner) (over_keys reg name body)
 
 -- ---- the same places
 
@@ -288,119 +228,48 @@ all_at test [] i x low is all = absurd (omega (arith, low))
 all_at test (y ∷ ys) zero x low is all = ap test is ∙ (and_parts (test y) (list_all test ys) all).0
 all_at test (y ∷ ys) (suc i) x low is all = all_at test ys i x (omega (arith, low)) is (and_parts (test y) (list_all test ys) all).1
 
--- the lists that are left
-module _ (own : Place) (mine over : List (List Named)) where
-  left_within : (b : Bool) → IsWithin (flat_map (each own) (mine ++ (if b then [] else over))) (flat_map (each own) (mine ++ over))
-  left_within false = itself (flat_map (each own) (mine ++ over))
-  left_within true =
-      let first : List Place = flat_map (each own) mine in
-      let second : List Place = flat_map (each own) over in
-      subst (λ ps. IsWithin (flat_map (each own) ps) (flat_map (each own) (mine ++ over))) (sym (append-nil mine))
-      (subst (IsWithin first) (sym (flat_map-append (each own) mine over)) (in_left first first second (itself first)))
+-- what was found over a declaration
+pub found_functions : (asked : Asked) (name : List ℕ) (body : tree.Declaration) (found : Option Least) → found ≡ found_at asked.functions.found name
+    → ((own : List ℕ → Option tree.Declaration) (built reg : List Entity) → lists_over own built reg name body ≡ functions_over own built reg name ∷ []) → IfSome found (IsFoundOver asked name body)
+found_functions asked name body None is one = tt
+found_functions asked name body (Some l) is one = λ own built reg so. (functions_over own built reg name, one own built reg, so.functions_so name l (sym is))
 
-  left_counts : (ps : List Place) (b : Bool) → (b ≡ true → IsWithin (flat_map (each own) over) ps)
-      → IsWithin (flat_map (each own) (mine ++ over)) (ps ++ flat_map (each own) (mine ++ (if b then [] else over)))
-  left_counts ps false counted = in_right (flat_map (each own) (mine ++ over)) ps (flat_map (each own) (mine ++ over)) (itself (flat_map (each own) (mine ++ over)))
-  left_counts ps true counted =
-      let first : List Place = flat_map (each own) mine in
-      let second : List Place = flat_map (each own) over in
-      subst (λ ls. IsWithin (flat_map (each own) (mine ++ over)) (ps ++ flat_map (each own) ls)) (sym (append-nil mine))
-      (subst (λ qs. IsWithin qs (ps ++ first)) (sym (flat_map-append (each own) mine over))
-      (in_both first second (ps ++ first) (in_right first ps first (itself first)) (in_left second ps first (counted refl))))
-
--- what was asked is counted
-over_counted : (at : Place) (own : List ℕ → Option tree.Declaration) (built reg : List Entity) (ps : List Place) (asked : Asked) (name : List ℕ) (body : tree.Declaration)
-    → AreAsked (names_over Functions own built reg) asked.functions.asked ps → AreAsked (names_over Fields own built reg) asked.fields.asked ps → was_asked asked name body ≡ true
-    → IsWithin (flat_map (each at) (lists_over own built reg name body)) ps
-over_counted at own built reg ps asked name (tree.interface base members) functions fields is =
-    subst (λ qs. IsWithin qs ps) (sym (append-nil (second_names at (map name_at (functions_over own built reg name))))) (functions name is at)
-over_counted at own built reg ps asked name (tree.struct base members) functions fields is =
-    subst (λ qs. IsWithin qs ps) (sym (append-nil (second_names at (map name_at (fields_over own built reg name))))) (fields name is at)
-over_counted at own built reg ps asked name (tree.exception base members) functions fields is =
-    subst (λ qs. IsWithin qs ps) (sym (append-nil (second_names at (map name_at (fields_over own built reg name))))) (fields name is at)
-over_counted at own built reg ps asked name _ functions fields is = in_none ps
-
-no_kind : (kind : Kind) → has_kind kind None ≡ true → ⊥
-no_kind Functions is = cc
-no_kind Fields is = cc
+pub found_fields : (asked : Asked) (name : List ℕ) (body : tree.Declaration) (found : Option Least) → found ≡ found_at asked.fields.found name
+    → ((own : List ℕ → Option tree.Declaration) (built reg : List Entity) → lists_over own built reg name body ≡ fields_over own built reg name ∷ []) → IfSome found (IsFoundOver asked name body)
+found_fields asked name body None is one = tt
+found_fields asked name body (Some l) is one = λ own built reg so. (fields_over own built reg name, one own built reg, so.fields_so name l (sym is))
 
 module _ (paths : List Parts) (es : List Entry) (owners : Owners) (built reg : List Entity) (knows : Knows paths es owners built) where
   abbrev ds : List Declared
   ds = map (told paths) es
 
-  abbrev all : List Place
-  all = flat_map (repeated_names ds reg) ds
+  pub least_begins : FindsLeast (flat_map (repeated_names ds reg) (map (told paths) (take 0 es))) None
+  least_begins = refl
 
-  over_declared : (kind : Kind) (name : List ℕ) (o : Option Declared) → declared_as ds name ≡ o → has_kind kind (body_in o) ≡ true
-      → (at : Place) × IsWithin (second_names at (map name_at (names_over kind (owned owners) built reg name))) all
-  unfolding declared_as repeated_names
-  over_declared kind name None found is = absurd (no_kind kind is)
-  over_declared kind name (Some d) found is =
-      let gives = find_gives (λ (k : Declared). not (is_forward k.body) && bytes_eq name (full_name k)) ds d found in
-      let same : name ≡ full_name d = (bytes_eq-Decides name (full_name d)).0 (and_parts (not (is_forward d.body)) (bytes_eq name (full_name d)) gives.1).1 in
-      let listed = over_listed ds (owned owners) built knows.owns knows.is_built kind reg d.name.place name d.body is in
-      let there : IsWithin (second_names d.name.place (map name_at (names_over kind (owned owners) built reg name))) (repeated_names ds reg d) =
-      subst (λ n. IsWithin (second_names d.name.place (map name_at (names_over kind (owned owners) built reg name))) (flat_map (second_names d.name.place) (name_lists ds reg n d.body))) same listed in
-      (d.name.place, λ p has. joined_has (repeated_names ds reg) ds d gives.0 p (there p has))
+  pub least_more : (i : ℕ) (e : Entry) (old new : Option placing.Place) → i < length es → e ≡ get_or es i e
+      → FindsMore old new (own_lists (declaration_of e.declared.body.now) ++ lists_over (owned owners) built reg e.name (declaration_of e.declared.body.now)) (place_of e.declared.name.now.place)
+      → FindsLeast (flat_map (repeated_names ds reg) (map (told paths) (take i es))) old → FindsLeast (flat_map (repeated_names ds reg) (map (told paths) (take (i + 1) es))) new
+  unfolding repeated_names
+  least_more i e old new low is more was =
+      let d : Declared = told paths e in
+      let own : Place = d.name.place in
+      let name : List ℕ = full_name d in
+      let before : List Place = flat_map (repeated_names ds reg) (map (told paths) (take i es)) in
+      let named : e.name ≡ name = at_index (IsNamed paths) es i e low is knows.named in
+      let inside : list_all has_identifiers ds ≡ true = knows.identifiers in
+      let spelled : has_identifiers d ≡ true = all_at (λ (k : Entry). has_identifiers (told paths k)) es i e low is (sym (list_all-map has_identifiers (told paths) es) ∙ inside) in
+      let lists : List (List Named) = own_lists d.body ++ lists_over (owned owners) built reg name d.body in
+      let finds : FindsMore old new lists own = subst (λ n. FindsMore old new (own_lists d.body ++ lists_over (owned owners) built reg n d.body) own) named more in
+      let have : AllByRecursion HaveKeys lists = all_keys ds (owned owners) built knows.owns knows.is_built inside reg name d.body (inner_spelled d spelled) in
+      let alike = lists_alike own ds (owned owners) built knows.owns knows.is_built reg name d.body in
+      let here : List Place = repeated_names ds reg d in
+      subst (λ ps. FindsLeast ps new)
+      (sym (ap (flat_map (repeated_names ds reg)) (one_taken (told paths) es i e low is) ∙ flat_map-append (repeated_names ds reg) (map (told paths) (take i es)) (d ∷ [])
+      ∙ ap (λ ps. before ++ ps) (append-nil here)))
+      (same_least before (flat_map (each own) lists) here new alike.forth alike.back (finds before have was))
 
-  over_keys_of : (kind : Kind) (name : List ℕ) → HaveKeys (names_over kind (owned owners) built reg name)
-  over_keys_of Functions name = keys_joined (functions_at (owned owners) built) (interfaces_of reg name) (functions_at_keys ds (owned owners) built knows.owns knows.is_built knows.identifiers)
-  over_keys_of Fields name = keys_joined (fields_at (owned owners) built) (chain_of reg name) (fields_at_keys ds (owned owners) built knows.owns knows.is_built knows.identifiers)
-
-  pub is_right : (kind : Kind) → IsRight kind (owned owners) built reg all
-  is_right kind =
-      record {
-        keys = over_keys_of kind;
-        declared = λ name is. over_declared kind name (declared_as ds name) refl (sym (ap (has_kind kind) (knows.owns name)) ∙ is);
-      }
-
-  module _ (asked : Asked) (so : AllAsked (names_over Functions (owned owners) built reg) (names_over Fields (owned owners) built reg) all asked) where
-    pub least_begins : AskedSoFar all so.places (flat_map (repeated_names ds reg) (map (told paths) (take 0 es))) asked.fields.least
-    least_begins = record { places = so.places; finds = so.finds; within = so.within; kept = itself so.places; has = in_none so.places }
-
-    pub least_more : (i : ℕ) (e : Entry) (old new : Option placing.Place) → i < length es → e ≡ get_or es i e
-        → FindsMore old new (own_lists (declaration_of e.declared.body.now) ++ lists_left (was_asked asked e.name (declaration_of e.declared.body.now)) (owned owners) built reg e.name (declaration_of e.declared.body.now))
-        (place_of e.declared.name.now.place)
-        → AskedSoFar all so.places (flat_map (repeated_names ds reg) (map (told paths) (take i es))) old
-        → AskedSoFar all so.places (flat_map (repeated_names ds reg) (map (told paths) (take (i + 1) es))) new
-    unfolding repeated_names
-    least_more i e old new low is more was =
-        let d : Declared = told paths e in
-        let own : Place = d.name.place in
-        let name : List ℕ = full_name d in
-        let before : List Place = flat_map (repeated_names ds reg) (map (told paths) (take i es)) in
-        let named : e.name ≡ name = at_index (IsNamed paths) es i e low is knows.named in
-        let inside : list_all has_identifiers ds ≡ true = knows.identifiers in
-        let spelled : has_identifiers d ≡ true = all_at (λ (k : Entry). has_identifiers (told paths k)) es i e low is (sym (list_all-map has_identifiers (told paths) es) ∙ inside) in
-        let mine : List (List Named) = own_lists d.body in
-        let over : List (List Named) = lists_over (owned owners) built reg name d.body in
-        let b : Bool = was_asked asked name d.body in
-        let finds : FindsMore old new (mine ++ (if b then [] else over)) own =
-        subst (λ n. FindsMore old new (mine ++ (if was_asked asked n d.body then [] else lists_over (owned owners) built reg n d.body)) own) named more in
-        let added : List Place = flat_map (each own) (mine ++ (if b then [] else over)) in
-        let have : AllByRecursion HaveKeys (mine ++ (if b then [] else over)) = all_keys ds (owned owners) built knows.owns knows.is_built inside reg name d.body b (inner_spelled d spelled) in
-        let alike = lists_alike own ds (owned owners) built knows.owns knows.is_built reg name d.body in
-        let here : List Place = repeated_names ds reg d in
-        let here_all : IsWithin here all = joined_has (repeated_names ds reg) ds d (told_there (told paths) es i e low is) in
-        let counted : b ≡ true → IsWithin (flat_map (each own) over) was.places =
-        λ yes p has. was.kept p (over_counted own (owned owners) built reg so.places asked name d.body so.functions_so so.fields_so yes p has) in
-        let here_has : IsWithin here (was.places ++ added) = λ p has. left_counts own mine over was.places b counted p (alike.back p has) in
-        record {
-          places = was.places ++ added;
-          finds = finds was.places have was.finds;
-          within = in_both was.places added all was.within (λ p has. here_all p (alike.forth p (left_within own mine over b p has)));
-          kept = in_left so.places was.places added was.kept;
-          has =
-              subst (λ ps. IsWithin ps (was.places ++ added))
-              (sym (ap (flat_map (repeated_names ds reg)) (one_taken (told paths) es i e low is) ∙ flat_map-append (repeated_names ds reg) (map (told paths) (take i es)) (d ∷ [])
-              ∙ ap (λ ps. before ++ ps) (append-nil here)))
-              (in_both before here (was.places ++ added) (in_left before was.places added was.has) here_has);
-        }
-
-    pub least_of_all : (i : ℕ) (least : Option placing.Place) → length es ≤ i → AskedSoFar all so.places (flat_map (repeated_names ds reg) (map (told paths) (take i es))) least → FindsLeast all least
-    least_of_all i least past was =
-        let has : IsWithin all was.places = subst (λ ks. IsWithin (flat_map (repeated_names ds reg) (map (told paths) ks)) was.places) (take_all i es past) was.has in
-        same_least [] was.places all least was.within has was.finds
+  pub least_of_all : (i : ℕ) (least : Option placing.Place) → length es ≤ i → FindsLeast (flat_map (repeated_names ds reg) (map (told paths) (take i es))) least → FindsLeast (flat_map (repeated_names ds reg) ds) least
+  least_of_all i least past was = subst (λ ks. FindsLeast (flat_map (repeated_names ds reg) (map (told paths) ks)) least) (take_all i es past) was
 
 -- ---- all declarations
 

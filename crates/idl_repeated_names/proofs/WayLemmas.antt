@@ -1,5 +1,5 @@
 -- The way goes on, and goes back.
-use Rattle.std.proofs.Common.{◌≡◌, refl, sym, ap, subst, ◌∙◌, ℕ, zero, suc, false, List, [], ◌∷◌, ◌++◌, length, reverse, append-nil, append_assoc, Contains, true, Option, None, Some, Bor}
+use Rattle.std.proofs.Common.{◌≡◌, refl, sym, ap, subst, ◌∙◌, ℕ, zero, suc, List, [], ◌∷◌, ◌++◌, length, reverse, append-nil, append_assoc, Contains, true, Option, None, Some, Bor}
 use Rattle.std.proofs.lemmas.List.{reverse-append}
 use Rattle.std.proofs.lemmas.List.Concat.{flat_map-append}
 use Rattle.std.specs.List.{flat_map}
@@ -7,13 +7,14 @@ use Rattle.std.specs.Prelude.{IfSome, slice_get}
 use Rattle.idl_model.specs.Trees as tree
 use Rattle.idl_repeated_names.specs.Meeting.{Meets}
 use Rattle.idl_repeated_names.specs.Over.{bases_at, chain_of, chain_within, fields_at, functions_at, named_at, names_over}
-use Rattle.idl_repeated_names.specs.Twins.{HasMet, Named}
-use Rattle.idl_repeated_names.specs.Walking.{Descends, GoesBack, IsBack, IsFront, IsOnWay, IsReached, Stands}
+use Rattle.idl_repeated_names.specs.Sums.{nothing, summary_of}
+use Rattle.idl_repeated_names.specs.Twins.{FindsSeconds, HasMet, HaveKeys, Named, SumsSeconds}
+use Rattle.idl_repeated_names.specs.Walking.{Descends, GoesBack, IsFront, IsOnWay, LeadsOver, Stands}
 use Rattle.idl_repeated_names.specs.declared.over.Kind.{Kind}
 use Rattle.idl_repeated_names.specs.declared.over.Kind.TheVariants.{Functions, Fields}
-use Rattle.idl_repeated_names.specs.declared.twins.Twins.{Twins}
 use Rattle.idl_repeated_names.specs.declared.way.Step.{Step}
 use Rattle.idl_repeated_names.specs.declared.way.Way.{Way}
+use Rattle.idl_repeated_names.proofs.MeetingLemmas.{keys_first, none_found}
 use Rattle.rules_over_bases.specs.Standing.{IsOnlyBase}
 use Rattle.uno_entities.specs.Finding.{IsPlaceOf}
 use Rattle.uno_model.specs.Circles.{HasNoCircle, ends_within}
@@ -36,7 +37,7 @@ module _ (over : List ℕ → List Named) where
   pub descends_more : (ns rest : List Named) (steps : List Step) → Descends over ns steps → Descends over (ns ++ rest) steps
   descends_more ns rest [] down = tt
   descends_more ns rest (s ∷ steps) down = (
-    record { rest = down.0.rest ++ rest; split = ap (λ ms. ms ++ rest) down.0.split ∙ append_assoc (over s.name.now) down.0.rest rest; many = down.0.many },
+    record { rest = down.0.rest ++ rest; split = ap (λ ms. ms ++ rest) down.0.split ∙ append_assoc (over s.name.now) down.0.rest rest; many = down.0.many; found = down.0.found },
     down.1,
   )
 
@@ -45,8 +46,9 @@ module _ (over : List ℕ → List Named) where
   descends_less ns s steps down = subst (λ ms. Descends over ms steps) (sym down.0.split) (descends_more (over s.name.now) down.0.rest steps down.1)
 
   -- at the last step, to which the way went on
-  descends_at : (s : Step) (steps : List Step) → s.names ≡ length (over s.name.now) → Descends over (over s.name.now) steps → Descends over (over s.name.now) (s ∷ steps)
-  descends_at s steps many down = (record { rest = []; split = sym (append-nil (over s.name.now)); many = many }, down)
+  descends_at : (s : Step) (steps : List Step) → s.names ≡ length (over s.name.now) → (HaveKeys (over s.name.now) → SumsSeconds (over s.name.now) s.found) → Descends over (over s.name.now) steps
+      → Descends over (over s.name.now) (s ∷ steps)
+  descends_at s steps many found down = (record { rest = []; split = sym (append-nil (over s.name.now)); many = many; found = found }, down)
 
   last_first : (ns : List Named) (s : Step) (steps all : List Step) → all ≡ steps ++ s ∷ [] → Descends over ns (reverse all) → Descends over ns (s ∷ reverse steps)
   last_first ns s steps all put down = subst (Descends over ns) (ap reverse put ∙ reversed_last steps s) down
@@ -54,16 +56,17 @@ module _ (over : List ℕ → List Named) where
   first_last : (ns : List Named) (s : Step) (steps all : List Step) → all ≡ steps ++ s ∷ [] → Descends over ns (s ∷ reverse steps) → Descends over ns (reverse all)
   first_last ns s steps all put down = subst (Descends over ns) (sym (ap reverse put ∙ reversed_last steps s)) down
 
-pub begins : (over : List ℕ → List Named) (way : Way) → HasMet way.twins [] → way.steps.items ≡ [] → way.twins.bare ≡ false → IsOnWay over way []
-begins over way met none bare = record { met = met; steps = subst (λ (ss : List Step). Descends over [] (reverse ss)) (sym none) tt; bare = bare }
+pub begins : (over : List ℕ → List Named) (way : Way) → HasMet way.twins [] → way.steps.items ≡ [] → summary_of way.twins.found ≡ nothing → IsOnWay over way []
+begins over way met none found = record { met = met; steps = subst (λ (ss : List Step). Descends over [] (reverse ss)) (sym none) tt; found = λ have. none_found way.twins.found found }
 
-pub gone_on : (old new : Way) (s : Step) → new.twins ≡ old.twins → new.steps.items ≡ old.steps.items ++ s ∷ [] → ((ns : List Named) → HasMet old.twins ns → s.names ≡ length ns)
+pub gone_on : (old new : Way) (s : Step) → new.twins ≡ old.twins → new.steps.items ≡ old.steps.items ++ s ∷ [] → ((ns : List Named) → HasMet old.twins ns → s.names ≡ length ns) → s.found ≡ old.twins.found
     → (over : List ℕ → List Named) → IsOnWay over old (over s.name.now) → IsOnWay over new (over s.name.now)
-gone_on old new s same put many over way =
+gone_on old new s same put many kept over way =
+    let there : HaveKeys (over s.name.now) → SumsSeconds (over s.name.now) s.found = λ have. subst (SumsSeconds (over s.name.now)) (sym kept) (way.found have) in
     record {
       met = subst (λ t. HasMet t (over s.name.now)) (sym same) way.met;
-      steps = first_last over (over s.name.now) s old.steps.items new.steps.items put (descends_at over s (reverse old.steps.items) (many (over s.name.now) way.met) way.steps);
-      bare = ap (λ (t : Twins). t.bare) same ∙ way.bare;
+      steps = first_last over (over s.name.now) s old.steps.items new.steps.items put (descends_at over s (reverse old.steps.items) (many (over s.name.now) way.met) there way.steps);
+      found = λ have. subst (FindsSeconds (over s.name.now)) (sym same) (way.found have);
     }
 
 -- ---- steps that are taken off
@@ -78,20 +81,15 @@ pub fewer_steps : (first now next : List Step) (s : Step) → AreFirst first now
 fewer_steps first now next s before put over ns down = descends_less over ns s (reverse next) (last_first over ns s next now put (before over ns down))
 
 pub found_back : (first popped new : Way) (now : List Step) (s : Step) (name : List ℕ) → AreFirst first.steps.items now → now ≡ popped.steps.items ++ s ∷ [] → popped.twins ≡ first.twins → s.name.now ≡ name
-    → Stands popped new s → (over : List ℕ → List Named) (ns : List Named) → IsOnWay over first ns → IsBack over new ns name
+    → Stands popped new s → (over : List ℕ → List Named) → LeadsOver over first new name
 found_back first popped new now s name before put same at stands over ns way =
     let down : IsFront over ns s × Descends over (over s.name.now) (reverse popped.steps.items) = last_first over ns s popped.steps.items now put (before over ns way.steps) in
     let met : HasMet popped.twins (over s.name.now ++ down.0.rest) = subst (HasMet popped.twins) down.0.split (subst (λ t. HasMet t ns) (sym same) way.met) in
-    subst (λ n. IsBack over new ns n) at
+    subst (λ n. IsOnWay over new (over n)) at
     (record {
-      rest = down.0.rest;
-      split = down.0.split;
-      way = record {
-        met = stands.taken (over s.name.now) down.0.rest met down.0.many;
-        steps = first_last over (over s.name.now) s popped.steps.items new.steps.items stands.steps (descends_at over s (reverse popped.steps.items) down.0.many down.1);
-        bare = stands.bare ∙ ap (λ (t : Twins). t.bare) same ∙ way.bare;
-      };
-      least = stands.least;
+      met = stands.taken (over s.name.now) down.0.rest met down.0.many;
+      steps = first_last over (over s.name.now) s popped.steps.items new.steps.items stands.steps (descends_at over s (reverse popped.steps.items) down.0.many down.0.found down.1);
+      found = λ have. subst (SumsSeconds (over s.name.now)) (sym stands.found) (down.0.found have);
     })
 
 -- ---- the names over an entity are those over its one base, and its own
@@ -116,6 +114,17 @@ fields_one reg name base no_circle alone =
     ap (λ bs. flat_map (chain_within (length reg) reg) bs ++ name ∷ []) alone
     ∙ ap (λ ns. ns ++ name ∷ []) (append-nil (chain_within (length reg) reg base) ∙ sym (chain_more (length reg) reg base ends))
 
+-- more names were met on the way, which are those over an entity then
+reached : (over : List ℕ → List Named) (begun new : Way) (front more : List Named) (name : List ℕ) → over name ≡ front ++ more → IsOnWay over begun front → Meets begun.twins new.twins more
+    → new.steps.items ≡ begun.steps.items → IsOnWay over new (over name)
+reached over begun new front more name all way meets same =
+    subst (IsOnWay over new) (sym all)
+    (record {
+      met = meets.met front way.met;
+      steps = descends_more over front more (reverse new.steps.items) (subst (λ (steps : List Step). Descends over front (reverse steps)) (sym same) way.steps);
+      found = λ have. meets.found front way.met have (way.found (keys_first front more have));
+    })
+
 module _ (own : List ℕ → Option tree.Declaration) (built reg : List Entity) (no_circle : HasNoCircle (leads_to reg)) where
   over_one : (kind : Kind) (name base : List ℕ) → bases_at kind reg name ≡ base ∷ [] → names_over kind own built reg name ≡ names_over kind own built reg base ++ named_at kind own built name
   over_one Functions name base alone =
@@ -126,27 +135,13 @@ module _ (own : List ℕ → Option tree.Declaration) (built reg : List Entity) 
       ∙ ap (λ ns. flat_map (fields_at own built) (chain_of reg base) ++ ns) (append-nil (fields_at own built name))
 
   pub reached_on : (kind : Kind) (name : List ℕ) (old back new : Way) → GoesBack (bases_at kind reg name) old back → Meets back.twins new.twins (named_at kind own built name) → new.steps.items ≡ back.steps.items
-      → (ns : List Named) → IsOnWay (names_over kind own built reg) old ns → IsReached (names_over kind own built reg) new ns name
+      → LeadsOver (names_over kind own built reg) old new name
   reached_on kind name old back new goes meets same ns way =
       let over : List ℕ → List Named = names_over kind own built reg in
-      let was : IsBack over back ns goes.base = goes.back over ns way in
-      record {
-        begun = back;
-        front = over goes.base;
-        rest = was.rest;
-        more = named_at kind own built name;
-        split = was.split;
-        way = was.way;
-        least = was.least;
-        all = over_one kind name goes.base goes.alone;
-        meets = meets;
-        steps = same;
-      }
+      reached over back new (over goes.base) (named_at kind own built name) name (over_one kind name goes.base goes.alone) (goes.back over ns way) meets same
 
-pub reached_anew : (over : List ℕ → List Named) (name : List ℕ) (begun new : Way) → IsOnWay over begun [] → begun.twins.least ≡ None → Meets begun.twins new.twins (over name) → new.steps.items ≡ begun.steps.items
-    → (ns : List Named) → IsReached over new ns name
-reached_anew over name begun new way least meets same ns =
-    record { begun = begun; front = []; rest = ns; more = over name; split = refl; way = way; least = least; all = refl; meets = meets; steps = same }
+pub reached_anew : (over : List ℕ → List Named) (name : List ℕ) (old begun new : Way) → IsOnWay over begun [] → Meets begun.twins new.twins (over name) → new.steps.items ≡ begun.steps.items → LeadsOver over old new name
+reached_anew over name old begun new way meets same ns was = reached over begun new [] (over name) name refl way meets same
 
 -- ---- the entity at a place
 

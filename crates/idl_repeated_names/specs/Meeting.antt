@@ -1,28 +1,23 @@
 -- That names are met behind others, and that lists of names are asked, each for itself.
-use Rattle.std.specs.Prelude.{◌≡◌, ℕ, false, List, [], ◌∷◌, ◌++◌, map, None, Some, if◌then◌else◌}
+use Rattle.std.specs.Prelude.{◌≡◌, ℕ, List, [], ◌∷◌, ◌++◌, map, None, Some, if◌then◌else◌}
 use Rattle.std.specs.List.{AllByRecursion, flat_map}
 use Rattle.idl_joint_places.specs.Circles.{FindsLeast}
 use Rattle.idl_meaning_model.specs.Meaning.{is_read_only}
 use Rattle.idl_model.specs.Places.{Place}
 use Rattle.idl_model.specs.Trees as tree
 use Rattle.idl_model.specs.Trees.{Declaration, InterfaceMember, ServiceMember, interface, struct, exception, enum, constants, new_service, old_service}
-use Rattle.idl_repeated_names.specs.Tables.{all_seconds}
-use Rattle.idl_repeated_names.specs.Twins.{HasMet, HaveKeys, Named, name_at}
+use Rattle.idl_repeated_names.specs.Twins.{FindsSeconds, HasMet, HaveKeys, Named, name_at}
 use Rattle.idl_repeated_names.specs.declared.twins.Twins.{Twins}
 use Rattle.idl_rules_model.specs.NamesDiffer.{second_names}
 use Rattle.idl_trees.specs.Names.{place_of}
 use Rattle.uno_model.specs.Entities as uno
 
--- names are met behind those that were, and the least of the places that count so is known; where no name without a place came second, it does not matter
--- what place the declaration has
+-- names are met behind those that were, and what is found of second names is found of all of them
 pub record Meets (old new : Twins) (more : List Named) : Type 0 where
   pub met : (ns : List Named) → HasMet old ns → HasMet new (ns ++ more)
   pub own : new.own ≡ old.own
-  pub bare : new.bare ≡ false
-      → (old.bare ≡ false)
-      × ((ns : List Named) (own : Place) → HasMet old ns → HaveKeys ns → HaveKeys more → all_seconds own (map name_at ns) (map name_at more) ≡ all_seconds (place_of old.own) (map name_at ns) (map name_at more))
-  pub least : (ns : List Named) (ps : List Place) → HasMet old ns → HaveKeys ns → HaveKeys more → FindsLeast ps old.least
-      → FindsLeast (ps ++ all_seconds (place_of old.own) (map name_at ns) (map name_at more)) new.least
+  pub least : new.least ≡ old.least
+  pub found : (ns : List Named) → HasMet old ns → HaveKeys (ns ++ more) → FindsSeconds ns old → FindsSeconds (ns ++ more) new
 
 -- the least of the places of second names of each list is known, and of those that were
 pub record Asks (old new : Twins) (lists : List (List Named)) : Type 0 where

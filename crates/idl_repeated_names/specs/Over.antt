@@ -1,5 +1,5 @@
 -- The names over an entity, those of its bases first: of functions of an interface, and of members of a struct or an exception.
-use Rattle.std.specs.Prelude.{◌≡◌, ℕ, zero, suc, Bool, true, false, not, ◌&&◌, List, [], ◌∷◌, ◌++◌, length, map, Option, None, Some, IsTrue, if◌then◌else◌}
+use Rattle.std.specs.Prelude.{◌≡◌, ℕ, zero, suc, not, ◌&&◌, List, [], ◌∷◌, ◌++◌, length, map, Option, None, Some, IsTrue, if◌then◌else◌}
 use Rattle.std.specs.Borrow.{Bor}
 use Rattle.std.specs.BTreeMap.{BTreeMap, get_by}
 use Rattle.std.specs.Cmp.Lexicographic.{slice_cmp}
@@ -112,13 +112,6 @@ abbrev pub bases_at : Kind → List Entity → List ℕ → List (List ℕ)
 bases_at Functions reg name = stands_on reg name
 bases_at Fields reg name = member_bases (find_entity name reg)
 
--- whether what is declared has names of the kind
-abbrev pub has_kind : Kind → Option tree.Declaration → Bool
-has_kind Functions (Some (interface base members)) = true
-has_kind Fields (Some (struct base members)) = true
-has_kind Fields (Some (exception base members)) = true
-has_kind _ _ = false
-
 -- the list of names that a declaration has with its bases
 abbrev pub lists_over : (List ℕ → Option tree.Declaration) → List Entity → List Entity → List ℕ → tree.Declaration → List (List Named)
 lists_over own built reg name (interface base members) = functions_over own built reg name ∷ []
@@ -131,7 +124,3 @@ lists_over own built reg name _ = []
 -- the least place of second names in these lists, and of the places of which the least was known
 abbrev pub FindsMore : Option Place → Option Place → List (List Named) → plain.Place → Type 0
 FindsMore old new lists own = (ps : List plain.Place) → AllByRecursion HaveKeys lists → FindsLeast ps old → FindsLeast (ps ++ flat_map (λ names. second_names own (map name_at names)) lists) new
-
--- the lists of names that are left, where those over bases were asked or not
-abbrev pub lists_left : Bool → (List ℕ → Option tree.Declaration) → List Entity → List Entity → List ℕ → tree.Declaration → List (List Named)
-lists_left was_asked own built reg name body = if was_asked then [] else lists_over own built reg name body

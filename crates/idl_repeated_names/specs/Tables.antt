@@ -1,17 +1,23 @@
--- The places that count where names come one behind the other.
-use Rattle.std.specs.Prelude.{List, [], ◌∷◌, ◌++◌, Contains}
+-- The places of second names, as far as they do not depend on that of the declaration.
+use Rattle.std.specs.Prelude.{List, [], ◌∷◌, ◌++◌, Option, Contains, if◌then◌else◌}
 use Rattle.std.specs.List.{flat_map}
+use Rattle.std.specs.Option.{option_or}
+use Rattle.std.specs.Str.{bytes_eq}
 use Rattle.idl_model.specs.Places.{Place}
-use Rattle.idl_rules_model.specs.NamesDiffer.{NameAt, place_of_second}
+use Rattle.idl_rules_model.specs.NamesDiffer.{NameAt}
 
--- where one name comes behind others, and where more do
-unfoldable pub seconds : Place → List NameAt → NameAt → List Place
-seconds own names n = flat_map (λ first. place_of_second own first n) names
+-- the place of the second of two equal names, else of the first; where neither has one, it is missing
+abbrev pub place_if_second : NameAt → NameAt → List (Option Place)
+place_if_second first second = if bytes_eq first.name second.name then option_or second.place first.place ∷ [] else []
 
-unfoldable pub all_seconds : Place → List NameAt → List NameAt → List Place
-all_seconds own names [] = []
-all_seconds own names (n ∷ ns) = seconds own names n ++ all_seconds own (names ++ n ∷ []) ns
+unfoldable pub second_places : List NameAt → List (Option Place)
+second_places [] = []
+second_places (name ∷ names) = flat_map (place_if_second name) names ++ second_places names
+
+-- where one name comes behind others
+unfoldable pub seconds : List NameAt → NameAt → List (Option Place)
+seconds names n = flat_map (λ first. place_if_second first n) names
 
 -- what is in one list is in another
-abbrev pub IsWithin : List Place → List Place → Type 0
-IsWithin ps qs = (p : Place) → Contains ps p → Contains qs p
+abbrev pub IsWithin : {X : Type 0} → List X → List X → Type 0
+IsWithin {X = X} ps qs = (p : X) → Contains ps p → Contains qs p

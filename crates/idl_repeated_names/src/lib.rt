@@ -3,6 +3,7 @@
 
 mod bases;
 mod chain;
+mod least;
 mod lists;
 mod over;
 mod own;

@@ -47,6 +47,7 @@ fn ask_members<'a>(twins: &mut Twins<'a>, members: &'a [InterfaceMember]) -> Res
 {
     twins.forget();
     meet_members(twins, members)?;
+    twins.count_met();
     Ok(())
 }
 
@@ -83,6 +84,7 @@ fn ask_method<'a>(twins: &mut Twins<'a>, member: &'a InterfaceMember) -> Result<
 {
     twins.forget();
     meet_parameters_in(twins, member)?;
+    twins.count_met();
     Ok(())
 }
 
@@ -115,6 +117,7 @@ fn ask_items<'a>(twins: &mut Twins<'a>, items: &'a [Item]) -> Result<(), NoMemor
 {
     twins.forget();
     meet_items(twins, items)?;
+    twins.count_met();
     Ok(())
 }
 
@@ -132,6 +135,7 @@ fn ask_constants<'a>(twins: &mut Twins<'a>, constants: &'a [Constant]) -> Result
 {
     twins.forget();
     meet_constants(twins, constants)?;
+    twins.count_met();
     Ok(())
 }
 
@@ -162,6 +166,7 @@ fn ask_constructors<'a>(
 {
     twins.forget();
     meet_constructors(twins, constructors)?;
+    twins.count_met();
     Ok(())
 }
 
@@ -197,6 +202,7 @@ fn ask_arguments<'a>(
 {
     twins.forget();
     meet_arguments(twins, arguments)?;
+    twins.count_met();
     Ok(())
 }
 
@@ -217,6 +223,7 @@ fn ask_properties<'a>(twins: &mut Twins<'a>, members: &'a [ServiceMember]) -> Re
 {
     twins.forget();
     meet_properties(twins, members)?;
+    twins.count_met();
     Ok(())
 }
 

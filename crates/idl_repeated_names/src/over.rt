@@ -65,6 +65,7 @@ fn ask_all<'a>(
 {
     twins.forget();
     meet_over(twins, around, kind, name)?;
+    twins.count_met();
     Ok(())
 }
 

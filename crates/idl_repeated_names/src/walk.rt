@@ -1,37 +1,31 @@
 //! One walk over all entities, each behind the one on which it stands alone: there only the names that it has itself are met, behind those over that one.
-ghost use Rattle.std.specs.Prelude.{◌≡◌, ℕ, List, IfOk, OnOk, Some, true};
-ghost use Rattle.idl_joint_places.specs.Circles.{FindsLeast};
-ghost use Rattle.idl_model.specs.Places as plain;
-ghost use Rattle.idl_repeated_names.specs.Over.{bases_at, has_kind, names_over, owned};
-ghost use Rattle.idl_repeated_names.specs.Tables.{IsWithin};
+ghost use Rattle.std.specs.Prelude.{◌≡◌, ℕ, List, IfOk, OnOk, true};
+ghost use Rattle.idl_repeated_names.specs.Over.{bases_at, names_over, owned};
 ghost use Rattle.idl_repeated_names.specs.Twins.{Named};
-ghost use Rattle.idl_repeated_names.specs.Walking.{AllAsked, GoesBack, IsOnWay, IsReached, IsRight, MayCount, Walked};
-ghost use Rattle.idl_trees.specs.Trees.{declaration_of};
+ghost use Rattle.idl_repeated_names.specs.Walking.{AllAsked, GoesBack, LeadsOver, Walked};
 ghost use Rattle.uno_model.specs.Circles.{HasNoCircle};
 ghost use Rattle.uno_model.specs.Registry.{leads_to};
 
 use crate::bases::only_base;
+use crate::least::Least;
 use crate::over::{Around, Kind, meet_at, meet_over};
-use crate::owners::{Owners, declared_as};
-use crate::twins::{Twins, least_of_both};
 use crate::way::Way;
 use entity_rules::has_no_circles;
-use idl_trees::{Declaration, Place};
+use idl_trees::Place;
 use rules_over_bases::bases_first;
 use std::alloc::Global;
-use std::collections::BTreeSet;
+use std::collections::BTreeMap;
 use uno_base::NoMemory;
 use uno_types::{Body, Entity, Registry};
 
-/// A walk with the least place of second names, and the names of entities over which all of them are counted.
+/// A walk, with what was found of second names over each entity.
 #[derive(Drop)]
 pub(crate) struct Walk<'a> {
     way: Way<'a>,
-    pub least: Option<Place>,
-    pub asked: BTreeSet<&'a str>,
+    pub found: BTreeMap<&'a str, Least>,
 }
 
-/// The walks for functions and for members, the second with the least place of both.
+/// The walks for functions and for members.
 #[derive(Drop)]
 pub(crate) struct Asked<'a> {
     pub functions: Walk<'a>,
@@ -40,7 +34,7 @@ pub(crate) struct Asked<'a> {
 
 /// Where a way leads back to itself nothing is walked.
 pub(crate) fn walks<'a>(around: Around<'_, 'a>) -> Result<Asked<'a>, NoMemory>
-    ensures { IfOk result (λ asked. (all : List plain.Place) → IsRight Kind.Functions (owned around.entry.owners.now) around.entry.built_in.now around.entry.registry.now all → IsRight Kind.Fields (owned around.entry.owners.now) around.entry.built_in.now around.entry.registry.now all → AllAsked (names_over Kind.Functions (owned around.entry.owners.now) around.entry.built_in.now around.entry.registry.now) (names_over Kind.Fields (owned around.entry.owners.now) around.entry.built_in.now around.entry.registry.now) all asked) }
+    ensures { IfOk result (AllAsked (names_over Kind.Functions (owned around.entry.owners.now) around.entry.built_in.now around.entry.registry.now) (names_over Kind.Fields (owned around.entry.owners.now) around.entry.built_in.now around.entry.registry.now)) }
 {
     let alloc = around.registry.allocator();
     let entities = around.registry.entities();
@@ -52,42 +46,37 @@ pub(crate) fn walks<'a>(around: Around<'_, 'a>) -> Result<Asked<'a>, NoMemory>
 }
 
 fn none_asked<'a>(alloc: Global) -> Asked<'a>
-    ensures { (functions fields : List ℕ → List Named) (all : List plain.Place) → AllAsked functions fields all result }
+    ensures { (functions fields : List ℕ → List Named) → AllAsked functions fields result }
 {
-    let functions = no_walk(alloc, None);
-    let fields = no_walk(alloc, functions.least);
-    Asked { functions, fields }
+    Asked {
+        functions: no_walk(alloc),
+        fields: no_walk(alloc),
+    }
 }
 
 fn walk_both<'a>(around: Around<'_, 'a>, order: &[usize]) -> Result<Asked<'a>, NoMemory>
     requires { HasNoCircle (leads_to around.registry.now) }
-    ensures { IfOk result (λ asked. (all : List plain.Place) → IsRight Kind.Functions (owned around.entry.owners.now) around.entry.built_in.now around.entry.registry.now all → IsRight Kind.Fields (owned around.entry.owners.now) around.entry.built_in.now around.entry.registry.now all → AllAsked (names_over Kind.Functions (owned around.entry.owners.now) around.entry.built_in.now around.entry.registry.now) (names_over Kind.Fields (owned around.entry.owners.now) around.entry.built_in.now around.entry.registry.now) all asked) }
+    ensures { IfOk result (AllAsked (names_over Kind.Functions (owned around.entry.owners.now) around.entry.built_in.now around.entry.registry.now) (names_over Kind.Fields (owned around.entry.owners.now) around.entry.built_in.now around.entry.registry.now)) }
 {
-    let functions = walk_along(around, Kind::Functions, order, None)?;
-    let fields = walk_along(around, Kind::Fields, order, functions.least)?;
+    let functions = walk_along(around, Kind::Functions, order)?;
+    let fields = walk_along(around, Kind::Fields, order)?;
     Ok(Asked { functions, fields })
 }
 
-fn no_walk<'a>(alloc: Global, least: Option<Place>) -> Walk<'a>
-    ensures { (over : List ℕ → List Named) (all first : List plain.Place) → FindsLeast first least → IsWithin first all → Walked over all first result }
+fn no_walk<'a>(alloc: Global) -> Walk<'a>
+    ensures { (over : List ℕ → List Named) → Walked over result }
 {
     Walk {
         way: Way::new(alloc, Place { file: 0, byte: 0 }),
-        least,
-        asked: BTreeSet::new(alloc),
+        found: BTreeMap::new(alloc),
     }
 }
 
-fn walk_along<'a>(
-    around: Around<'_, 'a>,
-    kind: Kind,
-    order: &[usize],
-    least: Option<Place>,
-) -> Result<Walk<'a>, NoMemory>
+fn walk_along<'a>(around: Around<'_, 'a>, kind: Kind, order: &[usize]) -> Result<Walk<'a>, NoMemory>
     requires { HasNoCircle (leads_to around.registry.now) }
-    ensures { IfOk result (λ walk. (all first : List plain.Place) → IsRight kind (owned around.entry.owners.now) around.entry.built_in.now around.entry.registry.now all → FindsLeast first least → IsWithin first all → Walked (names_over kind (owned around.entry.owners.now) around.entry.built_in.now around.entry.registry.now) all first walk) }
+    ensures { IfOk result (Walked (names_over kind (owned around.entry.owners.now) around.entry.built_in.now around.entry.registry.now)) }
 {
-    let mut walk = no_walk(around.registry.allocator(), least);
+    let mut walk = no_walk(around.registry.allocator());
     for place in order {
         visit_at(&mut walk, around, kind, *place)?;
     }
@@ -102,7 +91,7 @@ fn visit_at<'a>(
     place: usize,
 ) -> Result<(), NoMemory>
     requires { HasNoCircle (leads_to around.registry.now) }
-    ensures { OnOk result ((all first : List plain.Place) → IsRight kind (owned around.entry.owners.now) around.entry.built_in.now around.entry.registry.now all → Walked (names_over kind (owned around.entry.owners.now) around.entry.built_in.now around.entry.registry.now) all first walk.old → Walked (names_over kind (owned around.entry.owners.now) around.entry.built_in.now around.entry.registry.now) all first walk.new) }
+    ensures { OnOk result (Walked (names_over kind (owned around.entry.owners.now) around.entry.built_in.now around.entry.registry.now) walk.old → Walked (names_over kind (owned around.entry.owners.now) around.entry.built_in.now around.entry.registry.now) walk.new) }
 {
     let Some(entity) = around.registry.entities().get(place) else {
         return Ok(());
@@ -120,7 +109,7 @@ fn is_of(kind: Kind, entity: &Entity) -> bool {
     }
 }
 
-/// Counts the second names over an entity. Those that it cannot count it leaves.
+/// Notes what is found of the second names over an entity.
 fn visit<'a>(
     walk: &mut Walk<'a>,
     around: Around<'_, 'a>,
@@ -128,16 +117,11 @@ fn visit<'a>(
     name: &'a str,
 ) -> Result<(), NoMemory>
     requires { HasNoCircle (leads_to around.registry.now) }
-    ensures { OnOk result ((all first : List plain.Place) → IsRight kind (owned around.entry.owners.now) around.entry.built_in.now around.entry.registry.now all → Walked (names_over kind (owned around.entry.owners.now) around.entry.built_in.now around.entry.registry.now) all first walk.old → Walked (names_over kind (owned around.entry.owners.now) around.entry.built_in.now around.entry.registry.now) all first walk.new) }
+    ensures { OnOk result (Walked (names_over kind (owned around.entry.owners.now) around.entry.built_in.now around.entry.registry.now) walk.old → Walked (names_over kind (owned around.entry.owners.now) around.entry.built_in.now around.entry.registry.now) walk.new) }
 {
     reach(&mut walk.way, around, kind, name)?;
-    if !may_count(&walk.way.twins, around.owners, kind, name) {
-        walk.way.begin();
-        return Ok(());
-    }
-    walk.least = least_of_both(walk.least, walk.way.twins.least);
+    walk.found.insert(name, walk.way.twins.found)?;
     walk.way.go_on(name)?;
-    walk.asked.insert(name)?;
     Ok(())
 }
 
@@ -149,7 +133,7 @@ fn reach<'a>(
     name: &'a str,
 ) -> Result<(), NoMemory>
     requires { HasNoCircle (leads_to around.registry.now) }
-    ensures { OnOk result ((ns : List Named) → IsOnWay (names_over kind (owned around.entry.owners.now) around.entry.built_in.now around.entry.registry.now) way.old ns → IsReached (names_over kind (owned around.entry.owners.now) around.entry.built_in.now around.entry.registry.now) way.new ns name.now) }
+    ensures { OnOk result (LeadsOver (names_over kind (owned around.entry.owners.now) around.entry.built_in.now around.entry.registry.now) way.old way.new name.now) }
 {
     if goes_back(way, around.registry, kind, name)? {
         meet_at(&mut way.twins, around, kind, name)?;
@@ -173,39 +157,4 @@ fn goes_back<'a>(
     };
     let there = way.back_to(base)?;
     Ok(there)
-}
-
-/// Whether what was found is the same for each declaration, and is found for one.
-fn may_count(twins: &Twins<'_>, owners: &Owners<'_>, kind: Kind, name: &str) -> bool
-    ensures { result ≡ true → MayCount kind (owned owners.now) twins.now name.now }
-{
-    if twins.bare {
-        return false;
-    }
-    let Some(_) = twins.least else {
-        return true;
-    };
-    is_declared(owners, kind, name)
-}
-
-/// Whether a declaration has names of the kind.
-fn is_declared(owners: &Owners<'_>, kind: Kind, name: &str) -> bool
-    ensures { result ≡ has_kind kind (owned owners.now name.now) }
-{
-    match declared_as(owners, name) {
-        Some(body) => has_kind(kind, body),
-        None => false,
-    }
-}
-
-fn has_kind(kind: Kind, body: &Declaration) -> bool
-    ensures { result ≡ has_kind kind (Some (declaration_of body.now)) }
-{
-    match kind {
-        Kind::Functions => matches!(body, Declaration::Interface(_, _)),
-        Kind::Fields => matches!(
-            body,
-            Declaration::Struct(_, _) | Declaration::Exception(_, _)
-        ),
-    }
 }

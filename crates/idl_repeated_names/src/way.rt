@@ -1,18 +1,20 @@
 //! The way from an entity to what stands on it alone, and on, with the names that were met.
-ghost use Rattle.std.specs.Prelude.{◌≡◌, [], ℕ, IfOk, List, None, OnOk, true};
+ghost use Rattle.std.specs.Prelude.{◌≡◌, [], ℕ, IfOk, List, OnOk, true};
 ghost use Rattle.idl_repeated_names.specs.Twins.{Named};
-ghost use Rattle.idl_repeated_names.specs.Walking.{IsBack, IsOnWay, Stands};
+ghost use Rattle.idl_repeated_names.specs.Walking.{IsOnWay, LeadsOver, Stands};
 
+use crate::least::Least;
 use crate::twins::Twins;
 use idl_trees::Place;
 use std::alloc::Global;
 use uno_base::NoMemory;
 
-/// An entity, and how many names were met when those over it were.
+/// An entity, how many names were met when those over it were, and what was found of them.
 #[derive(Clone, Copy)]
 pub(crate) struct Step<'a> {
     name: &'a str,
     names: usize,
+    found: Least,
 }
 
 #[derive(Drop)]
@@ -34,17 +36,15 @@ impl<'a> Way<'a> {
 
     /// Begins anew.
     pub(crate) fn begin(&mut self)
-        ensures way { (over : List ℕ → List Named) → IsOnWay over self.new [] }
-        ensures least { self.new.twins.least ≡ None }
+        ensures { (over : List ℕ → List Named) → IsOnWay over self.new [] }
     {
         self.steps.clear();
         self.twins.forget();
-        self.twins.least = None;
     }
 
     /// Goes back to an entity, and answers whether it is on the way.
     pub(crate) fn back_to(&mut self, name: &str) -> Result<bool, NoMemory>
-        ensures { IfOk result (λ there. there ≡ true → (over : List ℕ → List Named) (ns : List Named) → IsOnWay over self.old ns → IsBack over self.new ns name.now) }
+        ensures { IfOk result (λ there. there ≡ true → (over : List ℕ → List Named) → LeadsOver over self.old self.new name.now) }
     {
         while let Some(step) = self.steps.pop() {
             if step.name == name {
@@ -60,7 +60,7 @@ impl<'a> Way<'a> {
         ensures { OnOk result (Stands self.old self.new step.entry) }
     {
         self.twins.take_back(step.names)?;
-        self.twins.least = None;
+        self.twins.found = step.found;
         self.steps.push(step)?;
         Ok(())
     }
@@ -70,7 +70,8 @@ impl<'a> Way<'a> {
         ensures { OnOk result ((over : List ℕ → List Named) → IsOnWay over self.old (over name.now) → IsOnWay over self.new (over name.now)) }
     {
         let names = self.twins.len();
-        self.steps.push(Step { name, names })?;
+        let found = self.twins.found;
+        self.steps.push(Step { name, names, found })?;
         Ok(())
     }
 }

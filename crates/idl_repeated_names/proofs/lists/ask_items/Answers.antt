@@ -2,4 +2,6 @@ use Rattle.idl_repeated_names.proofs.MeetingLemmas.{asks_one}
 use Rattle.idl_repeated_names.proofs.lists.ask_items.Goals as goal
 
 pub returns : goal.returns
-returns c = asks_one c.args.twins.now c.forget.new.self c.meet_items.new.twins _ c.forget.ensures.met c.forget.ensures.own c.forget.ensures.least c.in_ok-meet_items.ensures
+returns c =
+    asks_one c.args.twins.now c.forget.new.self c.meet_items.new.twins c.count_met.new.self _ c.forget.ensures.met c.forget.ensures.own c.forget.ensures.found c.forget.ensures.least c.in_ok-meet_items.ensures c.count_met.ensures.own
+    c.count_met.ensures.least

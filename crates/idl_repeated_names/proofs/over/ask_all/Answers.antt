@@ -3,4 +3,5 @@ use Rattle.idl_repeated_names.proofs.over.ask_all.Goals as goal
 
 pub returns : goal.returns
 returns c =
-    asks_one c.args.twins.now c.forget.new.self c.meet_over.new.twins _ c.forget.ensures.met c.forget.ensures.own c.forget.ensures.least c.in_ok-meet_over.ensures
+    asks_one c.args.twins.now c.forget.new.self c.meet_over.new.twins c.count_met.new.self _ c.forget.ensures.met c.forget.ensures.own c.forget.ensures.found c.forget.ensures.least c.in_ok-meet_over.ensures c.count_met.ensures.own
+    c.count_met.ensures.least

@@ -1,5 +1,4 @@
 use Rattle.std.proofs.Common.{[], ◌∷◌, ℕ, List, None, subst}
-use Rattle.idl_repeated_names.proofs.MeetingLemmas.{meets_one}
 use Rattle.idl_repeated_names.specs.Meeting.{Meets}
 use Rattle.idl_repeated_names.specs.Twins.{Named}
 use Rattle.idl_repeated_names.proofs.own.meet_name.Goals as goal
@@ -8,4 +7,4 @@ pub returns : goal.returns
 returns c =
     let called : List ℕ → Named = λ n. record { key = (0, n); place = None } in
     subst (λ n. Meets c.args.twins.now c.meet.new.self (called n ∷ [])) c.as_str.ensures
-    (meets_one c.args.twins.now c.meet.new.self (called c.as_str.result.now) c.in_ok-meet.ensures.met c.meet.ensures.own c.in_ok-meet.ensures.bare c.in_ok-meet.ensures.least)
+    (record { met = c.in_ok-meet.ensures.met; own = c.meet.ensures.own; least = c.meet.ensures.least; found = c.in_ok-meet.ensures.found })

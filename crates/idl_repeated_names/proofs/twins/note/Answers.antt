@@ -1,6 +1,5 @@
-use Rattle.std.proofs.Common.{Some}
 use Rattle.idl_repeated_names.proofs.TwinsLemmas.{known_otherwise}
 use Rattle.idl_repeated_names.proofs.twins.note.Goals as goal
 
 pub returns : goal.returns
-returns c = known_otherwise c.args.known.now c.insert.new.self c.args.key (Some c.args.least) c.in_ok-insert.ensures.updates
+returns c = known_otherwise c.args.known.now c.insert.new.self c.args.key c.args.least c.in_ok-insert.ensures.updates

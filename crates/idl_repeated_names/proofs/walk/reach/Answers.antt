@@ -11,6 +11,6 @@ returns-then-branch c = λ ns way.
 
 pub returns : goal.returns
 returns c = λ ns way.
-    reached_anew (names_over c.args.kind (owned c.args.around.owners.now) c.args.around.built_in.now c.args.around.registry.now) c.args.name.now c.begin.new.self
+    reached_anew (names_over c.args.kind (owned c.args.around.owners.now) c.args.around.built_in.now c.args.around.registry.now) c.args.name.now c.args.way.now c.begin.new.self
     (record { steps = c.begin.new.self.steps; twins = c.meet_over.new.twins })
-    (c.begin.ensures.way (names_over c.args.kind (owned c.args.around.owners.now) c.args.around.built_in.now c.args.around.registry.now)) c.begin.ensures.least c.in_ok-meet_over.ensures refl ns
+    (c.begin.ensures (names_over c.args.kind (owned c.args.around.owners.now) c.args.around.built_in.now c.args.around.registry.now)) c.in_ok-meet_over.ensures refl ns way

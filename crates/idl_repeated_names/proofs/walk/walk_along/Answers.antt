@@ -1,10 +1,10 @@
 use Rattle.idl_repeated_names.proofs.walk.walk_along.Goals as goal
 
 pub loop-place-init : goal.loop-place-init
-loop-place-init c = λ all first right finds within. c.no_walk-walk.ensures _ all first finds within
+loop-place-init c = c.no_walk-walk.ensures _
 
 pub loop-place-preserved : goal.loop-place-preserved
-loop-place-preserved c = λ all first right finds within. c.in_ok-visit_at.ensures all first right (c.loop-place.invariant all first right finds within)
+loop-place-preserved c = c.in_ok-visit_at.ensures c.loop-place.invariant
 
 pub returns : goal.returns
-returns c = λ all first right finds within. c.loop-place.invariant all first right finds within
+returns c = c.loop-place.invariant

@@ -7,7 +7,7 @@ pub has_no_circles-requires : goal.has_no_circles-requires
 has_no_circles-requires c = subst IsRising (sym c.entities-entities.ensures.all) c.entities-entities.ensures.rising
 
 pub returns-then-not-branch : goal.returns-then-not-branch
-returns-then-not-branch c = λ all functions_right fields_right. c.none_asked.ensures _ _ all
+returns-then-not-branch c = c.none_asked.ensures _ _
 
 pub bases_first-requires : goal.bases_first-requires
 bases_first-requires c = subst IsRising (sym c.entities-entities.ensures.all) c.entities-entities.ensures.rising
