@@ -1,6 +1,6 @@
 -- The graph of constants and items, by their places: it leads as they do.
-use Rattle.std.proofs.Common.{◌≡◌, refl, sym, ap, subst, ◌∙◌, ℕ, zero, suc, ◌+◌, ◌<◌, Bool, true, false, List, [], ◌∷◌, map, length, get_or, slice_get, Option, None, Some, option_map, Contains, if◌then◌else◌, arith}
-use Rattle.std.specs.List.{cons_option, filter_map, find, flat_map}
+use Rattle.std.proofs.Common.{◌≡◌, refl, sym, ap, subst, ◌∙◌, ℕ, zero, suc, ◌+◌, ◌<◌, Bool, true, false, List, [], ◌∷◌, length, get_or, slice_get, Option, None, Some, option_map, Contains, if◌then◌else◌, arith}
+use Rattle.std.specs.List.{cons_option, filter_map, find}
 use Rattle.std.specs.Option.{option_and_then, option_to_list}
 use Rattle.circle_search.specs.Graph.{targets}
 use Rattle.idl_joint_places.specs.Circles.{LeadsAmong}
@@ -11,7 +11,7 @@ use Rattle.idl_meaning_model.specs.Uses.{expr_paths}
 use Rattle.idl_meaning_model.proofs.FaultLaws.{flat_has, in_flat}
 use Rattle.idl_meant.specs.Numbering.{IsValueGraph}
 use Rattle.idl_model.specs.Places.{Place, is_at}
-use Rattle.idl_model.specs.Trees.{Expr, Path}
+use Rattle.idl_model.specs.Trees.{Path}
 use Rattle.idl_values.specs.Graph.{AreKnown, AreLow, IsBehind, StandInOrder, origin_places, place_before, places_from}
 use Rattle.idl_values.specs.Origins.{all_origins}
 use Rattle.idl_values.specs.Places.{first_place}

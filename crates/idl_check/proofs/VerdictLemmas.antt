@@ -1,5 +1,5 @@
 -- From the least places of rules, one after the other, to what files are refused for, or to their registry.
-use Rattle.std.proofs.Common.{◌≡◌, ◌≢◌, refl, sym, ap, ap₂, subst, ◌∙◌, ℕ, suc, ◌+◌, ◌<◌, Bool, true, false, ◌&&◌, ◌||◌, not, List, [], ◌∷◌, ◌++◌, map, Option, None, Some, option_map, Contains, inl, inr, if◌then◌else◌, Result, Ok, Err, IsErr, arith}
+use Rattle.std.proofs.Common.{◌≡◌, ◌≢◌, refl, sym, ap, subst, ◌∙◌, ℕ, suc, ◌+◌, ◌<◌, Bool, true, false, ◌&&◌, ◌||◌, not, List, [], ◌∷◌, ◌++◌, map, Option, None, Some, option_map, Contains, inl, inr, if◌then◌else◌, Result, Ok, Err, IsErr, arith}
 use Rattle.std.proofs.lemmas.Bool.{and_parts, cases_lt}
 use Rattle.std.proofs.lemmas.List.Elements.{Contains-append_right}
 use Rattle.std.specs.List.{flat_map, list_all, position, position_from}
@@ -28,7 +28,7 @@ use Rattle.idl_rules_model.proofs.KeptLaws.{all_keep}
 use Rattle.idl_trees.specs.declared.place.Place as code
 use Rattle.registry_reading_model.specs.Changes.{entity_changed}
 use Rattle.registry_reading_model.specs.Kept.{limited}
-use Rattle.registry_reading_model.proofs.ChangedRegistries.{all_changed, find_changed}
+use Rattle.registry_reading_model.proofs.ChangedRegistries.{find_changed}
 use Rattle.registry_reading_model.proofs.CutLaws.{cut_namable}
 use Rattle.registry_reading_model.proofs.LimitedKeeps.{limited_keeps}
 use Rattle.registry_reading_model.proofs.RuleOrder.{all_names, same_number}

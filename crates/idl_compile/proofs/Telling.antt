@@ -1,13 +1,13 @@
 -- The errors of the steps tell refusals.
-use Rattle.std.proofs.Common.{◌≡◌, refl, sym, ap, subst, ◌∙◌, ℕ, List, [], ◌∷◌, ◌++◌, length, Result, Ok, Err, IsErr, option_map}
+use Rattle.std.proofs.Common.{◌≡◌, refl, sym, ap, subst, ◌∙◌, ℕ, List, Result, Ok, Err, IsErr, option_map}
 use Rattle.idl_check.specs.Judging.{IsBroken}
 use Rattle.idl_check.specs.declared.error.CheckError.{CheckError}
 use Rattle.idl_check.specs.declared.error.CheckError.TheVariants as check
 use Rattle.idl_compile.specs.declared.error.Reason.TheVariants as reason
 use Rattle.idl_meaning_model.specs.NameFaults.{IsResolved}
 use Rattle.idl_compile.specs.Errors.{of_check, of_lex, of_parse, of_name}
-use Rattle.idl_compile.specs.Refusing.{Tells, IsToldAs}
-use Rattle.idl_compile.specs.Checking.{ComesOfTrees, IsJudged}
+use Rattle.idl_compile.specs.Refusing.{Tells}
+use Rattle.idl_compile.specs.Checking.{ComesOfTrees}
 use Rattle.idl_compile.specs.declared.error.CompileError.{CompileError}
 use Rattle.idl_compile.specs.declared.error.CompileError.TheVariants as error
 use Rattle.idl_compiled_model.specs.Compiling.{Refusal, IsRead, IsUnread, StopsAtFile, IsCompiled, AreRead}
@@ -29,7 +29,6 @@ use Rattle.idl_parse.specs.declared.error.ParseError.TheVariants as parse
 use Rattle.idl_text_model.specs.LexVerdicts.{IsLexed, too_long, bad_utf8, bad_token, open_comment}
 use Rattle.idl_text_model.specs.Tokens.{Token}
 use Rattle.idl_trees.specs.Names.{place_of}
-use Rattle.idl_trees.specs.declared.place.Place as code
 use Rattle.std.specs.Prelude.{IfErr, IfOk}
 use Rattle.std.specs.Result.{IsErrAnd}
 use Rattle.uno_model.specs.Entities.{Entity}

@@ -1,5 +1,5 @@
 -- What comes of trees that were read of files.
-use Rattle.std.specs.Prelude.{◌≡◌, ℕ, true, List, map, IsTrue, Result, Ok, Err}
+use Rattle.std.specs.Prelude.{ℕ, List, map, IsTrue, Result, Ok, Err}
 use Rattle.std.specs.List.{list_all}
 use Rattle.idl_compiled_model.specs.Compiling.{Refusal, origin_fits}
 use Rattle.idl_compiled_model.specs.Compiling as refusal

@@ -1,4 +1,4 @@
-use Rattle.std.proofs.Common.{List, [], subst, sym, ◌≤◌, length, arith}
+use Rattle.std.proofs.Common.{[], subst, sym, ◌≤◌, length, arith}
 use Rattle.idl_check.proofs.EachLemmas.{as_many, least_of_all, told_at}
 use Rattle.idl_check.specs.Broken.{broken_told, values_told}
 use Rattle.idl_places.specs.Classes.{KeepsClasses}

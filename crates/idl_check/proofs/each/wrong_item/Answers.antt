@@ -1,4 +1,4 @@
-use Rattle.std.proofs.Common.{List, [], ◌≤◌, length, arith}
+use Rattle.std.proofs.Common.{[], ◌≤◌, length, arith}
 use Rattle.idl_check.proofs.EachLemmas.{as_many, least_of_all, told_at}
 use Rattle.idl_check.specs.Broken.{broken_told, values_told}
 use Rattle.idl_places.proofs.Steps.{joined_tells, told_behind}

@@ -1,4 +1,4 @@
-use Rattle.std.proofs.Common.{List, [], subst, sym, ◌≤◌, length, arith}
+use Rattle.std.proofs.Common.{[], subst, sym, ◌≤◌, length, arith}
 use Rattle.idl_check.proofs.EachLemmas.{least_of_all}
 use Rattle.idl_check.specs.Broken.{broken_told}
 use Rattle.idl_places.specs.Classes.{KeepsClasses}

@@ -1,4 +1,4 @@
-use Rattle.std.proofs.Common.{List, [], ◌≤◌, length, arith}
+use Rattle.std.proofs.Common.{[], ◌≤◌, length, arith}
 use Rattle.idl_check.proofs.EachLemmas.{least_of_all}
 use Rattle.idl_check.specs.Broken.{broken_told}
 use Rattle.idl_places.proofs.Steps.{joined_tells, told_behind}

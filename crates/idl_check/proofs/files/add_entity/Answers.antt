@@ -1,4 +1,4 @@
-use Rattle.std.proofs.Common.{◌≡◌, ap, sym, ◌∙◌, map}
+use Rattle.std.proofs.Common.{ap, sym, ◌∙◌, map}
 use Rattle.idl_check.specs.Meant.{telling_of}
 use Rattle.idl_check.proofs.ToldLemmas.{none_added, one_added}
 use Rattle.idl_meaning_model.specs.Declarations.{is_forward}

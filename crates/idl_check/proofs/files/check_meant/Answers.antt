@@ -1,4 +1,4 @@
-use Rattle.std.proofs.Common.{◌≡◌, ap, sym, subst, ◌∙◌, map}
+use Rattle.std.proofs.Common.{ap, sym, subst, ◌∙◌, map}
 use Rattle.idl_check.proofs.GraphLemmas.{leads_among}
 use Rattle.idl_check.proofs.ToldLemmas.{all_keep_classes}
 use Rattle.idl_check.specs.Broken.{values_told}

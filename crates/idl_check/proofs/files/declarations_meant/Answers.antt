@@ -1,4 +1,4 @@
-use Rattle.std.proofs.Common.{◌≡◌, ◌<◌, ◌≤◌, ◌∙◌, Some, ap, length, map, slice_get, subst, sym, arith}
+use Rattle.std.proofs.Common.{◌≡◌, ◌≤◌, ◌∙◌, Some, ap, length, map, slice_get, subst, sym, arith}
 use Rattle.idl_check.specs.Meant.{telling_of}
 use Rattle.idl_check.proofs.ToldLemmas.{all_told, none_told, one_more_told}
 use Rattle.idl_meant.specs.Resolving.{all_in}

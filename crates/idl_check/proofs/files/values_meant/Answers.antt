@@ -1,4 +1,4 @@
-use Rattle.std.proofs.Common.{◌≡◌, ◌≤◌, ◌∙◌, [], ◌∷◌, ap, length, map, refl, arith}
+use Rattle.std.proofs.Common.{◌≤◌, ◌∙◌, [], ◌∷◌, ap, length, map, arith}
 use Rattle.std.proofs.lemmas.List.{take_all}
 use Rattle.idl_check.proofs.EachLemmas.{mapped_tells, one_put}
 use Rattle.idl_check.specs.Broken.{values_told}

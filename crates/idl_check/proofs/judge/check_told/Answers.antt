@@ -1,4 +1,4 @@
-use Rattle.std.proofs.Common.{◌≡◌, refl, sym, subst, ◌∙◌, map, ◌++◌}
+use Rattle.std.proofs.Common.{refl, sym, subst, map, ◌++◌}
 use Rattle.uno_entities.specs.Entities.{entities_of}
 use Rattle.uno_model.specs.BuiltIn.{built_in}
 use Rattle.uno_model.specs.Registry.{IsRising}

@@ -1,9 +1,6 @@
-use Rattle.std.proofs.Common.{◌≡◌, ◌++◌, ◌∙◌, List, ℕ, map}
+use Rattle.std.proofs.Common.{◌∙◌, map}
 use Rattle.idl_check.proofs.RegistryLemmas.{found_moved, if_ok}
 use Rattle.idl_entities.specs.Telling.{entity_told}
-use Rattle.uno_entities.specs.Entities.{entities_of}
-use Rattle.uno_model.specs.BuiltIn.{built_in}
-use Rattle.uno_model.specs.Registry.{find_entity}
 use Rattle.idl_check.proofs.registry.registry_told.Goals as goal
 
 pub returns : goal.returns
