@@ -58,7 +58,7 @@ const ROWS: &[(&str, &str)] = &[
 ];
 
 /// Shows variables; where there is none, a mark.
-fn show(shown: &mut Shown, variables: &[Variable]) {
+pub(crate) fn show(shown: &mut Shown, variables: &[Variable]) {
     if variables.is_empty() {
         return shown.word("-");
     }
