@@ -1,10 +1,9 @@
 -- Whether names are there, name by name.
-use Rattle.std.proofs.Common.{◌≡◌, ℕ, ◌+◌, ◌<◌, ◌≤◌, Bool, true, false, ◌&&◌, List, [], ◌∷◌, ◌++◌, length, map, drop, get_or, refl, sym, ap, ◌∙◌}
+use Rattle.std.proofs.Common.{◌≡◌, ℕ, ◌+◌, ◌<◌, ◌≤◌, Bool, true, false, ◌&&◌, List, ◌++◌, length, map, drop, get_or, sym, ap, ◌∙◌}
 use Rattle.std.specs.List.{flat_map, list_all}
 use Rattle.std.proofs.lemmas.List.{drop_all}
 use Rattle.std.proofs.lemmas.List.Folds.{list_all-append}
 use Rattle.bridge_model.specs.RootRuns.{argument_names, names_in, names_in_all}
-use Rattle.plan_model.specs.Expressions as plain
 use Rattle.plan_types.specs.Expressions.{argument_of, expression_of, expressions_of}
 use Rattle.plan_types.specs.declared.expression.Argument.{Argument}
 use Rattle.plan_types.specs.declared.expression.Expression.{Expression}
