@@ -1,5 +1,4 @@
-//! The tests of an endpoint and of its parts, over public calls alone: its streams, objects, journal and setting, the variables of frames and of threads, and
-//! talks with it.
+//! The tests of an endpoint and of its parts, over public calls alone: its streams, objects, journal and setting, the variables of its frames, and talks with it.
 #![tactic(auto)]
 
 #[cfg(test)]
@@ -16,8 +15,6 @@ mod settings;
 mod shown;
 #[cfg(test)]
 mod streams;
-#[cfg(test)]
-mod threads;
 #[cfg(test)]
 mod values;
 #[cfg(test)]

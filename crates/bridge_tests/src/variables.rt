@@ -58,7 +58,7 @@ const ROWS: &[(&str, &str)] = &[
 ];
 
 /// Shows variables; where there is none, a mark.
-pub(crate) fn show(shown: &mut Shown, variables: &[Variable]) {
+fn show(shown: &mut Shown, variables: &[Variable]) {
     if variables.is_empty() {
         return shown.word("-");
     }
