@@ -3,7 +3,7 @@
 //! `reserve`, `unreserve`, `room`, `stamp 7`, and an entry: `reap 3`, `feed`, `ask 1`, `dispose`. An entry and the giving up of room
 //! answer `!` where there is no room, and nothing else. `show` shows the entries with their marks.
 use crate::shown::{Shown, cut, number_in};
-use crate::values::{name, text};
+use crate::texts::{name_of, text_of};
 use bridge_journal::{Entry, Journal};
 use std::alloc::Global;
 use std::process::Abort;
@@ -33,8 +33,8 @@ fn entry_of(rt: &impl Abort, alloc: Global, what: &str, number: u32) -> Entry {
         "feed" => Entry::Fed(Vec::from_slice(alloc, b"ab").expect(rt, "no memory")),
         "ask" => Entry::Asked {
             root: number,
-            name: text(rt, alloc, "node"),
-            wanted: name(rt, alloc, "demo.XNode"),
+            name: text_of(rt, alloc, "node"),
+            wanted: name_of(rt, alloc, "demo.XNode"),
         },
         "dispose" => Entry::Disposed,
         _ => panic!(rt; "no such call"),

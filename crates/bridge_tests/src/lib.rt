@@ -1,4 +1,5 @@
-//! The tests of an endpoint and of its parts, over public calls alone: its streams, objects, journal and setting, the variables of its frames, and talks with it.
+//! The tests of an endpoint and of its parts, and of what plans run in, over public calls alone: its streams, objects, journal and setting, the
+//! variables of its frames, and talks with it; the effects of statements, the stacks of frames, and the service manager.
 #![tactic(auto)]
 
 #[cfg(test)]
@@ -8,6 +9,8 @@ mod journals;
 #[cfg(test)]
 mod objects;
 #[cfg(test)]
+mod plan_runs;
+#[cfg(test)]
 mod registries;
 #[cfg(test)]
 mod settings;
@@ -15,6 +18,8 @@ mod settings;
 mod shown;
 #[cfg(test)]
 mod streams;
+#[cfg(test)]
+mod texts;
 #[cfg(test)]
 mod values;
 #[cfg(test)]

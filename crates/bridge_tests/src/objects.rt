@@ -7,7 +7,8 @@ ghost use Rattle.uno_model.specs.Sound.{IsSound};
 
 use crate::registries::registry;
 use crate::shown::{Shown, cut, number_in};
-use crate::values::{name, reference_of, show_values, text, values_of};
+use crate::texts::{name_of, text_of};
+use crate::values::{reference_of, show_values, values_of};
 use bridge_objects::{Holder, Objects};
 use std::alloc::Global;
 use std::process::Abort;
@@ -250,14 +251,14 @@ fn step(
     match what {
         "hold" | "let_go" | "holds" => {
             let (oid, face) = cut(rest, '/');
-            let oid = text(rt, alloc, oid);
-            let face = name(rt, alloc, face);
+            let oid = text_of(rt, alloc, oid);
+            let face = name_of(rt, alloc, face);
             on_holder(rt, objects, what, holder_of(first), (&oid, &face), shown);
         }
         "holders" | "any_holds" | "sent" | "released" | "has_stub" | "any_stub" | "called" => {
             let (oid, face) = cut(words, '/');
-            let oid = text(rt, alloc, oid);
-            let face = name(rt, alloc, face);
+            let oid = text_of(rt, alloc, oid);
+            let face = name_of(rt, alloc, face);
             on_pair(registry, objects, what, (&oid, &face), shown);
         }
         "gain" | "lose" => {

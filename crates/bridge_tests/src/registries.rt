@@ -3,10 +3,8 @@
 //! with the same parameters, which returns a long; all of them are longs.
 ghost use Rattle.uno_model.specs.Sound.{IsSound};
 
-use crate::values::text;
-use behaviour_text::read_plan;
+use crate::texts::{plan_of, registry_of, text_of};
 use plan_types::{Export, Plan};
-use registry_reading::read_registry;
 use std::alloc::Global;
 use std::process::Abort;
 use uno_types::Registry;
@@ -36,7 +34,7 @@ const PLAN: &str = "unoplan 1\n\
 pub(crate) fn registry(rt: &impl Abort, alloc: Global) -> Registry
     ensures { IsSound result }
 {
-    read_registry(alloc, TYPES.as_bytes()).expect(rt, "no registry")
+    registry_of(rt, alloc, TYPES)
 }
 
 /// The plan with these lines of services and singletons. Its third export has the name of the first, which no text of a plan says.
@@ -44,7 +42,7 @@ pub(crate) fn plan(rt: &impl Abort, alloc: Global, registry: &Registry, offers: 
     requires { IsSound registry.now }
 {
     let mut plan = read(rt, alloc, registry, offers);
-    let name = text(rt, alloc, "echo");
+    let name = text_of(rt, alloc, "echo");
     plan.exports.push(Export { name, behaviour: 1 }).ok();
     plan
 }
@@ -55,5 +53,5 @@ fn read(rt: &impl Abort, alloc: Global, registry: &Registry, offers: &str) -> Pl
     let mut lines = String::new(alloc);
     lines.push_str(PLAN).ok();
     lines.push_str(offers).ok();
-    read_plan(alloc, registry, lines.as_bytes()).expect(rt, "no plan")
+    plan_of(rt, alloc, registry, &lines)
 }

@@ -8,9 +8,8 @@ ghost use Rattle.uno_model.specs.Sound.{IsSound};
 
 use crate::registries::{plan, registry};
 use crate::shown::{Shown, cut, number_in};
-use crate::values::{
-    any_of, name, put_reference, show_answer, show_values, text, value_of, values_of,
-};
+use crate::texts::{name_of, text_of};
+use crate::values::{any_of, put_reference, show_answer, show_values, value_of, values_of};
 use bridge_setting::{
     Setting, exported, first_objects, has_offers, home_answer, home_each, is_base_of, supports,
     told,
@@ -131,8 +130,8 @@ fn of_names(
 
 fn of_identity(rt: &impl Abort, alloc: Global, setting: &Setting, word: &str, shown: &mut Shown) {
     let (oid, face) = cut(word, '/');
-    let oid = text(rt, alloc, oid);
-    let face = name(rt, alloc, face);
+    let oid = text_of(rt, alloc, oid);
+    let face = name_of(rt, alloc, face);
     shown.put(" ");
     put_reference(shown, &told(setting, oid, face));
 }

@@ -4,14 +4,17 @@ use std::fmt::Debug;
 use std::process::Abort;
 use uno_base::NoMemory;
 use uno_types::Registry;
-use uno_values::Value;
-use value_text::push_value;
+use uno_values::{AnyValue, Value, weight};
+use value_text::{push_any, push_value};
+
+/// The most that a value weighs whose literal is shown.
+const MOST_SHOWN: u64 = 1_000_000;
 
 /// Words, each behind a blank. What finds no memory is left out, so that its row fails.
 #[derive(Drop)]
 pub(crate) struct Shown {
     alloc: Global,
-    text: String,
+    pub(crate) text: String,
 }
 
 impl Shown {
@@ -106,10 +109,25 @@ impl Shown {
         }
     }
 
+    /// Puts the literal of a value; one that weighs much is shown by its weight.
+    pub(crate) fn put_value(&mut self, registry: &Registry, value: &Value) {
+        let weight = weight(registry, value);
+        if weight > MOST_SHOWN {
+            self.put("weighing ");
+            self.put_number(weight);
+            return;
+        }
+        push_value(self.alloc, &mut self.text, registry, value).ok();
+    }
+
+    pub(crate) fn put_any(&mut self, registry: &Registry, any: &AnyValue) {
+        push_any(self.alloc, &mut self.text, registry, any).ok();
+    }
+
     /// Puts the literal of a value behind a blank.
     pub(crate) fn value(&mut self, registry: &Registry, value: &Value) {
         self.put(" ");
-        push_value(registry.allocator(), &mut self.text, registry, value).ok();
+        self.put_value(registry, value);
     }
 
     pub(crate) fn values(&mut self, registry: &Registry, values: &[Value]) {

@@ -1,38 +1,26 @@
 //! Values as words: `5` is a long, `own:S;2/n` and `peer:C;1/n` are references under the interface `n`, and `null:/n` is none; `<W` is an
 //! any of `W`, `[V&W` a sequence and `{V&W` a struct of `V` and `W`. They are shown as they are written, but for `null` and `void`. The
 //! product's own literals have no word for an object of this end.
-ghost use Rattle.std.specs.Prelude.{◌≡◌};
 
 use crate::shown::{Shown, cut};
+use crate::texts::{name_of, text_of};
 use std::alloc::Global;
 use std::process::Abort;
 use uno_types::{Name, Text, TypeName};
 use uno_values::{AnyValue, Reference, Value};
 use urp_message::Answer;
 
-pub(crate) fn text(rt: &impl Abort, alloc: Global, word: &str) -> Text
-    ensures { result ≡ word.now }
-{
-    Text::of(alloc, word).expect(rt, "no memory")
-}
-
-pub(crate) fn name(rt: &impl Abort, alloc: Global, word: &str) -> Name
-    ensures { result ≡ word.now }
-{
-    Name::of(alloc, word).expect(rt, "no memory")
-}
-
 pub(crate) fn reference_of(rt: &impl Abort, alloc: Global, word: &str) -> Reference {
     let (whose, pair) = cut(word, ':');
     let (oid, face) = cut(pair, '/');
     match whose {
         "own" => Reference::Local {
-            oid: text(rt, alloc, oid),
-            face: name(rt, alloc, face),
+            oid: text_of(rt, alloc, oid),
+            face: name_of(rt, alloc, face),
         },
         "peer" => Reference::Remote {
-            oid: text(rt, alloc, oid),
-            face: name(rt, alloc, face),
+            oid: text_of(rt, alloc, oid),
+            face: name_of(rt, alloc, face),
         },
         "null" => Reference::Null,
         _ => panic!(rt; "no reference"),
@@ -55,7 +43,7 @@ pub(crate) fn value_of(rt: &impl Abort, alloc: Global, word: &str) -> Value {
         return Value::List(TypeName::Any, parts_of(rt, alloc, words));
     }
     if let Some(words) = word.strip_prefix('{') {
-        return Value::Tuple(name(rt, alloc, "demo.Pair"), parts_of(rt, alloc, words));
+        return Value::Tuple(name_of(rt, alloc, "demo.Pair"), parts_of(rt, alloc, words));
     }
     part_of(rt, alloc, word)
 }
@@ -88,7 +76,7 @@ pub(crate) fn any_of(rt: &impl Abort, alloc: Global, word: &str) -> AnyValue {
 
 fn kind_of(rt: &impl Abort, alloc: Global, word: &str) -> TypeName {
     match word.split_once('/') {
-        Some((_, face)) => TypeName::Interface(name(rt, alloc, face)),
+        Some((_, face)) => TypeName::Interface(name_of(rt, alloc, face)),
         None => TypeName::Long,
     }
 }

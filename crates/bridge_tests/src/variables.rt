@@ -8,7 +8,8 @@ ghost use Rattle.uno_model.specs.Sound.{IsSound};
 
 use crate::registries::{NODE, plan, registry};
 use crate::shown::{Shown, cut};
-use crate::values::{name, put_reference, put_value, show_value, show_values, value_of, values_of};
+use crate::texts::name_of;
+use crate::values::{put_reference, put_value, show_value, show_values, value_of, values_of};
 use frame_variables::{Found, add, first_variables, sort_answer, take_answer, take_reference};
 use named_variables::{put, take_out};
 use plan_types::{Call, Plan, Statement, Variable};
@@ -87,7 +88,7 @@ fn on_variable(
     shown: &mut Shown,
 ) {
     let (to, word) = cut(words, ' ');
-    let name = name(rt, alloc, to);
+    let name = name_of(rt, alloc, to);
     match what {
         "add" => shown.done(add(variables, name, value_of(rt, alloc, word))),
         "put" => {
@@ -152,8 +153,8 @@ fn taken(
 {
     let (to, words) = cut(words, ' ');
     let (wanted, word) = cut(words, ' ');
-    let wanted = name(rt, alloc, wanted);
-    let to = name(rt, alloc, to);
+    let wanted = name_of(rt, alloc, wanted);
+    let to = name_of(rt, alloc, to);
     let answer = value_of(rt, alloc, word);
     let rest = take_reference(registry, &wanted, to, answer, variables);
     show_rest(shown, &rest.expect(rt, "no memory"));
@@ -164,7 +165,7 @@ fn sorted(rt: &impl Abort, alloc: Global, registry: &Registry, words: &str, show
     requires { IsSound registry.now }
 {
     let (wanted, word) = cut(words, ' ');
-    let wanted = name(rt, alloc, wanted);
+    let wanted = name_of(rt, alloc, wanted);
     let Found { reference, rest } = sort_answer(registry, &wanted, value_of(rt, alloc, word));
     shown.put(" ");
     put_reference(shown, &reference);

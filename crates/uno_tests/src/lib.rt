@@ -1,4 +1,4 @@
-//! The tests of the library that are no rows of texts, over public calls alone.
+//! The tests of the libraries below plans and bridges that are no rows of texts, over public calls alone.
 #![tactic(auto)]
 
 #[cfg(test)]
@@ -21,3 +21,7 @@ mod slots;
 mod sources;
 #[cfg(test)]
 mod streams;
+#[cfg(test)]
+mod tables;
+#[cfg(test)]
+mod turns;

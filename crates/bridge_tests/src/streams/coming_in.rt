@@ -5,10 +5,11 @@
 //! a part of a block is held.
 ghost use Rattle.uno_model.specs.Sound.{IsSound};
 
-use super::talk::{BYTES, CALL, tid};
+use super::talk::{BYTES, CALL};
 use crate::registries::{NODE, registry};
 use crate::shown::Shown;
-use crate::values::{name, show_answer, show_values, text};
+use crate::texts::{name_of, text_of, tid_of};
+use crate::values::{show_answer, show_values};
 use bridge_streams::{Incoming, Taken, Waiting};
 use call_stacks::Stacks;
 use plan_types::{Frame, Outgoing};
@@ -205,11 +206,11 @@ fn waiting(rt: &impl Abort, alloc: Global) -> Stacks {
     let mut stacks = Stacks::new(alloc);
     let frame = Frame::Out(Outgoing {
         number: 0,
-        oid: text(rt, alloc, "S;1"),
-        face: name(rt, alloc, NODE),
+        oid: text_of(rt, alloc, "S;1"),
+        face: name_of(rt, alloc, NODE),
         function: 3,
     });
-    let tid = tid(rt, alloc, b"T");
+    let tid = tid_of(rt, alloc, b"T");
     stacks.push(&tid, frame).expect(rt, "no memory");
     stacks
 }

@@ -5,9 +5,9 @@ ghost use Rattle.message_model.specs.Messages.{release};
 ghost use Rattle.uno_model.specs.Sound.{IsSound};
 ghost use Rattle.urp_message.specs.Messages.{message_of};
 
-use super::talk::{BYTES, CALL, TALK, message, release, tid};
+use super::talk::{BYTES, CALL, TALK, message, release};
 use crate::registries::{NODE, registry};
-use crate::values::{name, text};
+use crate::texts::{name_of, text_of, tid_of};
 use bridge_streams::{Outgoing, Unsaid};
 use proxy_table::Release;
 use std::alloc::Global;
@@ -121,7 +121,7 @@ fn see_talk(rt: &impl Abort, alloc: Global, registry: &Registry, most: u32)
     requires { IsSound registry.now }
 {
     let mut outgoing = Outgoing::new(alloc).expect(rt, "no memory");
-    let mut unsaid = Unsaid::new(alloc, tid(rt, alloc, b"U"));
+    let mut unsaid = Unsaid::new(alloc, tid_of(rt, alloc, b"U"));
     says_all(rt, alloc, registry, &mut unsaid, TALK);
     see_drained(rt, alloc, registry, &mut outgoing, &mut unsaid, most, BYTES);
 }
@@ -163,11 +163,11 @@ fn see_release(
 {
     assert!(rt; may_release(rt, alloc, registry, thread, oid, face));
     let mut outgoing = Outgoing::new(alloc).expect(rt, "no memory");
-    let mut unsaid = Unsaid::new(alloc, tid(rt, alloc, thread));
+    let mut unsaid = Unsaid::new(alloc, tid_of(rt, alloc, thread));
     unsaid.keep_one().expect(rt, "no memory");
     unsaid.release(Release {
-        oid: text(rt, alloc, oid),
-        face: name(rt, alloc, face),
+        oid: text_of(rt, alloc, oid),
+        face: name_of(rt, alloc, face),
     });
     see_drained(
         rt,
@@ -218,7 +218,7 @@ fn see_told_again(rt: &impl Abort, alloc: Global, registry: &Registry)
     requires { IsSound registry.now }
 {
     let mut outgoing = Outgoing::new(alloc).expect(rt, "no memory");
-    let mut unsaid = Unsaid::new(alloc, tid(rt, alloc, b"U"));
+    let mut unsaid = Unsaid::new(alloc, tid_of(rt, alloc, b"U"));
     see_forgotten(rt, alloc, registry, &mut outgoing, &mut unsaid);
     says(rt, alloc, registry, &mut unsaid, "call");
     see_drained(rt, alloc, registry, &mut outgoing, &mut unsaid, MANY, CALL);

@@ -2,10 +2,10 @@
 //!
 //! `push` says a message, `keep` and `unkeep` are for `keep_one` and `unkeep`, and `release`, `clear`, `kept` and `empty` as they are called. Where there
 //! is no room, `unkeep` and `release` answer `!`.
-use super::talk::{message, tid};
+use super::talk::message;
 use crate::registries::NODE;
 use crate::shown::Shown;
-use crate::values::{name, text};
+use crate::texts::{name_of, text_of, tid_of};
 use bridge_streams::Unsaid;
 use proxy_table::Release;
 use std::alloc::Global;
@@ -30,8 +30,8 @@ fn release(rt: &impl Abort, alloc: Global, unsaid: &mut Unsaid, shown: &mut Show
         return shown.word("!");
     }
     unsaid.release(Release {
-        oid: text(rt, alloc, "S;1"),
-        face: name(rt, alloc, NODE),
+        oid: text_of(rt, alloc, "S;1"),
+        face: name_of(rt, alloc, NODE),
     });
 }
 
@@ -57,7 +57,7 @@ fn step(rt: &impl Abort, alloc: Global, unsaid: &mut Unsaid, what: &str, shown: 
 
 /// Sees what the calls of a row answer.
 fn see(rt: &impl Abort, alloc: Global, calls: &str, wanted: &str) {
-    let mut unsaid = Unsaid::new(alloc, tid(rt, alloc, b"U"));
+    let mut unsaid = Unsaid::new(alloc, tid_of(rt, alloc, b"U"));
     let mut shown = Shown::new(alloc);
     for call in calls.split(',') {
         step(rt, alloc, &mut unsaid, call, &mut shown);

@@ -5,10 +5,9 @@ ghost use Rattle.message_model.specs.Messages.{release};
 ghost use Rattle.urp_message.specs.Messages.{message_of};
 
 use crate::registries::NODE;
-use crate::values::{name, text};
+use crate::texts::{name_of, text_of, tid_of};
 use std::alloc::Global;
 use std::process::Abort;
-use uno_types::Tid;
 use uno_values::Value;
 use urp_message::{Answer, Message};
 
@@ -26,12 +25,6 @@ pub(crate) const BYTES: &[u8] =
 pub(crate) const CALL: &[u8] =
     b"\0\0\0\x1E\0\0\0\x01\xF8\x03\x96\0\0\x0Ademo.XNode\x03S;1\0\0\x01T\0\0\0\0\0\x15";
 
-pub(crate) fn tid(rt: &impl Abort, alloc: Global, bytes: &[u8]) -> Tid
-    ensures { result ≡ bytes.now }
-{
-    Tid::of(alloc, bytes).expect(rt, "no memory")
-}
-
 /// A message of the talk.
 pub(crate) fn message(rt: &impl Abort, alloc: Global, what: &str) -> Message {
     match what {
@@ -46,9 +39,9 @@ fn call(rt: &impl Abort, alloc: Global) -> Message {
     let mut args = Vec::new(alloc);
     args.push(Value::Long(21)).ok();
     Message::Request {
-        tid: tid(rt, alloc, b"T"),
-        oid: text(rt, alloc, "S;1"),
-        face: name(rt, alloc, NODE),
+        tid: tid_of(rt, alloc, b"T"),
+        oid: text_of(rt, alloc, "S;1"),
+        face: name_of(rt, alloc, NODE),
         function: 3,
         args,
     }
@@ -65,16 +58,16 @@ pub(crate) fn release(
     ensures { message_of result ≡ release thread.now oid.now face.now }
 {
     Message::Release {
-        tid: tid(rt, alloc, thread),
-        oid: text(rt, alloc, oid),
-        face: name(rt, alloc, face),
+        tid: tid_of(rt, alloc, thread),
+        oid: text_of(rt, alloc, oid),
+        face: name_of(rt, alloc, face),
     }
 }
 
 fn answer(rt: &impl Abort, alloc: Global) -> Message {
     Message::Reply {
-        tid: tid(rt, alloc, b"T"),
-        face: name(rt, alloc, NODE),
+        tid: tid_of(rt, alloc, b"T"),
+        face: name_of(rt, alloc, NODE),
         function: 3,
         answer: Answer::Returned {
             value: Value::Long(42),

@@ -1,5 +1,5 @@
 //! Tables beside plain lists, over operations that are drawn.
-use crate::calls::{arrive, free, send};
+use crate::tables::calls::{arrive, free, send};
 use env_table::{Environment, Holder};
 use object_store::Store;
 use proxy_table::ProxyTable;

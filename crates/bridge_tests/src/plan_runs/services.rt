@@ -125,7 +125,7 @@ fn put_created(said: &mut Shown, registry: &Registry, created: &Result<Created, 
     match created {
         Ok(Created::Fresh { fields, .. }) => {
             said.put("made");
-            said.put_values(registry, fields);
+            said.values(registry, fields);
         }
         Ok(Created::Singleton(place)) => {
             said.put("singleton ");
@@ -145,7 +145,7 @@ fn see(rt: &impl Abort, alloc: Global, row: &Row) {
     let created = create(alloc, &plan, &registry, name, elements(&args));
     let mut said = Shown::new(alloc);
     put_created(&mut said, &registry, &created);
-    assert_eq!(rt; said.text.as_str(), wanted, "at {name} of {constructors}");
+    assert_eq!(rt; said.as_str(), wanted, "at {name} of {constructors}");
 }
 
 #[test]

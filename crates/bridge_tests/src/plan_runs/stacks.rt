@@ -4,8 +4,9 @@
 //! `answer a`, `waits a`, `set a b1`, `depth a`, `nth 0`, `ready 0`, `any`. A frame is answered as it is written, a call that waits by its
 //! function, which is 3, a TID by its letter, none as `-`, `NobodyWaits` as `!`, whether any stack waits as `w1` or `w0`; a push and a set
 //! answer nothing.
+use crate::plan_runs::FACE;
 use crate::shown::Shown;
-use crate::texts::{FACE, name_of, text_of, tid_of};
+use crate::texts::{name_of, text_of, tid_of};
 use call_stacks::{NobodyWaits, Stacks};
 use plan_types::{Body, Frame, Outgoing};
 use std::alloc::Global;
@@ -174,7 +175,7 @@ fn see(rt: &impl Abort, alloc: Global, calls: &str, wanted: &str) {
     for call in calls.split(',') {
         step(rt, alloc, &mut stacks, call, &mut said);
     }
-    assert_eq!(rt; said.text.as_str(), wanted, "at {calls}");
+    assert_eq!(rt; said.as_str(), wanted, "at {calls}");
 }
 
 #[test]

@@ -1,5 +1,5 @@
 //! The worked rows of the tables.
-use crate::calls::{arrive, free, send};
+use crate::tables::calls::{arrive, free, send};
 use env_table::{Environment, Holder, NotHeld};
 use object_store::ObjectStore;
 use proxy_table::ProxyTable;

@@ -1,7 +1,7 @@
 //! What the methods of the service manager ask, by rows: the number of the function, the literals of the name and of the arguments that
 //! it is given, and what is asked.
-use crate::effects::jobs::{Called, asked};
-use crate::services::{NONE, plan_with, registry_with};
+use crate::plan_runs::effects::jobs::{Called, asked};
+use crate::plan_runs::services::{NONE, plan_with, registry_with};
 use std::process::Abort;
 
 const ROWS: &[(u16, &str, &str, &str)] = &[

@@ -1,4 +1,5 @@
 //! What the texts of a row say: registries, plans, values and names.
+ghost use Rattle.std.specs.Prelude.{◌≡◌};
 ghost use Rattle.uno_model.specs.Sound.{IsSound};
 
 use behaviour_text::read_plan;
@@ -10,17 +11,21 @@ use uno_types::{Name, Registry, Text, Tid};
 use uno_values::Value;
 use value_text::read_value;
 
-pub(crate) const FACE: &str = "t.XNode";
-
-pub(crate) fn name_of(rt: &impl Abort, alloc: Global, text: &str) -> Name {
+pub(crate) fn name_of(rt: &impl Abort, alloc: Global, text: &str) -> Name
+    ensures { result ≡ text.now }
+{
     Name::of(alloc, text).expect(rt, "no memory")
 }
 
-pub(crate) fn text_of(rt: &impl Abort, alloc: Global, text: &str) -> Text {
+pub(crate) fn text_of(rt: &impl Abort, alloc: Global, text: &str) -> Text
+    ensures { result ≡ text.now }
+{
     Text::of(alloc, text).expect(rt, "no memory")
 }
 
-pub(crate) fn tid_of(rt: &impl Abort, alloc: Global, bytes: &[u8]) -> Tid {
+pub(crate) fn tid_of(rt: &impl Abort, alloc: Global, bytes: &[u8]) -> Tid
+    ensures { result ≡ bytes.now }
+{
     Tid::of(alloc, bytes).expect(rt, "no memory")
 }
 

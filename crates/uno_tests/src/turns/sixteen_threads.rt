@@ -2,7 +2,7 @@
 ghost use Rattle.std.specs.Prelude.{◌≡◌, ◌+◌, ◌<◌, ◌≤◌, IfOk};
 ghost use Rattle.turn_book.specs.Passes.{room, Rests};
 
-use crate::log::{Item, Log, add_one};
+use crate::turns::log::{Item, Log, add_one};
 use std::process::Abort;
 use std::sync::Wait;
 use std::test::Fail;

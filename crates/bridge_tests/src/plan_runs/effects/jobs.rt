@@ -1,9 +1,10 @@
 //! A job, and what it asks.
 ghost use Rattle.uno_model.specs.Sound.{IsSound};
 
-use crate::effects::showing::put_effect;
+use crate::plan_runs::FACE;
+use crate::plan_runs::effects::showing::put_effect;
 use crate::shown::Shown;
-use crate::texts::{FACE, name_of, text_of, tid_of, value_of};
+use crate::texts::{name_of, text_of, tid_of, value_of};
 use behaviour::{Done, next};
 use plan_types::{Body, Frame, Job, Plan, Variable};
 use std::alloc::Global;

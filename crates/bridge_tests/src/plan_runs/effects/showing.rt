@@ -3,7 +3,7 @@ use crate::shown::Shown;
 use behaviour::Effect;
 use plan_types::Variable;
 use uno_types::{Name, Registry};
-use uno_values::{Reference, Value};
+use uno_values::Reference;
 
 fn put_object(said: &mut Shown, reference: &Reference) {
     match reference {
@@ -50,7 +50,7 @@ pub(crate) fn put_effect(said: &mut Shown, registry: &Registry, effect: &Effect)
             said.put(" ");
             said.put_number(u64::from(*function));
             put_words(said, &[" to ", name_or_none(to), " with"]);
-            said.put_values(registry, args);
+            said.values(registry, args);
         }
         Effect::Queries { target, wanted, to } => {
             said.put("queries ");
@@ -69,13 +69,13 @@ pub(crate) fn put_effect(said: &mut Shown, registry: &Registry, effect: &Effect)
         Effect::Disposes => said.put("disposes"),
         Effect::Creates { name, args } => {
             put_words(said, &["creates ", name.as_str(), " with"]);
-            said.put_values(registry, args);
+            said.values(registry, args);
         }
         Effect::Returns { value, outs } => {
             said.put("returns ");
             said.put_value(registry, value);
             said.put(" with");
-            said.put_values(registry, outs);
+            said.values(registry, outs);
         }
         Effect::Raises(any) => {
             said.put("raises ");

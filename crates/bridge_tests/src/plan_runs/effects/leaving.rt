@@ -1,9 +1,10 @@
 //! What leaves a method that an exception ends, by rows: an exception, and the one that leaves.
 ghost use Rattle.uno_model.specs.Sound.{IsSound};
 
-use crate::effects::ENTITIES;
+use crate::plan_runs::FACE;
+use crate::plan_runs::effects::ENTITIES;
 use crate::shown::Shown;
-use crate::texts::{FACE, name_of, registry_of, tid_of, value_of};
+use crate::texts::{name_of, registry_of, tid_of, value_of};
 use behaviour::{caused, leaving_exception};
 use plan_types::RuntimeCause;
 use std::alloc::Global;
@@ -52,7 +53,7 @@ fn left(rt: &impl Abort, alloc: Global, registry: &Registry, raised: &str) -> An
 fn see(rt: &impl Abort, alloc: Global, registry: &Registry, exception: &AnyValue, wanted: &str) {
     let mut said = Shown::new(alloc);
     said.put_any(registry, exception);
-    assert_eq!(rt; said.text.as_str(), wanted);
+    assert_eq!(rt; said.as_str(), wanted);
 }
 
 #[test]

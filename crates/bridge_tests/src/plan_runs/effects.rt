@@ -7,7 +7,8 @@ mod leaving;
 mod manager;
 mod showing;
 
-use crate::texts::{FACE, plan_of, registry_of};
+use crate::plan_runs::FACE;
+use crate::texts::{plan_of, registry_of};
 use jobs::{Called, asked};
 use plan_types::Plan;
 use std::alloc::Global;

@@ -1,0 +1,5 @@
+//! The lock of turns.
+
+mod log;
+mod rows;
+mod sixteen_threads;
