@@ -23,7 +23,9 @@ const WORDS: usize = 4_096;
 
 const WORD_SHIFT: u32 = 20;
 
-/// What mixes the bytes of a word.
+/// What mixes how many bytes a word has with some of them, and all of that.
+const PRIME: u32 = 0x0100_0193;
+
 const MIX: u32 = 0x9e37_79b1;
 
 /// For each slot the number of a token that had it, or 0.
@@ -156,13 +158,24 @@ fn word_named(alloc: Global, word: &str) -> Result<Word, NoMemory>
     Ok(Word::Quoted(Text::of(alloc, word)?))
 }
 
-/// The slot of a word: by all of its bytes.
+/// The slot of a word: by how many bytes it has, and some of them.
 fn word_slot(spelled: &[u8]) -> usize {
-    let mut mixed = 0u32;
-    for byte in spelled {
-        mixed = mixed.wrapping_mul(31).wrapping_add(*byte as u32);
-    }
+    let length = spelled.len();
+    let bytes = [
+        byte_at(spelled, 0),
+        byte_at(spelled, length.saturating_sub(3)),
+        byte_at(spelled, length.saturating_sub(2)),
+        byte_at(spelled, length.saturating_sub(1)),
+    ];
+    let mixed = u32::from_le_bytes(bytes) ^ ((length % 256) as u32).wrapping_mul(PRIME);
     (mixed.wrapping_mul(MIX) >> WORD_SHIFT) as usize + MARKS
+}
+
+fn byte_at(bytes: &[u8], place: usize) -> u8 {
+    match bytes.get(place) {
+        Some(byte) => *byte,
+        None => 0,
+    }
 }
 
 /// The slot of a mark: its byte, or how many bytes it has.

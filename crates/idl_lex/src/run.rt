@@ -4,6 +4,7 @@ ghost use Rattle.std.specs.Prelude.{◌≡◌, ◌≤◌, take, length, IsTrue};
 ghost use Rattle.std.specs.List.{list_all};
 ghost use Rattle.std.specs.Str.{bytes_eq};
 ghost use Rattle.literal_model.specs.Shapes.{run_of, behind_run};
+ghost use Rattle.uno_model.specs.Names.{goes_on_identifier};
 ghost use Rattle.idl_text_model.specs.Readings.{start_at};
 ghost use Rattle.idl_lex.specs.Runs.{test_of, is_ascii};
 
@@ -40,9 +41,19 @@ pub(crate) fn goes_on(run: Run, byte: u8) -> bool
 {
     match run {
         Run::Blank => byte == b' ' || byte == b'\t',
-        Run::Word => goes_on_identifier(byte),
+        Run::Word => goes_on_word(byte),
         Run::Line => byte != b'\n',
     }
+}
+
+/// Whether a byte stands in a word; most that do are letters, which are asked for first.
+fn goes_on_word(byte: u8) -> bool
+    ensures { result ≡ goes_on_identifier byte }
+{
+    if byte.is_ascii_alphabetic() {
+        return true;
+    }
+    goes_on_identifier(byte)
 }
 
 /// Behind what stands before the first word of a line: blanks, and all of the line where a `#` follows them.

@@ -12,6 +12,7 @@ pub mod PathLaws
 mod PathLookups
 mod RefusedLemmas
 mod ResolveLemmas
+mod SlotLemmas
 pub mod StandLemmas
 mod TellLemmas
 mod TextLaws

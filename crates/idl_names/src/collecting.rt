@@ -22,8 +22,9 @@ pub struct Collected<'a> {
 pub fn collect<'a>(alloc: Global, trees: &'a [Tree]) -> Result<Collected<'a>, NoMemory>
     ensures { IfOk result (IsCollected (trees_of trees.now)) }
 {
+    let paths = Paths::new(alloc)?;
     let mut collected = Collected {
-        paths: Paths::new(alloc),
+        paths,
         declared: Vec::new(alloc),
     };
     collected.add_trees(trees)?;

@@ -68,13 +68,13 @@ impl<'t> Parser<'t> {
         Ok(defs)
     }
 
-    /// { def }
+    /// { def }; most modules have one, so there is room for one at first
     #[cycle(def)]
     fn defs_within(&mut self, modules: u32) -> Result<Vec<Def>, Stop>
         ensures gives { Gives (λ all. map def_of all.items) result self.new (many (is_open (codes "}")) (model.def 64 64 modules) self.old) }
         ensures shorter { OnOk result (length self.new ≤ length self.old) }
     {
-        let mut all = Vec::new(self.alloc);
+        let mut all = Vec::with_capacity(self.alloc, 1)?;
         while self.is_open("}") {
             let def = self.def(modules)?;
             all.push(def)?;

@@ -12,6 +12,9 @@ use crate::stop::Stop;
 use idl_trees::{Id, Path, Word};
 use uno_entities::Name;
 
+/// How many identifiers most names have that stand in other modules.
+const USUAL_PARTS: usize = 5;
+
 impl<'t> Parser<'t> {
     /// Whether the next token is an identifier.
     pub(crate) fn is_identifier(&self) -> bool
@@ -48,7 +51,7 @@ impl<'t> Parser<'t> {
     {
         let mark = self.accept_mark_at("::");
         let Id { name, place } = self.id()?;
-        let mut parts = Vec::new(self.alloc);
+        let mut parts = Vec::with_capacity(self.alloc, USUAL_PARTS)?;
         parts.push(name)?;
         self.more_parts(&mut parts)?;
         Ok(Path {

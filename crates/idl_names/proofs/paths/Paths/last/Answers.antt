@@ -17,7 +17,7 @@ returns-in-Some-clause-some c =
     slice_get_read items (length items) (c.args.number - 1) c.in-Some.field-0.now refl low (subst (λ xs. c.in-Some.field-0.now ≡ get_or xs (c.args.number - 1) c.in-Some.field-0.now) c.deref.ensures.value found.1) in
     let some : c.args.number ≡ suc (c.args.number - 1) = let other = c.if-number-eq-OUTERMOST.false in omega (arith, other) in
     subst (λ ps. IsInside ps (c.in-Some.field-0.now.0, c.in-Some.field-0.now.1.now) c.args.number) c.self.view_is
-    (inside_at (inside_of items) c.self.inside.numbers c.self.invariant (c.args.number - 1) c.args.number some (c.in-Some.field-0.now.0, c.in-Some.field-0.now.1.now)
+    (inside_at (inside_of items) c.self.inside.numbers c.self.invariant.numbered (c.args.number - 1) c.args.number some (c.in-Some.field-0.now.0, c.in-Some.field-0.now.1.now)
     (slice_get-map _ items (c.args.number - 1) ∙ ap (option_map _) there))
 
 pub returns-in-None-clause-none : goal.returns-in-None-clause-none

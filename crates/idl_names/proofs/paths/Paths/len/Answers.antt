@@ -17,5 +17,5 @@ returns-clause-count c =
 pub returns-clause-once : goal.returns-clause-once
 returns-clause-once c = λ n k p here there.
     let items = c.self.inside.inside.items in
-    one_path (inside_of items) (told (inside_of items) c.self.inside.numbers c.self.invariant) n k p (subst (λ ps. slice_get ps n ≡ Some p) (sym c.self.view_is) here)
+    one_path (inside_of items) (told (inside_of items) c.self.inside.numbers c.self.invariant.numbered) n k p (subst (λ ps. slice_get ps n ≡ Some p) (sym c.self.view_is) here)
     (subst (λ ps. slice_get ps k ≡ Some p) (sym c.self.view_is) there)

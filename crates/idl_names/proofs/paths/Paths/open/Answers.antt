@@ -1,8 +1,9 @@
 use Rattle.std.proofs.Common.{◌≡◌, ◌∙◌, sym, ap, subst, ◌<◌, ◌++◌, ◌∷◌, [], suc, List, length, slice_get, Some, cond, Contains, inr, append-nil, arith}
 use Rattle.std.proofs.lemmas.List.{map-append, length-map}
-use Rattle.idl_names.specs.Paths.{Inside, IsNumbered, inside_of, is_same, number_at, paths_of, within}
+use Rattle.idl_names.specs.Paths.{AreFound, Inside, inside_of, is_same, number_at, paths_of, within}
 use Rattle.idl_names.proofs.PathLookups.{one_more, opened_last}
 use Rattle.idl_names.proofs.PathLaws.{path_one_more}
+use Rattle.idl_names.proofs.SlotLemmas.{one_marked}
 use Rattle.idl_names.proofs.paths.Paths.open.Goals as goal
 
 module _ (c : goal.In-Ok-note) where
@@ -31,9 +32,13 @@ module _ (c : goal.In-Ok-note) where
 
 pub invariant_of-self-in-Ok-note : goal.invariant_of-self-in-Ok-note
 invariant_of-self-in-Ok-note c =
-    subst (λ ms. IsNumbered ms c.note.new.numbers) (sym (behind c))
-    (one_more (before c) c.self.inside.numbers c.self.invariant (opened c) (low c) (absent c) c.note.new.numbers
-    (λ o. c.in-Ok-note.ensures.noted o ∙ ap (λ k. cond (is_same (opened c) o) (Some k) (number_at c.self.inside.numbers o)) (number c)))
+    subst (λ ms. AreFound ms c.note.new.numbers c.note.new.slots.items) (sym (behind c))
+    record {
+      numbered =
+          one_more (before c) c.self.inside.numbers c.self.invariant.numbered (opened c) (low c) (absent c) c.note.new.numbers
+          (λ o. c.in-Ok-note.ensures.noted o ∙ ap (λ k. cond (is_same (opened c) o) (Some k) (number_at c.self.inside.numbers o)) (number c));
+      marked = one_marked (before c) (opened c) c.self.inside.slots.items c.note.new.slots.items c.self.invariant.marked c.in-Ok-note.ensures.marked;
+    }
 
 pub returns-in-Ok-note-clause-number : goal.returns-in-Ok-note-clause-number
 returns-in-Ok-note-clause-number c =

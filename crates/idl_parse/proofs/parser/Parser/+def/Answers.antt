@@ -6,7 +6,7 @@ use Rattle.idl_parse.proofs.Loops.{starts_empty, one_more, ended, fails, handed_
 use Rattle.idl_parse.proofs.parser.Parser.+def.Goals as goal
 
 pub defs_within-loop-self-init : goal.defs_within-loop-self-init
-defs_within-loop-self-init t c = starts_empty (is_open (codes "}")) (def 64 64 c.args.modules) def_of _ c.args.self.now c.new-all.ensures.items
+defs_within-loop-self-init t c = starts_empty (is_open (codes "}")) (def 64 64 c.args.modules) def_of _ c.args.self.now c.in_ok-all.ensures.items
 
 pub defs_within-loop-self-preserved : goal.defs_within-loop-self-preserved
 defs_within-loop-self-preserved t c =
@@ -18,7 +18,7 @@ pub defs_within-returns-in_err-def-clause-gives : goal.defs_within-returns-in_er
 defs_within-returns-in_err-def-clause-gives t c =
     let on : true ≡ is_open (codes "}") (next c.loop-self.self) = c.loop-self-test.ensures.is in
     let some : 0 < length c.loop-self.self = c.loop-self-test.ensures.some in
-    handed_over _ c.from_residual.result c.in_err-def.field-0.0 _ _ c.from_residual.ensures
+    handed_over _ c.from_residual-in_err-def.result c.in_err-def.field-0.0 _ _ c.from_residual-in_err-def.ensures
     (fails (is_open (codes "}")) (def 64 64 c.args.modules) _ _ c.args.self.now c.loop-self.self _ c.loop-self.invariant on some c.in_err-def.ensures.gives)
 
 pub defs_within-returns-clause-gives : goal.defs_within-returns-clause-gives
