@@ -1,8 +1,12 @@
+pub mod BeginLemmas
 pub mod CallLemmas
 pub mod ClassLemmas
+pub mod EndLemmas
 pub mod LeafLemmas
+pub mod LoopLemmas
 pub mod NameLemmas
 pub mod PathLemmas
 pub mod RunLemmas
+pub mod StepLemmas
 pub mod TermLemmas
 pub mod WordLemmas

@@ -1,4 +1,4 @@
--- Terms one level further in, and one behind the other.
+-- Terms one behind the other.
 use Rattle.std.proofs.Common.{◌≡◌, ℕ, zero, suc, ◌-◌, ◌<◌, ◌≢◌, eq-eqb, ne_eqb, List, [], ◌∷◌, ◌++◌, length, Option, None, Some, Result, Ok, Err, IsErr, refl, sym, ap, subst, ◌∙◌, arith}
 use Rattle.std.proofs.lemmas.List.{nil_from_length}
 use Rattle.std.specs.Result.{IsErrAnd}
@@ -6,25 +6,11 @@ use Rattle.uno_model.specs.Entities.{Entity}
 use Rattle.plan_model.specs.Lines.{Term, Terms, none, more, terms}
 use Rattle.plan_reading_model.specs.LineReading.{listed, arguments_at}
 use Rattle.plan_reading_model.specs.Parts.{on_some}
-use Rattle.plan_reading_model.specs.TermReading.{Reads, term_at, term_within, term_step, terms_on, behind_term, in_front}
+use Rattle.plan_reading_model.specs.TermReading.{Reads, term_at, terms_on, behind_term, in_front}
 use Rattle.plan_lines.specs.Fronts.{in_fronts, behind_fronts}
 use Rattle.plan_lines.specs.Reads.{UnreadBy, Gives}
 use Rattle.plan_lines.specs.declared.unread.Unread.{Unread}
 use Rattle.plan_lines.specs.declared.unread.Unread.TheVariants as unread
-
--- ---- levels
-
-pub no_level : (levels : ℕ) (reg : List Entity) (bytes : List ℕ) → levels ≡ 0 → term_within levels reg bytes ≡ None
-unfolding term_within
-no_level levels reg bytes no_more = rw no_more refl
-
--- one level further in
-pub term_level : (levels : ℕ) (reg : List Entity) (bytes : List ℕ) → 0 < levels → term_within levels reg bytes ≡ term_step reg (term_within (levels - 1) reg) bytes
-unfolding term_within
-term_level zero reg bytes some = let bad : ⊥ = omega arith in absurd bad
-term_level (suc levels) reg bytes some = let fuel : levels ≡ suc levels - 1 = omega arith in ap (λ n. term_step reg (term_within n reg) bytes) fuel
-
-pub ruleset levels = (no_level, term_level)
 
 -- ---- terms in front of others
 

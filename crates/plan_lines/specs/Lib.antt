@@ -1,8 +1,11 @@
 pub mod Classes
 pub mod Fronts
 pub mod Index
-pub mod Inside
+pub mod Leaves
 pub mod Lines
+pub mod Opened
+pub mod Operations
+pub mod Pieces
 pub mod Reads
 pub mod Runs
 pub mod Statements

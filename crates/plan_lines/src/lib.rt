@@ -2,14 +2,17 @@
 #![tactic(auto)]
 
 mod arguments;
+mod begins;
 mod blocks;
 mod class;
+mod ends;
 mod leaf;
 mod line;
-mod made;
 mod marks;
 mod names;
 mod parts;
+mod piece;
+mod place;
 mod read;
 mod statements;
 mod term;
@@ -19,6 +22,7 @@ mod unread;
 mod words;
 
 pub use line::{Declared, Line};
+pub use piece::Piece;
 pub use read::read_line;
 pub use term::Term;
 pub use words::Words;

@@ -1,275 +1,131 @@
-//! Terms at the front of a text.
-ghost use Rattle.std.specs.Prelude.{◌≡◌, Some, None, map, length};
-ghost use Rattle.plan_reading_model.specs.Parts.{type_at, on_some};
+//! Terms at the front of a text, by a loop over what stands open.
+ghost use Rattle.std.specs.Prelude.{◌≡◌, false, ◌<◌, [], length, IsTrue, OnOk};
 ghost use Rattle.plan_reading_model.specs.TermReading as model;
-ghost use Rattle.plan_lines.specs.Fronts.{behind_fronts, closed_term};
-ghost use Rattle.plan_lines.specs.Inside.{inside_of};
+ghost use Rattle.term_pieces.specs.Opened.{comes_of, after};
+ghost use Rattle.term_pieces.specs.Pieces.{is_term, term_in};
+ghost use Rattle.plan_lines.specs.Opened.{opened, place_of, standing, left_at, read_at, is_read, work, IsReady, Steps};
+ghost use Rattle.plan_lines.specs.Pieces.{pieces_of};
+ghost use Rattle.plan_lines.specs.Reads.{Gives};
 ghost use Rattle.plan_lines.specs.Views.{term_front};
-ghost use Rattle.plan_lines.specs.Reads.{Gives, both};
-ghost use Rattle.plan_lines.specs.Terms.{term_of, terms_of};
 
-use crate::class::{Class, as_text, split};
-use crate::leaf::{known_word, number_leaf, plan_word, text_leaf, type_leaf};
-use crate::made::{operation_before, typed_before};
-use crate::marks::behind;
+use crate::piece::Piece;
+use crate::place::{Open, Place};
 use crate::term::Term;
-use crate::types::type_at;
 use crate::unread::{Front, Unread};
 use crate::words::Words;
-use plan_types::Operation;
 use std::alloc::Global;
-use uno_entities::begins_identifier;
-
-/// The most terms that are open at once: of deeper ones it says want of memory.
-const MOST_OPEN: u32 = 1024;
-
-const CLOSES: &[u8] = b")";
-
-const COMMA: &[u8] = b",";
 
 /// The term at the front of a text.
-#[tactic(auto, unfolding(plan_reading_model::specs::TermReading::term_at))]
 pub(crate) fn term_at<'t>(alloc: Global, words: &Words<'_>, bytes: &'t [u8]) -> Front<'t, Term>
     ensures { Gives term_front result (model.term_at words.now bytes.now) }
 {
-    let inside = Inside {
-        alloc,
-        words,
-        levels: bytes.len(),
-        open: MOST_OPEN,
-    };
-    inside.term_at(bytes)
+    let mut pieces = Vec::new(alloc);
+    match push_term(alloc, words, bytes, &mut pieces) {
+        Ok(rest) => Ok((Term { pieces }, rest)),
+        Err(unread) => {
+            drop(pieces);
+            Err(unread)
+        }
+    }
 }
 
-/// How many levels of terms there are at most, and how many more may be open.
+/// The pieces of the term at the front of a text.
+fn push_term<'t>(
+    alloc: Global,
+    words: &Words<'_>,
+    bytes: &'t [u8],
+    pieces: &mut Vec<Piece>,
+) -> Result<&'t [u8], Unread>
+    requires { pieces.old.items ≡ [] }
+    ensures term { Gives (λ rest. (term_in (pieces_of pieces.new.items), rest.now)) result (model.term_at words.now bytes.now) }
+    ensures one { OnOk result (IsTrue (is_term (pieces_of pieces.new.items))) }
+{
+    let terms = Terms { alloc, words };
+    let mut stack = Vec::new(alloc);
+    let rest = terms.push(bytes, &mut stack, pieces);
+    drop(stack);
+    rest
+}
+
+/// What reads terms: where their memory comes from, and the words that are literals.
 #[derive(Clone, Copy)]
-pub(crate) struct Inside<'a, 'b> {
+pub(crate) struct Terms<'a, 'b> {
     pub(crate) alloc: Global,
     pub(crate) words: &'a Words<'b>,
-    pub(crate) levels: usize,
-    pub(crate) open: u32,
 }
 
-impl Inside<'_, '_> {
-    /// The term at the front of a text, in which at most so many are nested.
-    #[cycle(term)]
-    #[tactic(auto, using(crate::proofs::TermLemmas::levels))]
-    fn term_at<'t>(&self, bytes: &'t [u8]) -> Front<'t, Term>
-        ensures { Gives term_front result (inside_of self.now bytes.now) }
-    {
-        if self.levels == 0 {
-            return Err(Unread::Form);
-        }
-        if self.open == 0 {
-            return Err(Unread::NoMemory);
-        }
-        let inside = Inside {
-            alloc: self.alloc,
-            words: self.words,
-            levels: self.levels - 1,
-            open: self.open - 1,
-        };
-        inside.term_step(bytes)
-    }
-
-    /// A term by its first byte.
-    #[cycle(term)]
-    #[tactic(auto, unfolding(plan_reading_model::specs::TermReading::term_step))]
-    fn term_step<'t>(&self, bytes: &'t [u8]) -> Front<'t, Term>
-        ensures { Gives term_front result (model.term_step self.now.words.now (inside_of self.now) bytes.now) }
-    {
-        let Some((first, rest)) = bytes.split_first() else {
-            return Err(Unread::Form);
-        };
-        if *first == b'[' {
-            return self.elements_at(rest);
-        }
-        if *first == b'{' {
-            return self.members_at(rest);
-        }
-        if *first == b'"' {
-            return text_leaf(self.alloc, rest);
-        }
-        if *first == b'<' {
-            return type_leaf(self.alloc, rest);
-        }
-        if *first == b'(' {
-            return self.cast_at(rest);
-        }
-        if *first == b'$' {
-            return plan_word(self.alloc, bytes);
-        }
-        if begins_identifier(*first) {
-            return self.letters_at(bytes);
-        }
-        number_leaf(bytes)
-    }
-
-    /// A type behind its parenthesis, and a value of it.
-    #[cycle(term)]
-    fn cast_at<'t>(&self, bytes: &'t [u8]) -> Front<'t, Term>
-        ensures { Gives term_front result (on_some (type_at bytes.now) (model.cast_of (inside_of self.now))) }
-    {
-        let Some((kind, rest)) = type_at(bytes) else {
-            return Err(Unread::Form);
-        };
-        let Some(rest) = behind(CLOSES, rest) else {
-            return Err(Unread::Form);
-        };
-        self.cast_value(kind, rest)
-    }
-
-    /// The value behind its type: behind void stands none, and any is the type of no value that an any holds.
-    #[cycle(term)]
-    fn cast_value<'t>(&self, kind: &str, rest: &'t [u8]) -> Front<'t, Term>
-        ensures { Gives term_front result (model.cast_value (inside_of self.now) kind.now rest.now) }
-    {
-        if kind == "void" {
-            return Ok((Term::VoidAny, rest));
-        }
-        if kind == "any" {
-            return Err(Unread::Form);
-        }
-        match self.term_at(rest) {
-            Ok((value, rest)) => typed_before(self.alloc, kind, value, rest),
-            Err(unread) => Err(unread),
-        }
-    }
-
-    /// The elements of a sequence, of which there may be none, and the bracket behind them.
-    #[cycle(term)]
-    #[tactic(auto, unfolding(plan_reading_model::specs::TermReading::elements_at))]
-    fn elements_at<'t>(&self, bytes: &'t [u8]) -> Front<'t, Term>
-        ensures { Gives term_front result (model.elements_at (inside_of self.now) bytes.now) }
-    {
-        let Some((first, behind)) = bytes.split_first() else {
-            return Err(Unread::Form);
-        };
-        if *first == b']' {
-            return Ok((Term::Elements(Vec::new(self.alloc)), behind));
-        }
-        match self.terms_on(b']', bytes) {
-            Ok((elements, rest)) => Ok((Term::Elements(elements), rest)),
-            Err(unread) => Err(unread),
-        }
-    }
-
-    /// The members of a struct or an exception, and the bracket behind them.
-    #[cycle(term)]
-    #[tactic(auto, unfolding(plan_reading_model::specs::TermReading::members_at))]
-    fn members_at<'t>(&self, bytes: &'t [u8]) -> Front<'t, Term>
-        ensures { Gives term_front result (model.members_at (inside_of self.now) bytes.now) }
-    {
-        match self.terms_on(b'}', bytes) {
-            Ok((members, rest)) => Ok((Term::Members(members), rest)),
-            Err(unread) => Err(unread),
-        }
-    }
-
-    /// Terms with commas between them, and the byte that closes them.
-    #[cycle(term)]
-    fn terms_on<'t>(&self, close: u8, bytes: &'t [u8]) -> Front<'t, Vec<Term>>
-        ensures { Gives (λ x. (terms_of x.0.items, x.1.now)) result (model.terms_on (length bytes.now) (inside_of self.now) close bytes.now) }
-    {
-        let mut terms = Vec::new(self.alloc);
-        match self.push_terms(close, bytes, &mut terms) {
-            Ok(rest) => Ok((terms, rest)),
-            Err(unread) => {
-                drop(terms);
-                Err(unread)
-            }
-        }
-    }
-
-    /// The terms from the first one on, behind those that are there. There are no more of them than bytes.
-    #[cycle(term)]
-    fn push_terms<'t>(
+impl Terms<'_, '_> {
+    /// The pieces of the term at the front of a text.
+    fn push<'t>(
         &self,
-        close: u8,
         bytes: &'t [u8],
-        terms: &mut Vec<Term>,
+        stack: &mut Vec<Open<'t>>,
+        pieces: &mut Vec<Piece>,
     ) -> Result<&'t [u8], Unread>
-        ensures { Gives (λ rest. (terms_of terms.new.items, rest.now)) result
-            (behind_fronts (map term_of terms.old.items) (model.terms_on (length bytes.now) (inside_of self.now) close bytes.now)) }
+        requires stack { stack.old.items ≡ [] }
+        requires pieces { pieces.old.items ≡ [] }
+        ensures term { Gives (λ rest. (term_in (pieces_of pieces.new.items), rest.now)) result (model.term_at self.now.words.now bytes.now) }
+        ensures one { OnOk result (IsTrue (is_term (pieces_of pieces.new.items))) }
     {
-        let mut rest = bytes;
-        for _ in 0..bytes.len() {
-            let (term, behind) = self.term_at(rest)?;
-            terms.push(term)?;
-            let Some((first, next)) = behind.split_first() else {
-                return Err(Unread::Form);
-            };
-            if *first == close {
-                return Ok(next);
-            }
-            if *first != b',' {
-                return Err(Unread::Form);
-            }
-            rest = next;
+        let mut place = Place::Before(bytes);
+        while !is_read(place, stack) {
+            place = self.step(place, stack, pieces)?;
         }
-        Err(Unread::Form)
+        Ok(left_at(place))
     }
 
-    /// A word: with a parenthesis behind it an operation, else a value.
-    #[cycle(term)]
-    #[tactic(auto, unfolding(plan_reading_model::specs::TermReading::letters_at))]
-    fn letters_at<'t>(&self, bytes: &'t [u8]) -> Front<'t, Term>
-        ensures { Gives term_front result (model.letters_at self.now.words.now (inside_of self.now) bytes.now) }
+    /// One step: a term begins, or one that another holds ends.
+    fn step<'t>(
+        &self,
+        place: Place<'t>,
+        stack: &mut Vec<Open<'t>>,
+        pieces: &mut Vec<Piece>,
+    ) -> Result<Place<'t>, Unread>
+        requires ready { IsReady (opened stack.old.items) (pieces_of pieces.old.items) (read_at (place_of place)) }
+        requires on { is_read (place_of place) (opened stack.old.items) ≡ false }
+        ensures { Steps self.now.words.now (comes_of self.now.words.now (opened stack.old.items) (standing pieces.old.items) (place_of place.entry))
+            (work (opened stack.old.items) (place_of place.entry)) result stack.new.items pieces.new.items }
     {
-        let (run, rest) = split(Class::Word, bytes);
-        let word = as_text(run);
-        let Some((first, behind)) = rest.split_first() else {
-            return known_word(self.alloc, self.words, word, rest);
-        };
-        if *first == b'(' {
-            return self.operation_at(word, behind);
-        }
-        known_word(self.alloc, self.words, word, rest)
-    }
-
-    /// An operation of this name.
-    #[cycle(term)]
-    fn operation_at<'t>(&self, word: &str, bytes: &'t [u8]) -> Front<'t, Term>
-        ensures { Gives term_front result (model.operation_at (inside_of self.now) word.now bytes.now) }
-    {
-        match word {
-            "add" => self.operands_at(Operation::Add, bytes),
-            "sub" => self.operands_at(Operation::Sub, bytes),
-            _ => Err(Unread::Form),
+        match place {
+            Place::Before(bytes) => self.begin(bytes, stack, pieces),
+            Place::After(rest) => self.behind(rest, stack, pieces),
         }
     }
 
-    /// The two operands of an operation, and the parenthesis behind them.
-    #[cycle(term)]
-    #[tactic(auto, unfolding(plan_reading_model::specs::TermReading::operands_at))]
-    fn operands_at<'t>(&self, operation: Operation, bytes: &'t [u8]) -> Front<'t, Term>
-        ensures { Gives term_front result (model.operands_at (inside_of self.now) operation bytes.now) }
+    /// Behind a term that another holds.
+    fn behind<'t>(
+        &self,
+        rest: &'t [u8],
+        stack: &mut Vec<Open<'t>>,
+        pieces: &mut Vec<Piece>,
+    ) -> Result<Place<'t>, Unread>
+        requires some { 0 < length (opened stack.old.items) }
+        requires ready { IsReady (opened stack.old.items) (pieces_of pieces.old.items) 1 }
+        ensures { Steps self.now.words.now (comes_of self.now.words.now (opened stack.old.items) (standing pieces.old.items) (after rest.now))
+            (work (opened stack.old.items) (after rest.now)) result stack.new.items pieces.new.items }
     {
-        let (left, rest) = self.term_at(bytes)?;
-        match self.closed_term(rest) {
-            Ok((right, rest)) => operation_before(self.alloc, operation, left, right, rest),
-            Err(unread) => {
-                drop(left);
-                Err(unread)
-            }
+        match stack.pop() {
+            Some(last) => self.end(last, rest, stack, pieces),
+            None => unreachable!(),
         }
     }
+}
 
-    /// The second operand between its comma and the parenthesis.
-    #[cycle(term)]
-    fn closed_term<'t>(&self, bytes: &'t [u8]) -> Front<'t, Term>
-        ensures { Gives term_front result (closed_term (inside_of self.now) bytes.now) }
-    {
-        let Some(rest) = behind(COMMA, bytes) else {
-            return Err(Unread::Form);
-        };
-        let (term, rest) = self.term_at(rest)?;
-        match behind(CLOSES, rest) {
-            Some(rest) => Ok((term, rest)),
-            None => {
-                drop(term);
-                Err(Unread::Form)
-            }
-        }
+/// Whether a term was read, and none stands open.
+fn is_read(place: Place<'_>, stack: &[Open<'_>]) -> bool
+    ensures { result ≡ is_read (place_of place.entry) (opened stack.now) }
+{
+    match place {
+        Place::Before(_) => false,
+        Place::After(_) => stack.is_empty(),
+    }
+}
+
+/// The bytes at a place.
+fn left_at(place: Place<'_>) -> &[u8]
+    ensures { result.now ≡ left_at (place_of place.entry) }
+{
+    match place {
+        Place::Before(bytes) | Place::After(bytes) => bytes,
     }
 }

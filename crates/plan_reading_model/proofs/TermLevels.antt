@@ -21,22 +21,22 @@ use Rattle.plan_reading_model.proofs.TermBack.{within_back}
 use Rattle.plan_reading_model.proofs.TermStepBack.{IsSound}
 
 -- two readings read texts of at most so many bytes alike
-abbrev Agree : ℕ → Reads Term → Reads Term → Type 0
+abbrev pub Agree : ℕ → Reads Term → Reads Term → Type 0
 Agree k read other = (bytes : List ℕ) → length bytes ≤ k → read bytes ≡ other bytes
 
 -- no more stands behind what is read than stood in front
-abbrev Shrinks : Reads Term → Type 0
+abbrev pub Shrinks : Reads Term → Type 0
 Shrinks read = (bytes : List ℕ) (x : Term × List ℕ) → read bytes ≡ Some x → length x.1 ≤ length bytes
 
 behind_size : (bytes front rest : List ℕ) → bytes ≡ front ++ rest → length rest ≤ length bytes
 behind_size bytes front rest e =
     let size = ap length e ∙ length-append front rest in omega (arith, size)
 
-sound_shrinks : (reg : List Entity) (read : Reads Term) → IsSound reg read → Shrinks read
+pub sound_shrinks : (reg : List Entity) (read : Reads Term) → IsSound reg read → Shrinks read
 sound_shrinks reg read sound bytes x e = behind_size bytes (term_text x.0) x.1 (sound bytes x e).1
 
 -- what goes on alike from what there is
-alike : {X Y : Type 0} (o : Option X) (f g : X → Option Y) → ((x : X) → o ≡ Some x → f x ≡ g x) → on_some o f ≡ on_some o g
+pub alike : {X Y : Type 0} (o : Option X) (f g : X → Option Y) → ((x : X) → o ≡ Some x → f x ≡ g x) → on_some o f ≡ on_some o g
 alike None f g same = refl
 alike (Some x) f g same = same x refl
 
@@ -107,7 +107,7 @@ module _ (k : ℕ) (read other : Reads Term) (same : Agree k read other) (shrink
 
   -- ---- a level more
 
-  step_alike : (reg : List Entity) (bytes : List ℕ) → length bytes ≤ suc k → term_step reg read bytes ≡ term_step reg other bytes
+  pub step_alike : (reg : List Entity) (bytes : List ℕ) → length bytes ≤ suc k → term_step reg read bytes ≡ term_step reg other bytes
   unfolding term_step
   step_alike reg [] long = refl
   step_alike reg (c ∷ cs) long = by_letters (begins_identifier c) refl (omega (arith, long))

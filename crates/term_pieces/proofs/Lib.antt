@@ -1,0 +1,5 @@
+pub mod DepthLaws
+pub mod FitLaws
+pub mod OpenLaws
+pub mod PartLaws
+pub mod PieceLaws
