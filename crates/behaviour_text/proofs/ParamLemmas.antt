@@ -51,17 +51,17 @@ terms_at : (ts : List Term) (i : ℕ) (t : Term) → i < length ts → t ≡ get
 terms_at ts i t within is = ap (map term_of) (drop_more ts i t within) ∙ ap (λ u. term_of u ∷ map term_of (drop (i + 1) ts)) (sym is)
 
 -- what is left of a list from a place on
-at_place : {X : Type 0} (xs : List X) (i : ℕ) (x : X) → Some x ≡ slice_get xs i → drop i xs ≡ x ∷ drop (suc i) xs
+pub at_place : {X : Type 0} (xs : List X) (i : ℕ) (x : X) → Some x ≡ slice_get xs i → drop i xs ≡ x ∷ drop (suc i) xs
 at_place [] i x is = let bad : Some x ≡ None = is in absurd cc
 at_place (y ∷ ys) zero x is = let same : x ≡ y = cc in ap (λ z. z ∷ ys) (sym same)
 at_place (y ∷ ys) (suc i) x is = at_place ys i x is
 
-at_end : {X : Type 0} (xs : List X) (i : ℕ) → None ≡ slice_get xs i → drop i xs ≡ []
+pub at_end : {X : Type 0} (xs : List X) (i : ℕ) → None ≡ slice_get xs i → drop i xs ≡ []
 at_end [] i is = drop_all i [] (omega arith)
 at_end (y ∷ ys) zero is = let bad : None ≡ Some y = is in absurd cc
 at_end (y ∷ ys) (suc i) is = at_end ys i is
 
-some_left : {X : Type 0} (xs : List X) (i : ℕ) → i < length xs → drop i xs ≡ [] → ⊥
+pub some_left : {X : Type 0} (xs : List X) (i : ℕ) → i < length xs → drop i xs ≡ [] → ⊥
 some_left [] i within none_left = omega arith
 some_left (y ∷ ys) zero within none_left = cc
 some_left (y ∷ ys) (suc i) within none_left = some_left ys i (omega arith) none_left

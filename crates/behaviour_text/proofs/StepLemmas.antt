@@ -1,17 +1,19 @@
 -- What a line does, step by step.
-use Rattle.std.proofs.Common.{◌≡◌, true, false, List, refl, ap, ◌∙◌, Option, None, Some, arith}
+use Rattle.std.proofs.Common.{◌≡◌, Bool, true, false, List, refl, ap, ◌∙◌, Option, None, Some, arith}
 use Rattle.std.specs.Prelude.{is_some}
 use Rattle.plan_model.specs.Building.{behind, with_line, with_result, behind_statement, behind_root_statement}
 use Rattle.plan_model.specs.Contexts.{Scoped, Context, Block, at_top, in_behaviour, in_method, in_thread}
 use Rattle.plan_model.specs.Fitting.{all_fits, statement_fits}
 use Rattle.plan_model.specs.Forms.{is_line}
 use Rattle.plan_model.specs.Keeps.{reason_of, has_form}
+use Rattle.plan_model.specs.Limits.{keeps_limits, plan_has_room, terms_are_flat}
 use Rattle.plan_model.specs.Lines.{Line}
 use Rattle.plan_model.specs.Lines as line
 use Rattle.plan_model.specs.Plans.{Plan}
 use Rattle.plan_model.specs.Statements as s
 use Rattle.plan_model.specs.TypedStatements.{statement_of, root_statement_of}
 use Rattle.plan_model.specs.declared.line_reason.LineReason.{LineReason}
+use Rattle.plan_model.specs.declared.line_reason.LineReason.TheVariants.{Limit}
 use Rattle.uno_model.specs.Entities.{Entity, Field}
 use Rattle.behaviour_text.specs.Steps.{scoped_behind, scoped_behind_root, scoped_result, early_reason, late_reason, by_found, is_statement, is_thread, with_method_statement, with_thread_statement}
 
@@ -151,3 +153,50 @@ reasons reg c l formed = grind (arith, formed)
 -- where there is no early one
 pub late_only : (reg : List Entity) (c : Context) (l : Line) → is_line reg l ≡ true → early_reason reg c l ≡ None → reason_of reg c l ≡ late_reason reg c l
 late_only reg c l formed early = reasons reg c l formed ∙ ap (λ r. or_late r (late_reason reg c l)) early
+
+-- ---- limits
+
+module _ (c : Context) (l : Line) where
+  pub too_deep : (found : Bool) → found ≡ true → terms_are_flat l ≡ false → by_found found c l ≡ Some Limit
+  unfolding keeps_limits
+  too_deep found fits deep = rw (fits, deep) refl
+
+  pub no_room : (found : Bool) → found ≡ true → terms_are_flat l ≡ true → plan_has_room c l ≡ false → by_found found c l ≡ Some Limit
+  unfolding keeps_limits
+  no_room found fits flat full = rw (fits, flat, full) refl
+
+  pub all_kept : (found : Bool) → found ≡ true → terms_are_flat l ≡ true → plan_has_room c l ≡ true → by_found found c l ≡ None
+  unfolding keeps_limits
+  all_kept found fits flat room = rw (fits, flat, room) refl
+
+-- a line that is no statement has no terms
+flat_block : (l : Line) → is_statement l ≡ false → terms_are_flat l ≡ true
+unfolding terms_are_flat
+flat_block (line.behaviour name faces) other = refl
+flat_block (line.field d) other = refl
+flat_block (line.method face function) other = refl
+flat_block (line.service name b) other = refl
+flat_block (line.singleton name b) other = refl
+flat_block (line.export name b) other = refl
+flat_block line.thread other = refl
+flat_block line.end_line other = refl
+flat_block (line.let_variable d t) other = absurd cc
+flat_block (line.set_variable name t) other = absurd cc
+flat_block (line.set_field name t) other = absurd cc
+flat_block (line.call to target function args) other = absurd cc
+flat_block (line.query d target) other = absurd cc
+flat_block (line.make d b) other = absurd cc
+flat_block (line.drop_variable name) other = absurd cc
+flat_block (line.when left comparison right back) other = absurd cc
+flat_block (line.return back) other = absurd cc
+flat_block (line.raise k t) other = absurd cc
+flat_block line.dispose other = absurd cc
+flat_block (line.ask d name) other = absurd cc
+flat_block (line.ask_instance d) other = absurd cc
+flat_block (line.same x y) other = absurd cc
+
+pub block_full : (reg : List Entity) (c : Context) (l : Line) → is_statement l ≡ false → all_fits reg c l ≡ true → plan_has_room c l ≡ false → late_reason reg c l ≡ Some Limit
+block_full reg c l other fits full = no_room c l (all_fits reg c l) fits (flat_block l other) full
+
+pub block_kept : (reg : List Entity) (c : Context) (l : Line) → is_statement l ≡ false → all_fits reg c l ≡ true → plan_has_room c l ≡ true → late_reason reg c l ≡ None
+block_kept reg c l other fits room = all_kept c l (all_fits reg c l) fits (flat_block l other) room

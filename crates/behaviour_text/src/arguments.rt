@@ -4,16 +4,18 @@ ghost use Rattle.plan_model.specs.Expressions as e;
 ghost use Rattle.plan_model.specs.Typing as typing;
 ghost use Rattle.plan_model.specs.Typing.{variable_in, gets, out_argument};
 ghost use Rattle.plan_types.specs.Expressions.{argument_of};
+ghost use Rattle.plan_lines.specs.Pieces.{piece_of};
 ghost use Rattle.plan_lines.specs.Terms.{term_of};
 ghost use Rattle.type_registry.specs.Functions.{lent_function, lent_param};
 ghost use Rattle.uno_entities.specs.TypeNames.{kind_of};
 ghost use Rattle.behaviour_text.specs.Checks.{Gives, before};
+ghost use Rattle.behaviour_text.specs.Pieces.{variable_at};
 
 use crate::checker::Checker;
 use crate::kinds::{LentKind, same_kind};
 use crate::line_error::LineError;
 use crate::words::kind_of_variable;
-use plan_lines::Term;
+use plan_lines::{Piece, Term};
 use plan_types::{Argument, LineReason, Word};
 use type_registry::{FunctionRef, ParamRef};
 use uno_types::{Name, TypeName, Way};
@@ -55,7 +57,7 @@ impl Checker<'_> {
     }
 
     /// The variable that gets the value of a parameter which comes out.
-    fn variable_for(&self, param: ParamRef<'_>, term: &Term) -> Result<Name, LineError>
+    pub(crate) fn variable_for(&self, param: ParamRef<'_>, term: &Term) -> Result<Name, LineError>
         ensures { (mk : List ℕ → e.Argument) → Gives mk result (out_argument self.now.registry.now (before self.now) (lent_param param.entry) mk (variable_in (term_of term.now))) }
     {
         let Some(name) = variable_in(term) else {
@@ -84,8 +86,18 @@ impl Checker<'_> {
 fn variable_in(term: &Term) -> Option<&Name>
     ensures { option_map (λ name. name.now) result ≡ variable_in (term_of term.now) }
 {
-    match term {
-        Term::Word(Word::Variable(name)) => Some(name),
+    let pieces = term.pieces.as_slice();
+    match pieces.split_last() {
+        Some((last, _)) => variable_at(last),
+        None => None,
+    }
+}
+
+fn variable_at(piece: &Piece) -> Option<&Name>
+    ensures { option_map (λ name. name.now) result ≡ variable_at (piece_of piece.now) }
+{
+    match piece {
+        Piece::Word(Word::Variable(name)) => Some(name),
         _ => None,
     }
 }

@@ -1,7 +1,7 @@
 //! How many lines of a kind a plan may have, and how deep a term may be nested.
-ghost use Rattle.std.specs.Prelude.{◌≡◌, ◌&&◌, length, map, nat_le, nat_lt, option_map};
+ghost use Rattle.std.specs.Prelude.{◌≡◌, ◌&&◌, length, map, nat_le, nat_lt, option_map, IfOk};
 ghost use Rattle.std.specs.List.{list_all};
-ghost use Rattle.plan_model.specs.Limits.{is_flat, is_back_flat, terms_are_flat, block_has_room, plan_has_room, keeps_limits};
+ghost use Rattle.plan_model.specs.Limits.{is_flat, is_back_flat, terms_are_flat, block_has_room, plan_has_room};
 ghost use Rattle.plan_model.specs.Contexts.{behaviours_before};
 ghost use Rattle.plan_lines.specs.Lines.{line_of};
 ghost use Rattle.plan_lines.specs.Terms.{term_of};
@@ -11,8 +11,10 @@ mod nesting;
 
 use crate::behaviours::open_behaviour;
 use crate::context::{Block, Context};
-use nesting::{are_parentheses_within, is_nested_within};
+use nesting::{Levels, levels_of};
 use plan_lines::{Line, Term};
+use std::alloc::Global;
+use uno_base::NoMemory;
 
 /// How many behaviours a plan may have, and how many exports, services and singletons each.
 const MOST_BEHAVIOURS: usize = 256;
@@ -34,59 +36,69 @@ const MOST_LEVELS: u32 = 64;
 
 const MOST_PARENTHESES: u32 = 64;
 
-/// Whether the plan has room for the line, and no term of it is nested too deep.
-#[tactic(auto, unfolding(plan_model::specs::Limits::keeps_limits))]
-pub(crate) fn keeps_limits(context: &Context, line: &Line) -> bool
-    ensures { result ≡ keeps_limits (context_of context.now) (line_of line.now) }
-{
-    terms_are_flat(line) && plan_has_room(context, line)
-}
-
+/// Whether no term of the line is nested too deep.
 #[tactic(auto, unfolding(plan_model::specs::Limits::terms_are_flat))]
-fn terms_are_flat(line: &Line) -> bool
-    ensures { result ≡ terms_are_flat (line_of line.now) }
+pub(crate) fn terms_are_flat(alloc: Global, line: &Line) -> Result<bool, NoMemory>
+    ensures { IfOk result (λ flat. flat ≡ terms_are_flat (line_of line.now)) }
 {
     match line {
         Line::Let(_, term)
         | Line::SetVariable(_, term)
         | Line::SetField(_, term)
-        | Line::Raise(_, term) => is_flat(term),
-        Line::Call { arguments, .. } => are_flat(arguments),
-        Line::When { right, back, .. } => is_flat(right) && is_back_flat(back),
-        Line::Return(back) => is_back_flat(back),
-        _ => true,
+        | Line::Raise(_, term) => is_flat(alloc, term),
+        Line::Call { arguments, .. } => are_flat(alloc, arguments),
+        Line::When { right, back, .. } => are_both_flat(alloc, right, back),
+        Line::Return(back) => is_back_flat(alloc, back),
+        _ => Ok(true),
     }
 }
 
-fn are_flat(terms: &[Term]) -> bool
-    ensures { result ≡ list_all is_flat (map term_of terms.now) }
+fn are_flat(alloc: Global, terms: &[Term]) -> Result<bool, NoMemory>
+    ensures { IfOk result (λ flat. flat ≡ list_all is_flat (map term_of terms.now)) }
 {
     for term in terms {
-        if !is_flat(term) {
-            return false;
+        if !is_flat(alloc, term)? {
+            return Ok(false);
         }
     }
-    true
+    Ok(true)
 }
 
-fn is_back_flat(back: &Option<Term>) -> bool
-    ensures { result ≡ is_back_flat (option_map term_of back.now) }
+fn are_both_flat(alloc: Global, right: &Term, back: &Option<Term>) -> Result<bool, NoMemory>
+    ensures { IfOk result (λ flat. flat ≡ (is_flat (term_of right.now) && is_back_flat (option_map term_of back.now))) }
+{
+    if !is_flat(alloc, right)? {
+        return Ok(false);
+    }
+    is_back_flat(alloc, back)
+}
+
+fn is_back_flat(alloc: Global, back: &Option<Term>) -> Result<bool, NoMemory>
+    ensures { IfOk result (λ flat. flat ≡ is_back_flat (option_map term_of back.now)) }
 {
     match back {
-        Some(term) => is_flat(term),
-        None => true,
+        Some(term) => is_flat(alloc, term),
+        None => Ok(true),
     }
 }
 
 #[tactic(auto, unfolding(plan_model::specs::Limits::is_flat))]
-fn is_flat(term: &Term) -> bool
-    ensures { result ≡ is_flat (term_of term.now) }
+fn is_flat(alloc: Global, term: &Term) -> Result<bool, NoMemory>
+    ensures { IfOk result (λ flat. flat ≡ is_flat (term_of term.now)) }
 {
-    is_nested_within(term, MOST_LEVELS) && are_parentheses_within(term, MOST_PARENTHESES)
+    let levels = levels_of(alloc, term)?;
+    Ok(are_within(levels))
 }
 
+fn are_within(levels: Levels) -> bool
+    ensures { result ≡ (nat_le levels.depth 64 && nat_le levels.parentheses 64) }
+{
+    levels.depth <= MOST_LEVELS && levels.parentheses <= MOST_PARENTHESES
+}
+
+/// Whether the plan has room for the line.
 #[tactic(auto, unfolding(plan_model::specs::Limits::plan_has_room, plan_model::specs::Limits::has_room))]
-fn plan_has_room(context: &Context, line: &Line) -> bool
+pub(crate) fn plan_has_room(context: &Context, line: &Line) -> bool
     ensures { result ≡ plan_has_room (context_of context.now) (line_of line.now) }
 {
     match line {

@@ -16,6 +16,7 @@ ghost use Rattle.uno_entities.specs.TypeNames.{kind_of};
 ghost use Rattle.behaviour_text.specs.Checks.{Gives, before};
 
 mod calls;
+mod fits;
 mod roots;
 mod tests;
 

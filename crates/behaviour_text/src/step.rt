@@ -15,7 +15,7 @@ ghost use Rattle.behaviour_text.specs.Steps.{early_reason, late_reason, is_state
 use crate::building::{add_field, close, open_behaviour, open_method, open_thread};
 use crate::checker::Checker;
 use crate::context::{Block, Context};
-use crate::limits::keeps_limits;
+use crate::limits::{plan_has_room, terms_are_flat};
 use crate::line_error::LineError;
 use crate::new_names::names_are_new;
 use crate::offers::{add_export, add_service, add_singleton};
@@ -91,7 +91,7 @@ fn block_step(
     if !line_fits(alloc, registry, context, line) {
         return Err(LineError::Wrong(LineReason::Misfit));
     }
-    if !keeps_limits(context, line) {
+    if !plan_has_room(context, line) {
         return Err(LineError::Wrong(LineReason::Limit));
     }
     go_behind(alloc, registry, context, line)?;
@@ -186,8 +186,13 @@ fn method_step(
         registry,
         context,
     };
+    let flat = terms_are_flat(alloc, line)?;
+    if !flat {
+        checker.statement_fits(line)?;
+        return Err(LineError::Wrong(LineReason::Limit));
+    }
     let statement = checker.statement_of(line)?;
-    if !keeps_limits(context, line) {
+    if !plan_has_room(context, line) {
         return Err(LineError::Wrong(LineReason::Limit));
     }
     push_statement(alloc, context, statement)?;
@@ -228,8 +233,13 @@ fn thread_step(
         registry,
         context,
     };
+    let flat = terms_are_flat(alloc, line)?;
+    if !flat {
+        checker.root_statement_fits(line)?;
+        return Err(LineError::Wrong(LineReason::Limit));
+    }
     let statement = checker.root_statement_of(line)?;
-    if !keeps_limits(context, line) {
+    if !plan_has_room(context, line) {
         return Err(LineError::Wrong(LineReason::Limit));
     }
     push_root_statement(alloc, context, statement)?;

@@ -1,36 +1,31 @@
 //! The expression that a term is at a type.
-ghost use Rattle.std.specs.Prelude.{◌≡◌, Some, map, option_map};
-ghost use Rattle.literal_model.specs.Readings.{single};
-ghost use Rattle.plan_model.specs.Contexts as plain;
-ghost use Rattle.plan_model.specs.Evaluation.{both_values};
-ghost use Rattle.plan_model.specs.Expressions as e;
+ghost use Rattle.std.specs.Prelude.{◌≡◌, ◌∷◌, ◌++◌, [], map, option_map, IfOk, OnOk, is_some};
 ghost use Rattle.plan_model.specs.Typing as typing;
-ghost use Rattle.plan_model.specs.Typing.{type_value, void_any_at, any_at, elements_at, members_at, word_at, only_if, all_at, each_at};
-ghost use Rattle.uno_model.specs.Fits.{member_kinds};
-ghost use Rattle.uno_model.specs.Kinds as kd;
-ghost use Rattle.uno_model.specs.NamedTypes.{type_of_text};
-ghost use Rattle.literal_reading.specs.Scanning.{token_of};
-ghost use Rattle.literal_reading.specs.Typing.{kinds_at};
-ghost use Rattle.plan_types.specs.Expressions.{expression_of, expressions_of, word_of};
-ghost use Rattle.plan_lines.specs.Terms.{term_of, terms_of};
+ghost use Rattle.plan_model.specs.declared.line_reason.LineReason.TheVariants.{Misfit};
+ghost use Rattle.term_pieces.specs.Parts.{all_before, piece_before, asked};
+ghost use Rattle.plan_types.specs.Expressions.{expression_of};
+ghost use Rattle.plan_lines.specs.Pieces.{piece_of, pieces_of};
+ghost use Rattle.plan_lines.specs.Terms.{term_of};
 ghost use Rattle.uno_entities.specs.TypeNames.{kind_of};
-ghost use Rattle.behaviour_text.specs.Checks.{Gives, before};
-ghost use Rattle.behaviour_text.specs.Typed.{sequence_in, behind_all};
+ghost use Rattle.behaviour_text.specs.Checks.{Gives, Passes, before};
+ghost use Rattle.behaviour_text.specs.Parts.{Parts, GoesBack, asked_of, kinds_asked, laid, named_in};
 
 mod leaves;
+mod making;
+mod parts;
 
 use crate::checker::Checker;
-use crate::kinds::is_whole;
+use crate::kinds::type_named;
 use crate::line_error::LineError;
-use leaves::{any_of, operation_of, sequence_of, tuple_of};
-use plan_lines::Term;
+use making::built;
+use parts::Part;
+use plan_lines::{Piece, Term};
 use plan_types::{Expression, LineReason};
-use uno_types::{Field, Name, TypeName};
+use uno_base::NoMemory;
+use uno_types::TypeName;
 
 impl Checker<'_> {
     /// The expression that a term is at a type, where it fits that.
-    #[cycle(expression)]
-    #[tactic(auto, unfolding(plan_model::specs::Typing::expression_of))]
     pub(crate) fn expression_of(
         &self,
         term: &Term,
@@ -38,161 +33,117 @@ impl Checker<'_> {
     ) -> Result<Expression, LineError>
         ensures { Gives expression_of result (typing.expression_of self.now.registry.now (before self.now) (term_of term.now) (kind_of kind.now)) }
     {
-        match term {
-            Term::Leaf(token) => self.constant_of(kind, token),
-            Term::Type(text) => self.type_value(kind, text),
-            Term::VoidAny => self.void_any_at(kind),
-            Term::Typed(text, content) => self.any_at(content, text, kind),
-            Term::Elements(terms) => self.elements_at(terms, kind),
-            Term::Members(terms) => self.members_at(terms, kind),
-            Term::Word(word) => self.word_at(kind, word),
-            Term::Operation(operation, left, right) => {
-                if !is_whole(kind) {
-                    return Err(LineError::Wrong(LineReason::Misfit));
-                }
-                let left = self.expression_of(left, kind)?;
-                let right = self.expression_of(right, kind)?;
-                operation_of(self.alloc, *operation, left, right)
-            }
-        }
+        let pieces = term.pieces.as_slice();
+        let named = self.named_in(pieces)?;
+        let parts = self.parts_of(pieces, kind, named.as_slice())?;
+        Ok(built(self.alloc, parts)?)
     }
 
-    /// An any of a type, with what the term is at that type.
-    #[cycle(expression)]
-    fn any_at(&self, content: &Term, text: &Name, kind: &TypeName) -> Result<Expression, LineError>
-        ensures { Gives expression_of result (any_at (kind_of kind.now) (type_of_text self.now.registry.now text.now) (typing.expression_of self.now.registry.now (before self.now) (term_of content.now))) }
+    /// Refuses a term that does not fit a type.
+    pub(crate) fn term_fits(&self, term: &Term, kind: &TypeName) -> Result<(), LineError>
+        ensures { Passes Misfit result (is_some (typing.expression_of self.now.registry.now (before self.now) (term_of term.now) (kind_of kind.now))) }
     {
-        if !matches!(kind, TypeName::Any) {
-            return Err(LineError::Wrong(LineReason::Misfit));
-        }
-        let held = self.type_named(text)?;
-        let content = self.expression_of(content, &held)?;
-        any_of(self.alloc, held, content)
+        let pieces = term.pieces.as_slice();
+        let named = self.named_in(pieces)?;
+        let parts = self.parts_of(pieces, kind, named.as_slice())?;
+        drop(parts);
+        Ok(())
     }
 
-    /// A sequence of elements of one type.
-    #[cycle(expression)]
-    fn elements_at(&self, terms: &[Term], kind: &TypeName) -> Result<Expression, LineError>
-        ensures { Gives expression_of result (elements_at (kind_of kind.now) (all_at self.now.registry.now (before self.now) (terms_of terms.now))) }
+    /// The types that the pieces name for what an any holds.
+    fn named_in(&self, pieces: &[Piece]) -> Result<Vec<Option<TypeName>>, NoMemory>
+        ensures { IfOk result (λ named. map (option_map kind_of) named.items ≡ map (named_in self.now.registry.now) (pieces_of pieces.now)) }
     {
-        match kind {
-            TypeName::Sequence(element) => self.sequence_at(terms, element),
-            TypeName::Void
-            | TypeName::Char
-            | TypeName::Boolean
-            | TypeName::Byte
-            | TypeName::Short
-            | TypeName::UnsignedShort
-            | TypeName::Long
-            | TypeName::UnsignedLong
-            | TypeName::Hyper
-            | TypeName::UnsignedHyper
-            | TypeName::Str
-            | TypeName::Kind
-            | TypeName::Any
-            | TypeName::Enum(_)
-            | TypeName::Struct(_)
-            | TypeName::Exception(_)
-            | TypeName::Interface(_) => Err(LineError::Wrong(LineReason::Misfit)),
-        }
+        let mut named = Vec::new(self.alloc);
+        self.push_named(pieces, &mut named)?;
+        Ok(named)
     }
 
-    #[cycle(expression)]
-    fn sequence_at(&self, terms: &[Term], element: &TypeName) -> Result<Expression, LineError>
-        ensures { Gives expression_of result (elements_at (kd.sequence (kind_of element.now)) (all_at self.now.registry.now (before self.now) (terms_of terms.now))) }
-    {
-        let mut all = Vec::new(self.alloc);
-        self.push_all(terms, element, &mut all)?;
-        sequence_of(self.alloc, element, all)
-    }
-
-    /// Pushes what all terms are at one type.
-    #[cycle(expression)]
-    fn push_all(
+    fn push_named(
         &self,
-        terms: &[Term],
-        kind: &TypeName,
-        all: &mut Vec<Expression>,
-    ) -> Result<(), LineError>
-        ensures { Gives (λ _. expressions_of all.new.items) result (behind_all (map expression_of all.old.items) (all_at self.now.registry.now (before self.now) (terms_of terms.now) (kind_of kind.now))) }
+        pieces: &[Piece],
+        named: &mut Vec<Option<TypeName>>,
+    ) -> Result<(), NoMemory>
+        ensures { OnOk result (map (option_map kind_of) named.new.items ≡ map (option_map kind_of) named.old.items ++ map (named_in self.now.registry.now) (pieces_of pieces.now)) }
     {
-        for term in terms {
-            let found = self.expression_of(term, kind)?;
-            all.push(found)?;
+        for piece in pieces {
+            let kind = self.named_by(piece)?;
+            named.push(kind)?;
         }
         Ok(())
     }
 
-    /// The members of a struct or an exception, each at its type.
-    #[cycle(expression)]
-    fn members_at(&self, terms: &[Term], kind: &TypeName) -> Result<Expression, LineError>
-        ensures { Gives expression_of result (members_at self.now.registry.now (kind_of kind.now) (each_at self.now.registry.now (before self.now) (terms_of terms.now))) }
+    fn named_by(&self, piece: &Piece) -> Result<Option<TypeName>, NoMemory>
+        ensures { IfOk result (λ found. option_map kind_of found ≡ named_in self.now.registry.now (piece_of piece.now)) }
     {
-        match kind {
-            TypeName::Struct(name) | TypeName::Exception(name) => self.tuple_at(terms, name),
-            TypeName::Void
-            | TypeName::Char
-            | TypeName::Boolean
-            | TypeName::Byte
-            | TypeName::Short
-            | TypeName::UnsignedShort
-            | TypeName::Long
-            | TypeName::UnsignedLong
-            | TypeName::Hyper
-            | TypeName::UnsignedHyper
-            | TypeName::Str
-            | TypeName::Kind
-            | TypeName::Any
-            | TypeName::Enum(_)
-            | TypeName::Interface(_)
-            | TypeName::Sequence(_) => Err(LineError::Wrong(LineReason::Misfit)),
-        }
+        let Piece::Typed(text) = piece else {
+            return Ok(None);
+        };
+        type_named(self.alloc, self.registry, text)
     }
 
-    #[cycle(expression)]
-    fn tuple_at(&self, terms: &[Term], name: &Name) -> Result<Expression, LineError>
-        ensures { Gives expression_of result (option_map (e.tuple name.now) (each_at self.now.registry.now (before self.now) (terms_of terms.now) (member_kinds self.now.registry.now name.now))) }
+    /// The pieces at their types, the last one first.
+    fn parts_of<'k>(
+        &'k self,
+        pieces: &[Piece],
+        kind: &'k TypeName,
+        named: &'k [Option<TypeName>],
+    ) -> Result<Vec<Part<'k>>, LineError>
+        requires { map (option_map kind_of) named.now ≡ map (named_in self.now.registry.now) (pieces_of pieces.now) }
+        ensures { Parts (λ parts. laid parts.items) result (all_before self.now.registry.now (before self.now) (pieces_of pieces.now) (asked [] (kind_of kind.now ∷ []))) }
     {
-        let mut all = Vec::new(self.alloc);
-        self.push_members(terms, name, &mut all)?;
-        tuple_of(name, all)
-    }
-
-    /// Pushes what each term is at the type of the member at its place, of which there are as many.
-    #[cycle(expression)]
-    fn push_members(
-        &self,
-        terms: &[Term],
-        name: &Name,
-        all: &mut Vec<Expression>,
-    ) -> Result<(), LineError>
-        ensures { Gives (λ _. expressions_of all.new.items) result (behind_all (map expression_of all.old.items) (each_at self.now.registry.now (before self.now) (terms_of terms.now) (member_kinds self.now.registry.now name.now))) }
-    {
-        let fields = self.registry.members(self.alloc, name.as_str())?;
-        self.push_each(terms, &fields, all)
-    }
-
-    #[cycle(expression)]
-    fn push_each(
-        &self,
-        terms: &[Term],
-        fields: &[&Field],
-        all: &mut Vec<Expression>,
-    ) -> Result<(), LineError>
-        ensures { Gives (λ _. expressions_of all.new.items) result (behind_all (map expression_of all.old.items) (each_at self.now.registry.now (before self.now) (terms_of terms.now) (kinds_at fields.now))) }
-    {
-        let mut place = 0;
-        for term in terms {
-            if place >= fields.len() {
-                return Err(LineError::Wrong(LineReason::Misfit));
+        let mut wanted = Vec::new(self.alloc);
+        wanted.push(kind)?;
+        let mut parts = Vec::new(self.alloc);
+        self.go_back(pieces, named, &mut wanted, &mut parts)?;
+        match wanted.pop() {
+            None => Ok(parts),
+            Some(_) => {
+                drop(parts);
+                Err(LineError::Wrong(LineReason::Misfit))
             }
-            let found = self.expression_of(term, &fields[place].kind)?;
-            all.push(found)?;
-            place += 1;
         }
-        if place < fields.len() {
-            return Err(LineError::Wrong(LineReason::Misfit));
+    }
+
+    /// Goes over the pieces from the last one on, each at the type that is wanted last.
+    fn go_back<'k>(
+        &'k self,
+        pieces: &[Piece],
+        named: &'k [Option<TypeName>],
+        wanted: &mut Vec<&'k TypeName>,
+        parts: &mut Vec<Part<'k>>,
+    ) -> Result<(), LineError>
+        requires { map (option_map kind_of) named.now ≡ map (named_in self.now.registry.now) (pieces_of pieces.now) }
+        ensures { GoesBack result (asked_of parts.new.items wanted.new.items)
+            (all_before self.now.registry.now (before self.now) (pieces_of pieces.now) (asked_of parts.old.items wanted.old.items)) }
+    {
+        let mut left = pieces.len();
+        while left > 0 {
+            left -= 1;
+            let Some(kind) = wanted.pop() else {
+                return Err(LineError::Wrong(LineReason::Misfit));
+            };
+            self.take_piece(&pieces[left], kind, &named[left], wanted, parts)?;
         }
+        Ok(())
+    }
+
+    /// Takes a piece at its type, and wants the types of the terms in it.
+    fn take_piece<'k>(
+        &'k self,
+        piece: &Piece,
+        kind: &'k TypeName,
+        named: &'k Option<TypeName>,
+        wanted: &mut Vec<&'k TypeName>,
+        parts: &mut Vec<Part<'k>>,
+    ) -> Result<(), LineError>
+        requires { option_map kind_of named.now ≡ named_in self.now.registry.now (piece_of piece.now) }
+        ensures { GoesBack result (asked_of parts.new.items wanted.new.items)
+            (piece_before self.now.registry.now (before self.now) (piece_of piece.now) (asked (laid parts.old.items) (kind_of kind.now ∷ kinds_asked wanted.old.items))) }
+    {
+        let part = self.part_at(piece, kind, named)?;
+        self.want(&part, kind, wanted)?;
+        parts.push(part)?;
         Ok(())
     }
 }

@@ -1,11 +1,13 @@
 //! What a root may write.
 ghost use Rattle.std.specs.Prelude.{◌≡◌, map};
 ghost use Rattle.std.specs.List.{list_all};
-ghost use Rattle.plan_model.specs.Forms.{is_root_word, is_root_term, are_root_terms};
+ghost use Rattle.plan_model.specs.Forms.{is_root_word, is_root_term};
 ghost use Rattle.plan_types.specs.Expressions.{word_of};
-ghost use Rattle.plan_lines.specs.Terms.{term_of, terms_of};
+ghost use Rattle.plan_lines.specs.Pieces.{piece_of, pieces_of};
+ghost use Rattle.plan_lines.specs.Terms.{term_of};
+ghost use Rattle.behaviour_text.specs.Pieces.{is_root_piece};
 
-use plan_lines::Term;
+use plan_lines::{Piece, Term};
 use plan_types::Word;
 
 /// Whether the word is a variable.
@@ -15,24 +17,9 @@ pub(crate) fn is_root_word(word: &Word) -> bool
     matches!(word, Word::Variable(_))
 }
 
-/// Whether the term has no words but variables, and no operation.
-#[cycle(root)]
-#[tactic(auto, unfolding(plan_model::specs::Forms::is_root_term))]
-fn is_root_term(term: &Term) -> bool
-    ensures { result ≡ is_root_term (term_of term.now) }
-{
-    match term {
-        Term::Leaf(_) | Term::Type(_) | Term::VoidAny => true,
-        Term::Typed(_, content) => is_root_term(content),
-        Term::Elements(terms) | Term::Members(terms) => are_root_terms(terms),
-        Term::Word(word) => is_root_word(word),
-        Term::Operation(_, _, _) => false,
-    }
-}
-
-#[cycle(root)]
-fn are_root_terms(terms: &[Term]) -> bool
-    ensures { result ≡ are_root_terms (terms_of terms.now) }
+/// Whether no argument has a word that is no variable, or an operation.
+pub(crate) fn are_root_arguments(terms: &[Term]) -> bool
+    ensures { result ≡ list_all is_root_term (map term_of terms.now) }
 {
     for term in terms {
         if !is_root_term(term) {
@@ -42,9 +29,34 @@ fn are_root_terms(terms: &[Term]) -> bool
     true
 }
 
-/// The same of each argument.
-pub(crate) fn are_root_arguments(terms: &[Term]) -> bool
-    ensures { result ≡ list_all is_root_term (map term_of terms.now) }
+fn is_root_term(term: &Term) -> bool
+    ensures { result ≡ is_root_term (term_of term.now) }
 {
-    are_root_terms(terms)
+    are_root_pieces(term.pieces.as_slice())
+}
+
+fn are_root_pieces(pieces: &[Piece]) -> bool
+    ensures { result ≡ list_all is_root_piece (pieces_of pieces.now) }
+{
+    for piece in pieces {
+        if !is_root_piece(piece) {
+            return false;
+        }
+    }
+    true
+}
+
+fn is_root_piece(piece: &Piece) -> bool
+    ensures { result ≡ is_root_piece (piece_of piece.now) }
+{
+    match piece {
+        Piece::Word(word) => is_root_word(word),
+        Piece::Operation(_) => false,
+        Piece::Leaf(_)
+        | Piece::Type(_)
+        | Piece::VoidAny
+        | Piece::Typed(_)
+        | Piece::Elements(_)
+        | Piece::Members(_) => true,
+    }
 }

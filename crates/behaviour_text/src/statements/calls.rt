@@ -82,7 +82,7 @@ impl Checker<'_> {
     }
 
     /// The variable of a result, which the result's type has to fit.
-    fn result_field(
+    pub(crate) fn result_field(
         &self,
         called: &FunctionRef<'_>,
         to: &Option<Declared>,

@@ -1,5 +1,5 @@
 //! Tests, and what is returned.
-ghost use Rattle.std.specs.Prelude.{◌≡◌, Some, map, option_map};
+ghost use Rattle.std.specs.Prelude.{◌≡◌, Some, option_map};
 ghost use Rattle.plan_model.specs.Contexts.{open_function};
 ghost use Rattle.plan_model.specs.Evaluation.{both_values};
 ghost use Rattle.plan_model.specs.Statements as s;
@@ -93,7 +93,7 @@ impl Checker<'_> {
 }
 
 /// Only numbers of a whole type are less than one another.
-fn is_compared(comparison: Comparison, kind: &TypeName) -> bool
+pub(crate) fn is_compared(comparison: Comparison, kind: &TypeName) -> bool
     ensures { result ≡ is_compared comparison (kind_of kind.now) }
 {
     match comparison {
