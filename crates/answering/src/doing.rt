@@ -64,12 +64,12 @@ pub(crate) fn do_first<O: Sink>(
 fn apply_first(end: &mut Endpoint) -> Result<bool, Halted>
     ensures { AppliesFirst end.old end.new result }
 {
-    let done = match asked_first(end) {
+    let Done { job, effect } = match asked_first(end) {
         Ok(Some(done)) => done,
         Ok(None) => return Ok(false),
         Err(NoMemory) => return Err(lacks_memory(end)),
     };
-    match end.apply(done) {
+    match end.apply_current(job, effect) {
         Ok(()) | Err(ApplyError::Full) => Ok(true),
         Err(ApplyError::Stale(_)) => unreachable!(),
         Err(ApplyError::NoMemory) => Err(lacks_memory(end)),

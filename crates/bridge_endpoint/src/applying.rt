@@ -86,7 +86,7 @@ impl Endpoint {
     }
 
     /// Carries out the effect of the job that would be picked.
-    fn apply_current(&mut self, job: Job, effect: Effect) -> Result<(), ApplyError>
+    pub fn apply_current(&mut self, job: Job, effect: Effect) -> Result<(), ApplyError>
         requires current { pick (setting_at self.old) job.tid (side_at self.old) ≡ Some (job_of job) }
         requires effect { effect_of effect ≡ effects.effect (setting_at self.old).plan (setting_at self.old).registry (job_of job) }
         ensures answer { AppliedSo (setting_at self.old) (side_at self.old) (job_of job) result }
@@ -139,11 +139,32 @@ fn apply_standing(
     ensures within { IsWithin journal.old → IsWithin journal.new }
 {
     let Job { tid, frame, .. } = job;
-    journal.reserve()?;
-    reserve(journal, room_for(alloc, &frame, &effect)?)?;
+    if let Err(error) = take_room(alloc, journal, &frame, &effect) {
+        drop(effect);
+        return Err(error);
+    }
     drop(frame);
     state.apply(setting, &tid, effect)?;
     enter(state, journal, Entry::Applied { tid });
+    Ok(())
+}
+
+/// Takes room for the entry of an effect of a method, and for the entries for which that may need room.
+fn take_room(
+    alloc: Global,
+    journal: &mut Journal,
+    frame: &Frame,
+    effect: &Effect,
+) -> Result<(), NoMemory>
+    ensures room { OnOk result ((b : Body) → frame_of frame.now ≡ body b → journal.new.room ≡ journal.old.room + 1 + effect_brings b (effect_of effect.now)) }
+    ensures some { OnOk result (0 < journal.new.room) }
+    ensures kept { journal.new ≡ with_room journal.new.room journal.old }
+    ensures least { journal.old.room ≤ journal.new.room }
+    ensures within { IsWithin journal.old → IsWithin journal.new }
+{
+    journal.reserve()?;
+    let more = room_for(alloc, frame, effect)?;
+    reserve(journal, more)?;
     Ok(())
 }
 

@@ -171,9 +171,26 @@ fn opened(alloc: Global, setting: &Setting) -> Result<(State, Journal), NoMemory
     ensures within { IfOk result (λ r. IsWithin r.1) }
 {
     let state = State::new(alloc, setting)?;
+    match first_journal(alloc, state.objects_made()) {
+        Ok(journal) => Ok((state, journal)),
+        Err(NoMemory) => {
+            drop(state);
+            Err(NoMemory)
+        }
+    }
+}
+
+/// A journal with that room, where so many objects were made.
+fn first_journal(alloc: Global, made: u32) -> Result<Journal, NoMemory>
+    ensures journal { IfOk result (λ j. j ≡ with_room (2 + made) empty_log) }
+    ensures within { IfOk result (λ j. IsWithin j) }
+{
     let mut journal = Journal::new(alloc);
-    match reserve(&mut journal, 2 + state.objects_made() as usize) {
-        Ok(()) => Ok((state, journal)),
-        Err(NoMemory) => Err(NoMemory),
+    match reserve(&mut journal, 2 + made as usize) {
+        Ok(()) => Ok(journal),
+        Err(NoMemory) => {
+            drop(journal);
+            Err(NoMemory)
+        }
     }
 }

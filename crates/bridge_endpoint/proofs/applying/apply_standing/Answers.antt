@@ -1,4 +1,4 @@
-use Rattle.std.proofs.Common.{◌≡◌, ◌+◌, refl, sym, ap, ◌∙◌, arith}
+use Rattle.std.proofs.Common.{◌≡◌, ◌+◌, sym, ap, ◌∙◌}
 use Rattle.behaviour.specs.Effects.{effect_of}
 use Rattle.bridge_model.specs.Entries.{applied}
 use Rattle.bridge_model.specs.Steps.{does}
@@ -6,11 +6,10 @@ use Rattle.bridge_laws.specs.Room.{brought}
 use Rattle.bridge_setting.specs.Settings.{setting_of}
 use Rattle.bridge_state.specs.EndSides.{on_side, with_side}
 use Rattle.plan_types.specs.Frames.{job_of}
-use Rattle.bridge_journal.specs.Logs.{entered}
 use Rattle.bridge_endpoint.proofs.ApplyLemmas.{brings_effect, does_effect, picked_frame, picked_some, the_picked}
-use Rattle.bridge_endpoint.proofs.JournalLemmas.{entered_with}
+use Rattle.bridge_endpoint.proofs.JournalLemmas.{entered_in}
 use Rattle.bridge_endpoint.proofs.MakingLemmas.{few_by}
-use Rattle.bridge_endpoint.specs.Entering.{counts_one, with_room}
+use Rattle.bridge_endpoint.specs.Entering.{counts_one}
 use Rattle.bridge_endpoint.proofs.applying.apply_standing.Goals as goal
 
 pub apply-requires-clause-method : goal.apply-requires-clause-method
@@ -43,14 +42,6 @@ returns-clause-entered c =
     let s = c.args.state.now.side in
     let j = job_of c.args.job in
     let the = the_picked g tid s j c.requires.current in
-    let old = c.args.journal.now in
-    let n = c.in_ok-room_for.field-0 in
-    let brings : n ≡ brought g s (applied tid) =
-    c.in_ok-room_for.ensures the.top.method (sym (picked_frame g tid s j c.requires.current)) ∙ brings_effect g tid s j c.requires.current (effect_of c.args.effect) c.requires.effect in
-    let first = ap (λ l. l.room) c.in_ok-reserve.ensures.room in
-    let second = ap (λ l. l.room) c.in_ok-reserve-2.ensures.room in
-    let third = ap (λ l. l.room) c.enter.ensures.entered in
-    let room : c.enter.new.journal.room ≡ old.room + brought g s (applied tid) = omega (arith, first, second, third, brings) in
-    entered_with old c.reserve.new.self c.reserve-2.new.journal c.enter.new.journal (c.reserve.new.self.room + n) (applied tid) (applied tid) c.in_ok-reserve.ensures.room c.in_ok-reserve-2.ensures.room c.enter.ensures.entered
-    refl
-    ∙ ap (λ k. with_room k (entered (applied tid) old)) room
+    let brings = brings_effect g tid s j c.requires.current (effect_of c.args.effect) c.requires.effect in
+    let room = c.in_default.ensures.room the.top.method (sym (picked_frame g tid s j c.requires.current)) in
+    c.enter.ensures.entered ∙ entered_in c.args.journal.now c.take_room.new.journal (applied tid) (brought g s (applied tid)) c.take_room.ensures.kept (room ∙ ap (λ n. c.args.journal.now.room + 1 + n) brings)
