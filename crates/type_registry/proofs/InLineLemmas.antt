@@ -4,7 +4,7 @@ use Rattle.std.proofs.lemmas.List.{length-append}
 use Rattle.std.proofs.lemmas.List.Concat.{flat_map-append}
 use Rattle.uno_model.specs.BuiltIn.{HasBuiltIn, x_interface, x_interface_name}
 use Rattle.uno_model.specs.Entities.{Entity}
-use Rattle.uno_model.specs.Functions.{Function, declared_by, is_met, met_within, root_functions, visit_all}
+use Rattle.uno_model.specs.Functions.{Function, declared_by, functions_of, is_met, met_within, root_functions, visit_all}
 use Rattle.uno_model.specs.Registry.{find_entity, stands_on, stands_on_body}
 use Rattle.type_registry.specs.Own.{Seeks, SeeksOver, functions_by}
 use Rattle.type_registry.specs.declared.own.Sought.{Sought}
@@ -65,3 +65,20 @@ found_above reg name base levels less number left s is one below own zero within
 found_above reg name base levels less number left s is one below own (suc more) within =
     subst (λ fs. Seeks fs number s) (sym (one_below reg name base more one))
     (sought_behind (functions_by reg (met_within more reg [] base)) (declared_by name (find_entity name reg)) number left s (below more (omega (arith, is, within))) own)
+
+-- an interface on the root interface alone: past the functions of the root come its own
+some_entities : (reg : List Entity) → HasBuiltIn reg → 1 ≤ length reg
+unfolding find_entity
+some_entities [] built_in = let bad : None ≡ Some x_interface = built_in.found x_interface (4, omega arith, refl) in cc
+some_entities (e ∷ es) built_in = omega arith
+
+pub over_root_alone : (reg : List Entity) (name : List ℕ) (number left : ℕ) (s : Sought) → HasBuiltIn reg → stands_on reg name ≡ x_interface_name ∷ []
+    → number ≡ length root_functions + left → Seeks (declared_by name (find_entity name reg)) left s → Seeks (functions_of reg name) number s
+over_root_alone reg name number left s built_in one past own =
+    found_above reg name x_interface_name 2 1 number left s refl one (ends_past_root reg x_interface_name 1 number left built_in (omega arith) refl past) own
+    (suc (length reg)) (omega (arith, some_entities reg built_in))
+
+-- an interface that is not there has no functions
+pub none_of_none : (reg : List Entity) (name : List ℕ) (number : ℕ) → find_entity name reg ≡ None → None ≡ slice_get (functions_of reg name) number
+none_of_none reg name number none =
+    sym (ap (λ fs. slice_get fs number) (none_below reg name (length reg) (ap stands_on_body none) ∙ ap (declared_by name) none))

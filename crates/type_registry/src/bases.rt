@@ -1,9 +1,11 @@
 //! The names on which an entity stands, taken from the last to the first.
-ghost use Rattle.std.specs.Prelude.{◌≡◌, ◌++◌, ◌∷◌, [], map, Some, MatchOption};
+ghost use Rattle.std.specs.Prelude.{◌≡◌, ◌++◌, ◌∷◌, [], map, Some, MatchOption, IsTrue};
+ghost use Rattle.uno_model.specs.BuiltIn.{x_interface_name};
 ghost use Rattle.uno_model.specs.Registry.{mandatory_bases, stands_on, stands_on_body};
 ghost use Rattle.uno_entities.specs.Entities.{base_of, entity_of};
 ghost use Rattle.type_registry.specs.Bases.{names_left};
 
+use uno_entities::X_INTERFACE;
 use uno_types::{Base, Body, Entity, Name, Registry};
 
 /// Names that are left: those of the bases that are not optional, one name, or none.
@@ -67,4 +69,20 @@ fn last_required(bases: &[Base]) -> Option<(&str, &[Base])>
         rest = others;
     }
     None
+}
+
+/// Whether the root interface is the only base that is not optional.
+pub(crate) fn is_root_alone(bases: &[Base]) -> bool
+    ensures { IsTrue result → mandatory_bases (map base_of bases.now) ≡ x_interface_name ∷ [] }
+{
+    let Some((name, others)) = last_required(bases) else {
+        return false;
+    };
+    let None = last_required(others) else {
+        return false;
+    };
+    if name != X_INTERFACE {
+        return false;
+    }
+    true
 }

@@ -1,6 +1,8 @@
 //! One function of an interface, looked up without memory of its own.
-ghost use Rattle.std.specs.Prelude.{◌≡◌, ◌++◌, ◌∷◌, [], ℕ, List, option_map, slice_get, None, Ok, IfOk, IsOk};
+ghost use Rattle.std.specs.Prelude.{◌≡◌, ◌++◌, ◌∷◌, [], ℕ, List, option_map, slice_get, None, Some, Ok, IfOk, IsOk};
 ghost use Rattle.uno_model.specs.Functions.{Function, functions_of};
+ghost use Rattle.uno_model.specs.Registry.{find_entity};
+ghost use Rattle.uno_entities.specs.Entities.{entity_of};
 ghost use Rattle.type_registry.specs.Bases.{names_left};
 ghost use Rattle.type_registry.specs.Frames.{names_in, tasks_in, Walked};
 ghost use Rattle.type_registry.specs.Functions.{lent_function};
@@ -10,10 +12,10 @@ ghost use Rattle.type_registry.specs.Tasks.{visit, leave, visits, doing_of};
 use crate::FunctionRef;
 use crate::bases::{Bases, bases_of, last_of};
 use crate::frames::{Names, Todo, has};
-use crate::in_line::seek_in_line;
-use crate::own::{Sought, seek_named, seek_owners};
+use crate::in_line::{past_root_below, seek_from};
+use crate::own::{Sought, seek_declared, seek_named, seek_owners};
 use crate::walk::{Task, interfaces_of};
-use uno_types::Registry;
+use uno_types::{Entity, Registry};
 
 /// How many levels of bases a look-up goes down in a line, before it walks over them.
 const MOST_IN_LINE: usize = 16;
@@ -34,10 +36,37 @@ pub fn function_numbered<'a>(
 ) -> Option<FunctionRef<'a>>
     ensures { option_map lent_function result ≡ slice_get (functions_of registry.now name.now) number }
 {
-    let levels = registry.entities().len().min(MOST_IN_LINE);
-    if let Some(sought) = seek_in_line(registry, name, levels, number as usize) {
-        return found(sought);
+    let _entities = registry.entities();
+    let Some(entity) = registry.find(name) else {
+        return None;
+    };
+    match past_root_below(entity, number as usize) {
+        Some(left) => found(seek_declared(entity, left)),
+        None => numbered_from(registry, name, entity, number),
     }
+}
+
+/// The function of an interface at a number, from its entity on.
+fn numbered_from<'a>(
+    registry: &'a Registry,
+    name: &str,
+    entity: &'a Entity,
+    number: u16,
+) -> Option<FunctionRef<'a>>
+    requires { find_entity name.now registry.now ≡ Some (entity_of entity.now) }
+    ensures { option_map lent_function result ≡ slice_get (functions_of registry.now name.now) number }
+{
+    let levels = registry.entities().len().min(MOST_IN_LINE);
+    match seek_from(registry, name, entity, levels, number as usize) {
+        Some(sought) => found(sought),
+        None => numbered_over_all(registry, name, number),
+    }
+}
+
+/// The function of an interface at a number, where a base may be met twice, or where they lie far down.
+fn numbered_over_all<'a>(registry: &'a Registry, name: &str, number: u16) -> Option<FunctionRef<'a>>
+    ensures { option_map lent_function result ≡ slice_get (functions_of registry.now name.now) number }
+{
     if let Ok(found) = numbered_within(registry, name, number as usize, Some(MOST_STEPS)) {
         return found;
     }
