@@ -1,6 +1,6 @@
 -- The marks of objects, after one identity is held or sent more or less.
 use Rattle.std.proofs.Common.{◌≡◌, ℕ, ◌≤◌, ◌<◌, ◌^◌, ◌+◌, Bool, true, false, cond, not, ◌&&◌, ◌||◌, nat_lt, List, [], ◌∷◌, ◌++◌, Option, None, Some, IfSome, refl, sym, ap, ◌∙◌, subst, arith}
-use Rattle.std.proofs.lemmas.Bool.{true≢false}
+use Rattle.std.proofs.lemmas.Bool.{true≢false, lt-ltb, le-ltb}
 use Rattle.std.proofs.lemmas.Bool.Decides.{nat_tests}
 use borrow.Author.Tests.{ltb-true}
 use Rattle.std.proofs.lemmas.Map.Views.{any-filter_same}
@@ -112,6 +112,14 @@ not_below n m e = grind (arith, nat_tests)
 differs : (n k : ℕ) → eq_by_cmp nat_cmp n k ≡ false → n ≡ k → ⊥
 differs n k other same = true≢false (sym (ap is_eq (tied_itself nat_cmp_total k)) ∙ ap (λ n. eq_by_cmp nat_cmp n k) (sym same) ∙ other)
 
+-- an object that was there from the beginning never goes
+pub not_free : (first n : ℕ) (oid : List ℕ) (hs : Holdings) (ss : Stubs) → n ≤ first → is_free first oid hs ss n ≡ false
+not_free first n oid hs ss early = ap (λ b. b && (not (is_held_object oid hs) && not (has_stub oid ss))) (le-ltb first n early)
+
+-- and another does where nobody holds it, and the peer does not
+pub free_later : (first n : ℕ) (bare : Bool) → first < n → bare ≡ (nat_lt first n && bare)
+free_later first n bare late = ap (λ b. b && bare) (sym (lt-ltb first n late))
+
 module _ {V : Type 0} (prefix : List ℕ) (first : ℕ) (rows : List (ℕ × model.Object V)) where
   -- an object's mark is right still, where its identity is held and sent as before
   pub marked_still : (hs hs' : Holdings) (ss ss' : Stubs) (n : ℕ) → is_held_object (prefix ++ decimal n) hs' ≡ is_held_object (prefix ++ decimal n) hs → has_stub (prefix ++ decimal n) ss' ≡ has_stub (prefix ++ decimal n) ss
@@ -119,13 +127,26 @@ module _ {V : Type 0} (prefix : List ℕ) (first : ℕ) (rows : List (ℕ × mod
   marked_still hs hs' ss ss' n held sent marked =
       subst (λ free. IfSome (find nat_cmp n rows) (λ o. o.may_go ≡ free)) (λ i. nat_lt first n && (not (sym held i) && not (sym sent i))) marked
 
+  -- and that of one which was there from the beginning, whoever holds it
+  pub marked_early : (hs hs' : Holdings) (ss ss' : Stubs) (n : ℕ) → n ≤ first → IsMarked (free_at prefix first hs ss) rows n → IsMarked (free_at prefix first hs' ss') rows n
+  marked_early hs hs' ss ss' n early marked =
+      subst (λ free. IfSome (find nat_cmp n rows) (λ o. o.may_go ≡ free)) (never hs ss ∙ sym (never hs' ss')) marked
+    where
+      never : (hs : Holdings) (ss : Stubs) → free_at prefix first hs ss n ≡ false
+      never hs ss = not_free first n (prefix ++ decimal n) hs ss early
+
   module _ (hs : Holdings) (ss : Stubs) (oid : List ℕ) (others : (n : ℕ) → (oid ≡ prefix ++ decimal n → ⊥) → IsMarked (free_at prefix first hs ss) rows n) where
-    -- all marks are right, where no object has the one identity of which they might not be
-    pub marked_all : ((n : ℕ) → oid ≡ prefix ++ decimal n → find nat_cmp n rows ≡ None) → AreMarked (free_at prefix first hs ss) rows
-    marked_all none n =
-        elim (bytes_eq oid (prefix ++ decimal n)) as (λ b. bytes_eq oid (prefix ++ decimal n) ≡ b → IsMarked (free_at prefix first hs ss) rows n) [
-          | true ↦ λ is. subst (λ found. IfSome found (λ o. o.may_go ≡ free_at prefix first hs ss n)) (sym (none n (same_text oid (prefix ++ decimal n) (sym is)))) tt
-          | false ↦ λ is. others n (λ same. true≢false (sym (ap (bytes_eq oid) (sym same) ∙ nat_list_eq_equiv.refl oid) ∙ is))
+    -- all marks are right, where no object that was not there from the beginning has the one identity of which they might not be
+    pub marked_later : ((n : ℕ) → n ≤ first → IsMarked (free_at prefix first hs ss) rows n) → ((n : ℕ) → first < n → oid ≡ prefix ++ decimal n → find nat_cmp n rows ≡ None)
+        → AreMarked (free_at prefix first hs ss) rows
+    marked_later early none n =
+        elim (nat_lt first n) as (λ b. nat_lt first n ≡ b → IsMarked (free_at prefix first hs ss) rows n) [
+          | true ↦ λ late.
+              elim (bytes_eq oid (prefix ++ decimal n)) as (λ b. bytes_eq oid (prefix ++ decimal n) ≡ b → IsMarked (free_at prefix first hs ss) rows n) [
+                | true ↦ λ is. subst (λ found. IfSome found (λ o. o.may_go ≡ free_at prefix first hs ss n)) (sym (none n (ltb-true first n late) (same_text oid (prefix ++ decimal n) (sym is)))) tt
+                | false ↦ λ is. others n (λ same. true≢false (sym (ap (bytes_eq oid) (sym same) ∙ nat_list_eq_equiv.refl oid) ∙ is))
+              ] refl
+          | false ↦ λ more. early n (not_below first n more)
         ] refl
 
     -- or where the object that has it is marked right
@@ -159,6 +180,12 @@ module _ {V : Type 0} (free : ℕ → Bool) (k : ℕ) (rows : List (ℕ × model
         | true ↦ λ same. absurd (other (nat_cmp-IsAntisymmetric n k ((Equal-is _).0 same)))
         | false ↦ λ _. marked n
       ] refl)
+
+  -- and those of all, after one is put whose mark is right
+  pub marked_new : (now : model.Object V) (n : ℕ) → now.may_go ≡ free n → AreMarked free rows → IsMarked free (put nat_cmp k now rows) n
+  marked_new now n right marked =
+      subst (λ found. IfSome found (λ o. o.may_go ≡ free n)) (sym (find-put nat_cmp nat_cmp_total n k now rows))
+      (elim (eq_by_cmp nat_cmp n k) as (λ b. IfSome (cond b (Some now) (find nat_cmp n rows)) (λ o. o.may_go ≡ free n)) [ true ↦ right | false ↦ marked n ])
 
   -- and that one's, where its mark stays
   pub marked_changed : (was now : model.Object V) → find nat_cmp k rows ≡ Some was → now.may_go ≡ was.may_go → AreMarked free rows → AreMarked free (put nat_cmp k now rows)

@@ -35,6 +35,18 @@ no_living found prefix oid made m few less given is none n too =
     at_most : (made n : ℕ) → made < 2 ^ 32 → nat_lt made n ≡ false → n < 2 ^ 32
     at_most made n few e = grind (arith, nat_tests)
 
+-- where one number of an identity is not above a certain one, no number of it is that has something
+pub no_later : {X : Type 0} (found : ℕ → Option X) (prefix oid : List ℕ) (made first m : ℕ) → made < 2 ^ 32 → m < 2 ^ 32 → ((n : ℕ) → made < n → found n ≡ None)
+    → oid ≡ prefix ++ decimal m → m ≤ first → (n : ℕ) → first < n → oid ≡ prefix ++ decimal n → found n ≡ None
+no_later found prefix oid made first m few less given is early n late too =
+    elim (nat_lt made n) as (λ b. nat_lt made n ≡ b → found n ≡ None) [
+      | true ↦ λ above. given n (ltb-true made n above)
+      | false ↦ λ below. let same = one_number prefix oid n m (at_most made n few below) less too is in absurd (omega (arith, same, early, late))
+    ] refl
+  where
+    at_most : (made n : ℕ) → made < 2 ^ 32 → nat_lt made n ≡ false → n < 2 ^ 32
+    at_most made n few e = grind (arith, nat_tests)
+
 -- and none above a certain one
 pub none_above : {X : Type 0} (found : ℕ → Option X) (made : ℕ) → made < 2 ^ 32 → ((n : ℕ) → made < n → found n ≡ None) → (n : ℕ) → 2 ^ 32 ≤ n → found n ≡ None
 none_above found made few given n more = given n (omega arith)

@@ -5,6 +5,7 @@ use Rattle.std.proofs.lemmas.Bool.{lt-ltb, le-ltb}
 use Rattle.std.specs.Option.{IfSome, is_some, option_map}
 use Rattle.std.specs.Borrow.{Bor}
 use Rattle.bridge_setting.specs.Naming.{name_of, AreNames}
+use Rattle.uno_entities.specs.declared.text.Text.{Text}
 use Rattle.uno_entities.specs.declared.tid.Tid.{Tid}
 
 nothing_at : {A : Type 0} (i : ℕ) (x : A) → slice_get [] i ≡ Some x → ⊥
@@ -70,12 +71,26 @@ one_more_named tag n (y ∷ xs) x names is =
     (names.0, one_more_named tag (suc n) xs x names.1 (is ∙ ap (λ m. name_of tag m) next))
 
 -- the names so far, and one more
-pub also_named : (tag : List ℕ) (xs ys : List (List ℕ)) (x : List ℕ) (i : ℕ) → AreNames tag 1 xs → length xs ≡ i → x ≡ name_of tag (i + 1) → ys ≡ xs ++ x ∷ []
-    → AreNames tag 1 ys × (length ys ≡ i + 1)
-also_named tag xs ys x i names count is all =
+pub also_named : (tag : List ℕ) (n : ℕ) (xs ys : List (List ℕ)) (x : List ℕ) (i : ℕ) → AreNames tag n xs → length xs ≡ i → x ≡ name_of tag (i + n) → ys ≡ xs ++ x ∷ []
+    → AreNames tag n ys × (length ys ≡ i + 1)
+also_named tag n xs ys x i names count is all =
     let more : length (xs ++ x ∷ []) ≡ i + 1 = length-append xs (x ∷ []) ∙ ap (λ m. m + 1) count in
-    rw (all) (one_more_named tag 1 xs x names (is ∙ ap (λ m. name_of tag (m + 1)) (sym count)), more)
+    rw (all) (one_more_named tag n xs x names (is ∙ ap (λ m. name_of tag (m + n)) (sym count)), more)
 
-pub none_named : (tag : List ℕ) (xs : List (List ℕ)) → xs ≡ [] → AreNames tag 1 xs × (length xs ≡ 0)
+pub none_named : (tag : List ℕ) (n : ℕ) (xs : List (List ℕ)) → xs ≡ [] → AreNames tag n xs × (length xs ≡ 0)
 unfolding AreNames
-none_named tag xs none = rw (none) (tt, refl)
+none_named tag n xs none = rw (none) (tt, refl)
+
+-- the names from that of the number 0 on
+pub first_named : (tag : List ℕ) (xs : List (List ℕ)) (n : ℕ) (o : Option (Bor Text)) → AreNames tag 0 xs → option_map (λ t. t.now) o ≡ slice_get xs n
+    → IfSome o (λ t. t.now ≡ name_of tag n)
+first_named tag xs n None names same = tt
+first_named tag xs n (Some t) names same =
+    let is : n + 0 ≡ n = omega arith in
+    name_at tag 0 xs n t.now names (sym same) ∙ ap (λ m. name_of tag m) is
+
+pub also_first : (tag : List ℕ) (xs ys : List (List ℕ)) (x : List ℕ) (i : ℕ) → AreNames tag 0 xs → length xs ≡ i → x ≡ name_of tag i → ys ≡ xs ++ x ∷ []
+    → AreNames tag 0 ys × (length ys ≡ i + 1)
+also_first tag xs ys x i names count is all =
+    let same : i ≡ i + 0 = omega arith in
+    also_named tag 0 xs ys x i names count (is ∙ ap (λ m. name_of tag m) same) all

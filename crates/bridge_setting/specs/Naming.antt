@@ -15,9 +15,10 @@ unfoldable pub AreNames : (tag : List ℕ) → ℕ → List (List ℕ) → Type 
 AreNames tag n [] = Unit
 AreNames tag n (x ∷ xs) = (x ≡ name_of tag n) × AreNames tag (suc n) xs
 
--- the name of releases is that of the number 0, and those of roots are numbered from 1
-pub record AreOf (named : Named) (prefix release : List ℕ) (roots : List (List ℕ)) : Type 0 where
+-- the name of releases is that of the number 0, and those of roots are numbered from 1; those of objects stand behind that of the number 0
+pub record AreOf (named : Named) (prefix release : List ℕ) (roots objects : List (List ℕ)) : Type 0 where
   pub front : prefix ≡ named.tag ++ codes ";"
   pub first : release ≡ name_of named.tag 0
   pub rest : AreNames named.tag 1 roots
   pub count : named.roots ≡ length roots
+  pub known : AreNames named.tag 0 objects

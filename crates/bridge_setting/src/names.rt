@@ -12,13 +12,14 @@ use std::marker::Model;
 use uno_base::NoMemory;
 use uno_types::{Tag, Text, Tid};
 
-/// The names of the thread of releases and of the threads of roots, beside the tag.
+/// The names of the thread of releases, of the threads of roots, and of the first objects, beside the tag.
 #[derive(Drop)]
 pub struct Names {
     tag: Tag,
     prefix: Text,
     release: Tid,
     roots: Vec<Tid>,
+    objects: Vec<Text>,
 }
 
 impl Model for Names {
@@ -29,22 +30,24 @@ impl Model for Names {
 
     ghost view = { λ n. record { tag = n.tag; roots = length n.roots.items } };
 
-    ghost invariant = { λ n. AreOf (record { tag = n.tag; roots = length n.roots.items }) n.prefix n.release n.roots.items };
+    ghost invariant = { λ n. AreOf (record { tag = n.tag; roots = length n.roots.items }) n.prefix n.release n.roots.items n.objects.items };
 }
 
 impl Names {
-    /// The names of so many roots.
-    pub fn new(alloc: Global, tag: Tag, roots: usize) -> Result<Names, NoMemory>
+    /// The names of so many roots, and of the objects below this number.
+    pub fn new(alloc: Global, tag: Tag, roots: usize, objects: u64) -> Result<Names, NoMemory>
         ensures { IfOk result (λ names. (names.tag ≡ tag) × (names.roots ≡ roots)) }
     {
         let prefix = prefix_of(alloc, &tag)?;
         let release = thread_named(alloc, &tag, 0)?;
+        let objects = objects_named(alloc, &tag, objects)?;
         let roots = threads_named(alloc, &tag, roots)?;
         Ok(Names {
             tag,
             prefix,
             release,
             roots,
+            objects,
         })
     }
 
@@ -76,17 +79,30 @@ impl Names {
     pub fn object(&self, alloc: Global, number: u32) -> Result<Text, NoMemory>
         ensures { IfOk result (λ oid. oid ≡ name_of self.now.tag number) }
     {
-        Text::of(alloc, named(&self.tag, number as u64).as_str())
+        match self.first_object(number) {
+            Some(oid) => oid.copy(),
+            None => object_named(alloc, &self.tag, number as u64),
+        }
     }
 
     /// Whether a name is the identity of the object of a number.
     pub fn is_object(&self, number: u32, name: &str) -> bool
         ensures { result ≡ true ↔ name.now ≡ name_of self.now.tag number }
     {
+        if let Some(oid) = self.first_object(number) {
+            return is_text(oid, name);
+        }
         match name.strip_prefix(self.prefix.as_str()) {
             Some(digits) => is_printed(number, digits),
             None => false,
         }
+    }
+
+    /// The identity of one of the first objects.
+    fn first_object(&self, number: u32) -> Option<&Text>
+        ensures { IfSome result (λ oid. oid.now ≡ name_of self.now.tag number) }
+    {
+        text_at(&self.objects, number as usize)
     }
 
     /// Whether this end gave a name.
@@ -101,6 +117,12 @@ fn tid_at(tids: &[Tid], place: usize) -> Option<&Tid>
     ensures { option_map (λ tid. tid.now) result ≡ slice_get tids.now place }
 {
     tids.get(place)
+}
+
+fn text_at(texts: &[Text], place: usize) -> Option<&Text>
+    ensures { option_map (λ text. text.now) result ≡ slice_get texts.now place }
+{
+    texts.get(place)
 }
 
 /// The tag and `;`.
@@ -118,6 +140,13 @@ fn is_printed(number: u32, digits: &str) -> bool
 {
     let mut buffer = Buffer::new();
     buffer.format(number) == digits
+}
+
+/// Whether a name is this text.
+fn is_text(text: &Text, name: &str) -> bool
+    ensures { result ≡ true ↔ name.now ≡ text.now }
+{
+    text.as_str() == name
 }
 
 /// The most bytes of a name: those of a tag, `;`, and a number.
@@ -154,4 +183,23 @@ fn threads_named(alloc: Global, tag: &Tag, count: usize) -> Result<Vec<Tid>, NoM
         tids.push(tid)?;
     }
     Ok(tids)
+}
+
+/// The identity of the object of a number.
+fn object_named(alloc: Global, tag: &Tag, number: u64) -> Result<Text, NoMemory>
+    ensures { IfOk result (λ oid. oid ≡ name_of tag.now number) }
+{
+    Text::of(alloc, named(tag, number).as_str())
+}
+
+/// The identities of the objects below a number, in their order; the first is of the number 0, which no object has.
+fn objects_named(alloc: Global, tag: &Tag, count: u64) -> Result<Vec<Text>, NoMemory>
+    ensures { IfOk result (λ oids. AreNames tag.now 0 oids.items) }
+{
+    let mut oids = Vec::new(alloc);
+    for number in 0..count {
+        let oid = object_named(alloc, tag, number)?;
+        oids.push(oid)?;
+    }
+    Ok(oids)
 }

@@ -5,7 +5,7 @@ ghost use Rattle.bridge_model.specs.Settings.{own_oid, root_tid, release_tid, is
 ghost use Rattle.bridge_setting.specs.Settings.{setting_of};
 ghost use Rattle.plan_types.specs.Plans.{plan_of};
 
-use crate::Names;
+use crate::{Names, first_objects};
 use plan_types::Plan;
 use std::alloc::Global;
 use uno_base::NoMemory;
@@ -25,7 +25,8 @@ impl Setting {
         ensures roots { IfOk result (λ s. s.names.roots ≡ length (plan_of plan).threads) }
     {
         let roots = plan.threads.len();
-        match Names::new(alloc, tag, roots) {
+        let objects = first_objects(&plan).saturating_add(1);
+        match Names::new(alloc, tag, roots, objects) {
             Ok(names) => Ok(Setting {
                 names,
                 registry,

@@ -16,7 +16,7 @@ use Rattle.table_model.specs.declared.holder.Holder.{Holder}
 use Rattle.table_model.proofs.BagLaws.{how_many_one_more, how_often_one_less, length_one_less}
 use Rattle.table_model.proofs.HoldLaws.{same_holder}
 use Rattle.table_model.proofs.PairLaws.{pair_order, same_pair}
-use Rattle.table_model.proofs.RowLaws.{found_without, put_twice, without_put, put_same}
+use Rattle.table_model.proofs.RowLaws.{found_without, put_twice, put_same}
 use Rattle.env_table.specs.Holders.{holders_at, holders_or_none, all_occurrences, with_holders}
 use Rattle.env_table.proofs.Occurrences.{occurs_more, occurs_less}
 
@@ -45,17 +45,6 @@ module _ (k : Holder) (p : Pair) (rows between after : List (Pair × List Holder
   kept_again (Ok x) rises back is = is
   kept_again (Err e) rises back is = put_back back ∙ put_same pair_order p same_pair changed rows rises (sym was ∙ ap Some (sym is))
 
-  -- holders of which the last is gone
-  pub gone_with_last : changed ≡ one_less holder_cmp k hs → length changed ≡ 0 → after ≡ without pair_cmp p between
-      → after ≡ with_holders p (one_less holder_cmp k (holders_at p rows)) rows
-  gone_with_last is none gone =
-      gone ∙ ap (without pair_cmp p) out ∙ without_put pair_order p [] rows ∙ none_left changed none
-      ∙ ap (λ hs. with_holders p hs rows) (is ∙ ap (λ o. one_less holder_cmp k (holders_or_none o)) was)
-    where
-      none_left : (hs : List Holder) → length hs ≡ 0 → without pair_cmp p rows ≡ with_holders p hs rows
-      none_left [] e = refl
-      none_left (h ∷ hs) e = absurd (omega arith)
-
   -- holders of which some are left
   pub gone_with_others : changed ≡ one_less holder_cmp k hs → ¬ (length changed ≡ 0) → after ≡ put pair_cmp p changed between
       → after ≡ with_holders p (one_less holder_cmp k (holders_at p rows)) rows
@@ -79,11 +68,51 @@ pub there_in : (k : Holder) (hs : List Holder) (found : Option (List Holder)) �
     → 0 < how_often holder_cmp k (holders_or_none found) → 0 < how_often holder_cmp k hs
 there_in k hs found was there = subst (λ o. 0 < how_often holder_cmp k (holders_or_none o)) (sym was) there
 
-pub last_told : (n m : ℕ) → n ≡ m + 1 → m ≡ 0 → true ≡ nat_eq n 1
-last_told n m e none = let one : n ≡ 1 = omega arith in subst (λ n. true ≡ nat_eq n 1) (sym one) refl
+pub told_one : (n : ℕ) → n ≡ 1 → true ≡ nat_eq n 1
+told_one n one = subst (λ n. true ≡ nat_eq n 1) (sym one) refl
 
-pub others_told : (n m : ℕ) → n ≡ m + 1 → ¬ (m ≡ 0) → false ≡ nat_eq n 1
-others_told n m e some = grind (arith, nat_tests)
+pub told_several : (n : ℕ) → ¬ (n ≡ 1) → false ≡ nat_eq n 1
+told_several n several = grind (arith, nat_tests)
+
+-- a number that was found to be some
+pub held_some : (n m : ℕ) → n ≡ m → ¬ (n ≡ 0) → 0 < m
+held_some n m is some = omega (arith, is, some)
+
+pub none_told : (n : ℕ) → n ≡ 0 → true ≡ nat_eq n 0
+none_told n none = subst (λ n. true ≡ nat_eq n 0) (sym none) refl
+
+pub some_told : (n m : ℕ) → n ≡ m → ¬ (n ≡ 0) → false ≡ nat_eq m 0
+some_told n m is some = grind (arith, nat_tests)
+
+no_holders : (hs : List Holder) → length hs ≡ 0 → hs ≡ []
+no_holders [] none = refl
+no_holders (h ∷ hs) none = absurd (omega (arith, none))
+
+pub found_some : (found : Option (List Holder)) → 0 < length (holders_or_none found) → IsSome found
+found_some None some = absurd (omega (arith, some))
+found_some (Some hs) some = refl
+
+pub found_there : (k : Holder) (found : Option (List Holder)) → 0 < how_often holder_cmp k (holders_or_none found) → IsSome found
+found_there k None there = absurd (omega (arith, there))
+found_there k (Some hs) there = refl
+
+module _ (k : Holder) (p : Pair) (rows after : List (Pair × List Holder)) where
+  -- a first holder
+  pub held_first : {E : Type 0} (changed fresh : List Holder) (r : Result (Unit {0}) E) → length (holders_at p rows) ≡ 0 → changed ≡ one_more holder_cmp k fresh → fresh ≡ []
+      → OnOk r (after ≡ put pair_cmp p changed rows) → OnOk r (after ≡ put pair_cmp p (one_more holder_cmp k (holders_at p rows)) rows)
+  held_first changed fresh (Ok x) none is new held = held ∙ ap (λ hs. put pair_cmp p hs rows) (is ∙ ap (one_more holder_cmp k) (new ∙ sym (no_holders (holders_at p rows) none)))
+  held_first changed fresh (Err e) none is new held = held
+
+  -- the only holder is gone
+  pub gone_at_last : 0 < how_often holder_cmp k (holders_at p rows) → length (holders_at p rows) ≡ 1 → after ≡ without pair_cmp p rows
+      → after ≡ with_holders p (one_less holder_cmp k (holders_at p rows)) rows
+  gone_at_last there one gone =
+      let more = length_one_less holder_cmp k (holders_at p rows) there in
+      gone ∙ none_left (one_less holder_cmp k (holders_at p rows)) (omega (arith, more, one))
+    where
+      none_left : (hs : List Holder) → length hs ≡ 0 → without pair_cmp p rows ≡ with_holders p hs rows
+      none_left [] e = refl
+      none_left (h ∷ hs) e = absurd (omega (arith, e))
 
 module _ (k : Holder) (p : Pair) (old new : List (Pair × List Holder)) (rises : T (is_sorted pair_cmp old)) where
   -- a row with one holder more is one occurrence more

@@ -54,9 +54,12 @@ impl Part {
         ensures first { IfOk result (λ first. first ≡ nat_eq (holders (pair oid.now face.now) self.old) 0) }
         ensures kept { OnErr result (self.new ≡ self.old) }
     {
-        let first = rows::number(&self.pairs, oid, face) == 0;
-        rows::hold(self.alloc, &mut self.pairs, holder, oid, face)?;
-        Ok(first)
+        if rows::number(&self.pairs, oid, face) == 0 {
+            rows::hold_first(self.alloc, &mut self.pairs, holder, oid, face)?;
+            return Ok(true);
+        }
+        rows::hold_again(self.alloc, &mut self.pairs, holder, oid, face)?;
+        Ok(false)
     }
 
     /// Takes out an occurrence of a pair, and tells whether it was its last.
@@ -64,10 +67,16 @@ impl Part {
         ensures answer { result_ok result ≡ (if holds (hold holder (pair oid.now face.now)) self.old then Some (nat_eq (holders (pair oid.now face.now) self.old) 1) else None) }
         ensures gone { self.new ≡ let_go (hold holder (pair oid.now face.now)) self.old }
     {
-        if rows::times(&self.pairs, holder, oid, face) == 0 {
+        let (times, number) = rows::counts(&self.pairs, holder, oid, face);
+        if times == 0 {
             return Err(NotHeld);
         }
-        Ok(rows::let_go(&mut self.pairs, holder, oid, face))
+        if number == 1 {
+            rows::let_last_go(&mut self.pairs, holder, oid, face);
+            return Ok(true);
+        }
+        rows::let_one_go(&mut self.pairs, holder, oid, face);
+        Ok(false)
     }
 
     /// How many occurrences a pair has.

@@ -1,5 +1,5 @@
 //! The rows of an environment: each pair that is held, with its holders.
-ghost use Rattle.std.specs.Prelude.{◌≡◌, ℕ, ◌<◌, ◌^◌, T, length, nat_eq, OnOk, OnErr};
+ghost use Rattle.std.specs.Prelude.{◌≡◌, ℕ, ◌<◌, ◌^◌, T, length, OnOk, OnErr};
 ghost use Rattle.std.specs.FinMap.{find, put, is_sorted};
 ghost use Rattle.table_model.specs.Bags.{how_often, one_more, one_less};
 ghost use Rattle.table_model.specs.Holdings.{holder_cmp};
@@ -36,40 +36,70 @@ pub fn times(pairs: &PairMap<Holders>, holder: Holder, oid: &Text, face: &Name) 
     holders.times(holder)
 }
 
-/// Counts an occurrence.
-pub fn hold(
+/// How many occurrences of a pair a holder has, and how many all have.
+pub fn counts(pairs: &PairMap<Holders>, holder: Holder, oid: &Text, face: &Name) -> (u64, u64)
+    ensures times { result.0 ≡ how_often holder_cmp holder (holders_at (pair oid.now face.now) pairs.now) }
+    ensures number { result.1 ≡ length (holders_at (pair oid.now face.now) pairs.now) }
+    ensures rises { T (is_sorted pair_cmp pairs.now) }
+{
+    let Some(holders) = pairs.get(oid, face) else {
+        return (0, 0)
+    };
+    (holders.times(holder), holders.number())
+}
+
+/// Counts an occurrence of a pair that has none.
+pub fn hold_first(
     alloc: Global,
     pairs: &mut PairMap<Holders>,
     holder: Holder,
     oid: &Text,
     face: &Name,
 ) -> Result<(), NoMemory>
+    requires { length (holders_at (pair oid.now face.now) pairs.old) ≡ 0 }
     ensures held { OnOk result (pairs.new ≡ put pair_cmp (pair oid.now face.now) (one_more holder_cmp holder (holders_at (pair oid.now face.now) pairs.old)) pairs.old) }
     ensures kept { OnErr result (pairs.new ≡ pairs.old) }
 {
-    if pairs.get(oid, face).is_none() {
-        let mut holders = Holders::new();
-        holders.hold(alloc, holder)?;
-        return pairs.insert(oid, face, holders);
-    }
+    let mut holders = Holders::new();
+    holders.hold(alloc, holder)?;
+    pairs.insert(oid, face, holders)
+}
+
+/// Counts an occurrence more of a pair that has one.
+pub fn hold_again(
+    alloc: Global,
+    pairs: &mut PairMap<Holders>,
+    holder: Holder,
+    oid: &Text,
+    face: &Name,
+) -> Result<(), NoMemory>
+    requires some { 0 < length (holders_at (pair oid.now face.now) pairs.old) }
+    requires rises { T (is_sorted pair_cmp pairs.old) }
+    ensures held { OnOk result (pairs.new ≡ put pair_cmp (pair oid.now face.now) (one_more holder_cmp holder (holders_at (pair oid.now face.now) pairs.old)) pairs.old) }
+    ensures kept { OnErr result (pairs.new ≡ pairs.old) }
+{
     let mut holders = pairs.replace(oid, face, Holders::new());
     let held = holders.hold(alloc, holder);
     pairs.replace(oid, face, holders);
     held
 }
 
-/// Counts an occurrence less, and tells whether it was the last of the pair.
-pub fn let_go(pairs: &mut PairMap<Holders>, holder: Holder, oid: &Text, face: &Name) -> bool
-    requires { 0 < how_often holder_cmp holder (holders_at (pair oid.now face.now) pairs.old) }
-    ensures last { result ≡ nat_eq (length (holders_at (pair oid.now face.now) pairs.old)) 1 }
-    ensures gone { pairs.new ≡ with_holders (pair oid.now face.now) (one_less holder_cmp holder (holders_at (pair oid.now face.now) pairs.old)) pairs.old }
+/// Takes out the only occurrence of a pair.
+pub fn let_last_go(pairs: &mut PairMap<Holders>, holder: Holder, oid: &Text, face: &Name)
+    requires there { 0 < how_often holder_cmp holder (holders_at (pair oid.now face.now) pairs.old) }
+    requires last { length (holders_at (pair oid.now face.now) pairs.old) ≡ 1 }
+    ensures { pairs.new ≡ with_holders (pair oid.now face.now) (one_less holder_cmp holder (holders_at (pair oid.now face.now) pairs.old)) pairs.old }
+{
+    pairs.remove(oid, face);
+}
+
+/// Counts an occurrence less of a pair that has several.
+pub fn let_one_go(pairs: &mut PairMap<Holders>, holder: Holder, oid: &Text, face: &Name)
+    requires there { 0 < how_often holder_cmp holder (holders_at (pair oid.now face.now) pairs.old) }
+    requires several { ¬ (length (holders_at (pair oid.now face.now) pairs.old) ≡ 1) }
+    ensures { pairs.new ≡ with_holders (pair oid.now face.now) (one_less holder_cmp holder (holders_at (pair oid.now face.now) pairs.old)) pairs.old }
 {
     let mut holders = pairs.replace(oid, face, Holders::new());
     holders.let_go(holder);
-    if holders.number() == 0 {
-        pairs.remove(oid, face);
-        return true;
-    }
     pairs.replace(oid, face, holders);
-    false
 }

@@ -137,3 +137,8 @@ pub filled : {A : Type 0} (xs : List A) (empty : Bool) → IsTrue empty ↔ (len
 filled [] empty is = ap not (is.1 refl)
 filled (x ∷ xs) true is = let bad : ⊥ = omega (arith, is.0 refl) in absurd bad
 filled (x ∷ xs) false is = refl
+
+-- a map without rows has nothing at a pair
+pub nothing_at : {X : Type 0} (text face : List ℕ) (es : List (List ℕ × Rows X)) → length es ≡ 0 → None ≡ at_face (lookup (bytes_eq text) es) face
+nothing_at text face [] none = refl
+nothing_at text face (e ∷ es) none = absurd (omega (arith, none))

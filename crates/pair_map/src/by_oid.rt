@@ -16,10 +16,13 @@ use uno_entities::{Name, Text};
 /// Faces, each at its OID.
 pub type ByOid<V> = IndexMap<Text, Faces<V>>;
 
-/// The value at a pair.
+/// The value at a pair. A map without rows is not searched.
 pub fn at_pair<'a, V>(by_oid: &'a ByOid<V>, oid: &Text, face: &Name) -> Option<&'a V>
     ensures { option_copied result ≡ at_pair by_oid.now (pair oid.now face.now) }
 {
+    if by_oid.is_empty() {
+        return None;
+    }
     by_oid.get(oid)?.get(face)
 }
 

@@ -1,12 +1,13 @@
 use Rattle.std.proofs.Common.{◌∙◌, ap, refl, ◌++◌}
 use Rattle.std.specs.Fmt.{decimal}
 use Rattle.bridge_model.specs.Objects.{is_held_object}
-use Rattle.bridge_objects.proofs.Marking.{marked_still, held_others, apart_too}
+use Rattle.bridge_objects.proofs.Marking.{marked_early, marked_still, held_others, apart_too}
 use Rattle.bridge_objects.proofs.objects.Objects.hold.Goals as goal
 
 pub invariant_of-self-2 : goal.invariant_of-self-2
 invariant_of-self-2 c =
     c.refresh.ensures.marked
+    (λ n early. marked_early c.self.inside.prefix c.self.inside.first c.self.inside.store.rows c.self.inside.environment c.hold.new.self c.self.inside.stubs c.self.inside.stubs n early (c.self.invariant n))
     (λ n other. marked_still c.self.inside.prefix c.self.inside.first c.self.inside.store.rows c.self.inside.environment c.hold.new.self c.self.inside.stubs c.self.inside.stubs n
     (ap (is_held_object (c.self.inside.prefix ++ decimal n)) c.in_ok-first.ensures.held ∙ held_others (c.self.inside.prefix ++ decimal n) _ c.self.inside.environment (apart_too _ _ other))
     refl (c.self.invariant n))
