@@ -40,11 +40,11 @@ use uno_values::{Value, weights};
 pub(crate) fn call_effect(
     alloc: Global,
     registry: &Registry,
-    running: Running,
+    running: &Running,
     call: &Call,
 ) -> Result<Effect, NoMemory>
     requires { IsSound registry.now }
-    ensures { IfOk result (λ e. effect_of e ≡ call_effect registry.now (running_of running.entry) (call_of call.now)) }
+    ensures { IfOk result (λ e. effect_of e ≡ call_effect registry.now (running_of running.now) (call_of call.now)) }
 {
     let target = object_of_word(running.scene, &call.target);
     if matches!(target, Target::Null) {
@@ -57,13 +57,13 @@ pub(crate) fn call_effect(
 fn calls_target(
     alloc: Global,
     registry: &Registry,
-    running: Running,
+    running: &Running,
     call: &Call,
     target: Target,
 ) -> Result<Effect, NoMemory>
     requires sound { IsSound registry.now }
     requires some { target_of target ≢ null }
-    ensures { IfOk result (λ e. effect_of e ≡ calls_target registry.now (running_of running.entry) (call_of call.now) (target_of target.entry)) }
+    ensures { IfOk result (λ e. effect_of e ≡ calls_target registry.now (running_of running.now) (call_of call.now) (target_of target.entry)) }
 {
     let Some(args) = given_values(alloc, running.scene, &call.arguments)? else {
         return fails(alloc, registry, running, RuntimeCause::Range);
@@ -75,13 +75,13 @@ fn calls_target(
 fn calls_with(
     alloc: Global,
     registry: &Registry,
-    running: Running,
+    running: &Running,
     call: &Call,
     target: Target,
     args: Vec<Value>,
 ) -> Result<Effect, NoMemory>
     requires { IsSound registry.now }
-    ensures { IfOk result (λ e. effect_of e ≡ calls_object registry.now (running_of running.entry) (call_of call.now) (target_of target.entry) (identity_of (target_of target.entry)) (face_of (target_of target.entry)) (Some (map plain_of args.items))) }
+    ensures { IfOk result (λ e. effect_of e ≡ calls_object registry.now (running_of running.now) (call_of call.now) (target_of target.entry) (identity_of (target_of target.entry)) (face_of (target_of target.entry)) (Some (map plain_of args.items))) }
 {
     if let Some(cause) = why_unsent(running, target, &args) {
         drop(args);
@@ -123,8 +123,8 @@ fn makes_call(
 }
 
 /// Why no call with these arguments is made.
-fn why_unsent(running: Running, target: Target, args: &[Value]) -> Option<RuntimeCause>
-    ensures { (reg : List Entity) (number : ℕ) (e : Plain) → sent reg (running_of running.entry) (identity_of (target_of target.entry)) (face_of (target_of target.entry)) number (map plain_of args.now) e ≡ unless reg (running_of running.entry) result e }
+fn why_unsent(running: &Running, target: Target, args: &[Value]) -> Option<RuntimeCause>
+    ensures { (reg : List Entity) (number : ℕ) (e : Plain) → sent reg (running_of running.now) (identity_of (target_of target.entry)) (face_of (target_of target.entry)) number (map plain_of args.now) e ≡ unless reg (running_of running.now) result e }
 {
     if is_full(running.depth) {
         return Some(RuntimeCause::Depth);
@@ -215,11 +215,11 @@ fn push_given(
 pub(crate) fn query_effect(
     alloc: Global,
     registry: &Registry,
-    running: Running,
+    running: &Running,
     query: &Query,
 ) -> Result<Effect, NoMemory>
     requires { IsSound registry.now }
-    ensures { IfOk result (λ e. effect_of e ≡ query_effect registry.now (running_of running.entry) (query_of query.now)) }
+    ensures { IfOk result (λ e. effect_of e ≡ query_effect registry.now (running_of running.now) (query_of query.now)) }
 {
     let target = object_of_word(running.scene, &query.target);
     if matches!(target, Target::Null) {
@@ -232,13 +232,13 @@ pub(crate) fn query_effect(
 fn queries_target(
     alloc: Global,
     registry: &Registry,
-    running: Running,
+    running: &Running,
     query: &Query,
     target: Target,
 ) -> Result<Effect, NoMemory>
     requires sound { IsSound registry.now }
     requires some { target_of target ≢ null }
-    ensures { IfOk result (λ e. effect_of e ≡ queries_target registry.now (running_of running.entry) (query_of query.now) (target_of target.entry)) }
+    ensures { IfOk result (λ e. effect_of e ≡ queries_target registry.now (running_of running.now) (query_of query.now) (target_of target.entry)) }
 {
     let args = wanted_type(alloc, query)?;
     queries_with(alloc, registry, running, query, target, args)
@@ -248,14 +248,14 @@ fn queries_target(
 fn queries_with(
     alloc: Global,
     registry: &Registry,
-    running: Running,
+    running: &Running,
     query: &Query,
     target: Target,
     args: Vec<Value>,
 ) -> Result<Effect, NoMemory>
     requires sound { IsSound registry.now }
     requires wanted { map plain_of args.items ≡ plain.kind (kd.interface query.now.wanted) ∷ [] }
-    ensures { IfOk result (λ e. effect_of e ≡ queries_object registry.now (running_of running.entry) (query_of query.now) (target_of target.entry) (identity_of (target_of target.entry)) (face_of (target_of target.entry))) }
+    ensures { IfOk result (λ e. effect_of e ≡ queries_object registry.now (running_of running.now) (query_of query.now) (target_of target.entry) (identity_of (target_of target.entry)) (face_of (target_of target.entry))) }
 {
     let why = why_unsent(running, target, &args);
     drop(args);

@@ -26,11 +26,11 @@ use uno_values::{Value, depth_of, weight, weights};
 pub(crate) fn fails(
     alloc: Global,
     registry: &Registry,
-    running: Running,
+    running: &Running,
     cause: RuntimeCause,
 ) -> Result<Effect, NoMemory>
     requires { IsSound registry.now }
-    ensures { IfOk result (λ e. effect_of e ≡ fails registry.now (running_of running.entry) cause) }
+    ensures { IfOk result (λ e. effect_of e ≡ fails registry.now (running_of running.now) cause) }
 {
     raises(
         alloc,
@@ -45,12 +45,12 @@ pub(crate) fn fails(
 pub(crate) fn raises(
     alloc: Global,
     registry: &Registry,
-    running: Running,
+    running: &Running,
     name: &str,
     value: Value,
 ) -> Result<Effect, NoMemory>
     requires { IsSound registry.now }
-    ensures { IfOk result (λ e. effect_of e ≡ ends_with registry.now (running_of running.entry) (raised (kd.exception name.now) (plain_of value))) }
+    ensures { IfOk result (λ e. effect_of e ≡ ends_with registry.now (running_of running.now) (raised (kd.exception name.now) (plain_of value))) }
 {
     let exception = exception_of(alloc, name, value)?;
     let leaves = leaving(alloc, registry, running.tid, &running.function, exception)?;
@@ -69,11 +69,11 @@ fn raises_cause(alloc: Global, cause: RuntimeCause) -> Result<Effect, NoMemory>
 pub(crate) fn returns(
     alloc: Global,
     registry: &Registry,
-    running: Running,
+    running: &Running,
     value: Value,
     outs: Vec<Value>,
 ) -> Result<Effect, NoMemory>
-    ensures { IfOk result (λ e. effect_of e ≡ ends_with registry.now (running_of running.entry) (returned (plain_of value) (map plain_of outs.items))) }
+    ensures { IfOk result (λ e. effect_of e ≡ ends_with registry.now (running_of running.now) (returned (plain_of value) (map plain_of outs.items))) }
 {
     if let Some(cause) = answer_excess(registry, running.tid, &value, &outs) {
         drop(value);

@@ -33,23 +33,91 @@ pub(crate) fn value_of(
         Expression::Constant(value) => Ok(Some(value.copy(alloc)?)),
         Expression::Word(word) => Ok(Some(value_of_word(alloc, scene, word)?)),
         Expression::Operation(operation, left, right) => {
-            let left = value_of(left, alloc, scene)?;
-            let Ok(right) = value_of(right, alloc, scene) else {
-                drop(left);
-                return Err(NoMemory);
-            };
-            let result = both_operated(*operation, &left, &right);
-            drop(left);
-            drop(right);
-            Ok(result)
+            value_behind(
+                right,
+                *operation,
+                value_of(left, alloc, scene)?,
+                alloc,
+                scene,
+            )
         }
-        Expression::Any(kind, held) => any_of(alloc, kind, value_of(held, alloc, scene)?),
-        Expression::Tuple(name, members) => { tuple_of(name, values_of(members, alloc, scene)?) }
-        Expression::List(kind, elements) => {
-            list_of(alloc, kind, values_of(elements, alloc, scene)?)
-        }
-        Expression::Bytes(elements) => bytes_of(alloc, values_of(elements, alloc, scene)?),
+        Expression::Any(kind, held) => value_of_any(held, kind, alloc, scene),
+        Expression::Tuple(name, members) => value_of_tuple(members, name, alloc, scene),
+        Expression::List(kind, elements) => value_of_list(elements, kind, alloc, scene),
+        Expression::Bytes(elements) => value_of_bytes(elements, alloc, scene),
     }
+}
+
+/// The result of an operation on a value and that of an expression.
+#[cycle(value)]
+fn value_behind(
+    right: &Expression,
+    operation: Operation,
+    left: Option<Value>,
+    alloc: Global,
+    scene: Scene,
+) -> Result<Option<Value>, NoMemory>
+    ensures { IfOk result (λ x. option_map plain_of x ≡ both_values (option_map plain_of left) (value_of (scene_of scene.entry) (expression_of right.now)) (operated operation)) }
+{
+    let Ok(right) = value_of(right, alloc, scene) else {
+        drop(left);
+        return Err(NoMemory);
+    };
+    let result = both_operated(operation, &left, &right);
+    drop(left);
+    drop(right);
+    Ok(result)
+}
+
+/// An any of the value of an expression.
+#[cycle(value)]
+fn value_of_any(
+    held: &Expression,
+    kind: &TypeName,
+    alloc: Global,
+    scene: Scene,
+) -> Result<Option<Value>, NoMemory>
+    ensures { IfOk result (λ x. option_map plain_of x ≡ option_map (plain.any (kind_of kind.now)) (value_of (scene_of scene.entry) (expression_of held.now))) }
+{
+    any_of(alloc, kind, value_of(held, alloc, scene)?)
+}
+
+/// The struct or the exception of the values of its members.
+#[cycle(value)]
+fn value_of_tuple(
+    members: &[Expression],
+    name: &Name,
+    alloc: Global,
+    scene: Scene,
+) -> Result<Option<Value>, NoMemory>
+    ensures { IfOk result (λ x. option_map plain_of x ≡ option_map (plain.tuple name.now) (values_of (scene_of scene.entry) (expressions_of members.now))) }
+{
+    tuple_of(name, values_of(members, alloc, scene)?)
+}
+
+/// The sequence of the values of its elements.
+#[cycle(value)]
+fn value_of_list(
+    elements: &[Expression],
+    kind: &TypeName,
+    alloc: Global,
+    scene: Scene,
+) -> Result<Option<Value>, NoMemory>
+    ensures { IfOk result (λ x. option_map plain_of x ≡ option_map (plain.list (kind_of kind.now)) (values_of (scene_of scene.entry) (expressions_of elements.now))) }
+{
+    list_of(alloc, kind, values_of(elements, alloc, scene)?)
+}
+
+/// The sequence of bytes whose elements have these values.
+#[cycle(value)]
+fn value_of_bytes(
+    elements: &[Expression],
+    alloc: Global,
+    scene: Scene,
+) -> Result<Option<Value>, NoMemory>
+    ensures { IfOk result (λ x. option_map plain_of x ≡ option_map (λ xs. plain.bytes (bytes_of xs)) (values_of (scene_of scene.entry) (expressions_of elements.now))) }
+{
+    bytes_of(alloc, values_of(elements, alloc, scene)?)
 }
 
 /// The values of expressions, in their order.

@@ -20,7 +20,7 @@ use type_registry::{FunctionRef, function_numbered};
 use uno_base::NoMemory;
 use uno_types::Registry;
 
-/// What the next statement of a job asks; a job whose frame is no method asks nothing. Nothing is carried out.
+/// A job, and what its next statement asks.
 pub fn next(alloc: Global, plan: &Plan, registry: &Registry, job: Job) -> Result<Done, NoMemory>
     requires { IsSound registry.now }
     ensures same { IfOk result (λ d. job_of d.job ≡ job_of job) }
@@ -33,8 +33,9 @@ pub fn next(alloc: Global, plan: &Plan, registry: &Registry, job: Job) -> Result
     Ok(Done { job, effect })
 }
 
+/// What the next statement of a job asks; a job whose frame is no method asks nothing. Nothing is carried out.
 #[tactic(auto, unfolding(plan_model::specs::Effects::effect, message_model::specs::Calls::numbered))]
-fn effect_of_job(
+pub fn effect_of_job(
     alloc: Global,
     plan: &Plan,
     registry: &Registry,
@@ -55,7 +56,7 @@ fn effect_of_job(
         plan,
         job.behaviour,
         body.place,
-        running(job, body, function),
+        &running(job, body, function),
     )
 }
 
@@ -91,10 +92,10 @@ fn body_effect(
     plan: &Plan,
     behaviour: u32,
     place: u32,
-    running: Running,
+    running: &Running,
 ) -> Result<Effect, NoMemory>
     requires { IsSound registry.now }
-    ensures { IfOk result (λ e. effect_of e ≡ body_effect registry.now (plan_of plan.now) behaviour place (running_of running.entry)) }
+    ensures { IfOk result (λ e. effect_of e ≡ body_effect registry.now (plan_of plan.now) behaviour place (running_of running.now)) }
 {
     if behaviour == MANAGER {
         return manager_effect(alloc, registry, plan, running);
@@ -147,12 +148,12 @@ fn is_written_for(method: &Method, function: &FunctionRef) -> bool
 fn place_effect(
     alloc: Global,
     registry: &Registry,
-    running: Running,
+    running: &Running,
     method: &Method,
     place: u32,
 ) -> Result<Effect, NoMemory>
     requires { IsSound registry.now }
-    ensures { IfOk result (λ e. effect_of e ≡ place_effect registry.now (running_of running.entry) (slice_get (method_of method.now).body place)) }
+    ensures { IfOk result (λ e. effect_of e ≡ place_effect registry.now (running_of running.now) (slice_get (method_of method.now).body place)) }
 {
     match method.body.get(place as usize) {
         Some(statement) => statement_effect(alloc, registry, running, statement),

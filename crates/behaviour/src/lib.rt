@@ -27,7 +27,7 @@ pub use comparison::same_value;
 pub use effect::{Done, Effect};
 pub use exceptions::caused;
 pub use functions::number_in;
-pub use jobs::{method_of, next};
+pub use jobs::{effect_of_job, method_of, next};
 pub use leaving::leaving_exception;
 pub use root::{RootRun, root_target, root_values};
 pub use running::Target;

@@ -34,10 +34,10 @@ pub(crate) fn manager_effect(
     alloc: Global,
     registry: &Registry,
     plan: &Plan,
-    running: Running,
+    running: &Running,
 ) -> Result<Effect, NoMemory>
     requires { IsSound registry.now }
-    ensures { IfOk result (λ e. effect_of e ≡ manager_effect registry.now (plan_of plan.now) (running_of running.entry)) }
+    ensures { IfOk result (λ e. effect_of e ≡ manager_effect registry.now (plan_of plan.now) (running_of running.now)) }
 {
     if is_called(&running.function, CREATE) {
         return creates_alone(alloc, running.scene);

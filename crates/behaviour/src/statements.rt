@@ -29,11 +29,11 @@ use uno_values::Value;
 pub(crate) fn statement_effect(
     alloc: Global,
     registry: &Registry,
-    running: Running,
+    running: &Running,
     statement: &Statement,
 ) -> Result<Effect, NoMemory>
     requires { IsSound registry.now }
-    ensures { IfOk result (λ e. effect_of e ≡ statement_effect registry.now (running_of running.entry) (statement_of statement.now)) }
+    ensures { IfOk result (λ e. effect_of e ≡ statement_effect registry.now (running_of running.now) (statement_of statement.now)) }
 {
     match statement {
         Statement::Let(field, value) => let_effect(alloc, registry, running, &field.name, value),
@@ -57,12 +57,12 @@ pub(crate) fn statement_effect(
 fn let_effect(
     alloc: Global,
     registry: &Registry,
-    running: Running,
+    running: &Running,
     name: &Name,
     value: &Expression,
 ) -> Result<Effect, NoMemory>
     requires { IsSound registry.now }
-    ensures { IfOk result (λ e. effect_of e ≡ let_effect registry.now (running_of running.entry) name.now (expression_of value.now)) }
+    ensures { IfOk result (λ e. effect_of e ≡ let_effect registry.now (running_of running.now) name.now (expression_of value.now)) }
 {
     match evaluated(alloc, registry, running.scene, value)? {
         Ok(value) => Ok(Effect::Lets(variable(name, value)?)),
@@ -75,12 +75,12 @@ fn let_effect(
 fn set_effect(
     alloc: Global,
     registry: &Registry,
-    running: Running,
+    running: &Running,
     name: &Name,
     value: &Expression,
 ) -> Result<Effect, NoMemory>
     requires { IsSound registry.now }
-    ensures { IfOk result (λ e. effect_of e ≡ set_effect registry.now (running_of running.entry) name.now (expression_of value.now)) }
+    ensures { IfOk result (λ e. effect_of e ≡ set_effect registry.now (running_of running.now) name.now (expression_of value.now)) }
 {
     match evaluated(alloc, registry, running.scene, value)? {
         Ok(value) => Ok(Effect::Sets(variable(name, value)?)),
@@ -93,12 +93,12 @@ fn set_effect(
 fn set_field_effect(
     alloc: Global,
     registry: &Registry,
-    running: Running,
+    running: &Running,
     name: &Name,
     value: &Expression,
 ) -> Result<Effect, NoMemory>
     requires { IsSound registry.now }
-    ensures { IfOk result (λ e. effect_of e ≡ set_field_effect registry.now (running_of running.entry) name.now (expression_of value.now)) }
+    ensures { IfOk result (λ e. effect_of e ≡ set_field_effect registry.now (running_of running.now) name.now (expression_of value.now)) }
 {
     match evaluated(alloc, registry, running.scene, value)? {
         Ok(value) => Ok(Effect::SetsField(variable(name, value)?)),
@@ -137,12 +137,12 @@ fn make_effect(making: &Making) -> Result<Effect, NoMemory>
 fn when_effect(
     alloc: Global,
     registry: &Registry,
-    running: Running,
+    running: &Running,
     test: &Test,
     back: &Option<Expression>,
 ) -> Result<Effect, NoMemory>
     requires { IsSound registry.now }
-    ensures { IfOk result (λ e. effect_of e ≡ when_effect registry.now (running_of running.entry) (test_of test.now) (option_map expression_of back.now)) }
+    ensures { IfOk result (λ e. effect_of e ≡ when_effect registry.now (running_of running.now) (test_of test.now) (option_map expression_of back.now)) }
 {
     match evaluated(alloc, registry, running.scene, &test.right)? {
         Ok(right) => returns_where(alloc, registry, running, test, right, back),
@@ -154,13 +154,13 @@ fn when_effect(
 fn returns_where(
     alloc: Global,
     registry: &Registry,
-    running: Running,
+    running: &Running,
     test: &Test,
     right: Value,
     back: &Option<Expression>,
 ) -> Result<Effect, NoMemory>
     requires { IsSound registry.now }
-    ensures { IfOk result (λ e. effect_of e ≡ (if compares test.now.comparison (value_of_word (scene_of running.entry.scene) (word_of test.now.left)) (plain_of right) then return_effect registry.now (running_of running.entry) (option_map expression_of back.now) else skips)) }
+    ensures { IfOk result (λ e. effect_of e ≡ (if compares test.now.comparison (value_of_word (scene_of running.now.scene) (word_of test.now.left)) (plain_of right) then return_effect registry.now (running_of running.now) (option_map expression_of back.now) else skips)) }
 {
     let holds = holds(running.scene, test, &right);
     drop(right);
@@ -201,11 +201,11 @@ fn holds_of(comparison: Comparison, left: Option<&Value>, right: &Value) -> bool
 pub(crate) fn return_effect(
     alloc: Global,
     registry: &Registry,
-    running: Running,
+    running: &Running,
     back: &Option<Expression>,
 ) -> Result<Effect, NoMemory>
     requires { IsSound registry.now }
-    ensures { IfOk result (λ e. effect_of e ≡ return_effect registry.now (running_of running.entry) (option_map expression_of back.now)) }
+    ensures { IfOk result (λ e. effect_of e ≡ return_effect registry.now (running_of running.now) (option_map expression_of back.now)) }
 {
     let Some(back) = back else {
         return returns_value(alloc, registry, running, Value::Void);
@@ -220,10 +220,10 @@ pub(crate) fn return_effect(
 pub(crate) fn returns_value(
     alloc: Global,
     registry: &Registry,
-    running: Running,
+    running: &Running,
     value: Value,
 ) -> Result<Effect, NoMemory>
-    ensures { IfOk result (λ e. effect_of e ≡ returns_value registry.now (running_of running.entry) (plain_of value)) }
+    ensures { IfOk result (λ e. effect_of e ≡ returns_value registry.now (running_of running.now) (plain_of value)) }
 {
     let Ok(outs) = out_values(alloc, &running.function, running.scene.variables.as_slice()) else {
         drop(value);
@@ -237,12 +237,12 @@ pub(crate) fn returns_value(
 fn raise_effect(
     alloc: Global,
     registry: &Registry,
-    running: Running,
+    running: &Running,
     name: &Name,
     value: &Expression,
 ) -> Result<Effect, NoMemory>
     requires { IsSound registry.now }
-    ensures { IfOk result (λ e. effect_of e ≡ raise_effect registry.now (running_of running.entry) name.now (expression_of value.now)) }
+    ensures { IfOk result (λ e. effect_of e ≡ raise_effect registry.now (running_of running.now) name.now (expression_of value.now)) }
 {
     match evaluated(alloc, registry, running.scene, value)? {
         Ok(value) => raises(alloc, registry, running, name.as_str(), value),
@@ -255,10 +255,10 @@ fn raise_effect(
 pub(crate) fn default_effect(
     alloc: Global,
     registry: &Registry,
-    running: Running,
+    running: &Running,
 ) -> Result<Effect, NoMemory>
     requires { IsSound registry.now }
-    ensures { IfOk result (λ e. effect_of e ≡ default_effect registry.now (running_of running.entry)) }
+    ensures { IfOk result (λ e. effect_of e ≡ default_effect registry.now (running_of running.now)) }
 {
     let outs = default_outs(alloc, registry, &running.function)?;
     let Ok(value) = default_result(alloc, registry, &running.function) else {

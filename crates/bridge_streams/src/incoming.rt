@@ -93,7 +93,8 @@ impl Incoming {
         match next_message(self.alloc, &mut self.listener, registry, stacks, body) {
             Ok(read) => Ok(read),
             Err(refusal) => {
-                self.forget();
+                self.blocks = Blocks::new(self.alloc);
+                self.listener = None;
                 Err(refusal)
             }
         }
@@ -140,7 +141,7 @@ fn taken(blocks: &mut Blocks, count: usize) -> Taken
     }
 }
 
-/// The first message of a body. The listener stays where it is read.
+/// The first message of a body. The listener stays where it is, and where there is none a new one is put there.
 fn next_message(
     alloc: Global,
     listener: &mut Option<Listener>,
@@ -153,24 +154,33 @@ fn next_message(
     ensures gives { GivesOr Refuses (λ x. (message_of x.0, heard_by listener.new, drop x.1 body.now)) result
         (message_at registry.now (waits_of stacks.now) (heard_by listener.old) body.now) }
     ensures within { IfOk result (λ x. x.1 ≤ length body.now) }
-    ensures refuses_nothing { RefusedNothing listener.new }
+    ensures refuses_nothing { OnOk result (RefusedNothing listener.new) }
 {
-    let Ok(mut hearing) = hearing(alloc, listener) else {
+    match listener {
+        Some(hearing) => hearing.read(registry, body, &Waiting { stacks }),
+        None => first_message(alloc, listener, registry, stacks, body),
+    }
+}
+
+/// The same where there is no listener.
+fn first_message(
+    alloc: Global,
+    listener: &mut Option<Listener>,
+    registry: &Registry,
+    stacks: &Stacks,
+    body: &[u8],
+) -> Result<(Message, usize), ReadError>
+    requires sound { IsSound registry.now }
+    requires none { listener.old ≡ None }
+    ensures gives { GivesOr Refuses (λ x. (message_of x.0, heard_by listener.new, drop x.1 body.now)) result
+        (message_at registry.now (waits_of stacks.now) (heard_by listener.old) body.now) }
+    ensures within { IfOk result (λ x. x.1 ≤ length body.now) }
+    ensures refuses_nothing { OnOk result (RefusedNothing listener.new) }
+{
+    let Ok(mut hearing) = Listener::new(alloc) else {
         return Err(ReadError::NoMemory);
     };
     let read = hearing.read(registry, body, &Waiting { stacks })?;
     *listener = Some(hearing);
     Ok(read)
-}
-
-/// Takes the listener out, or makes a new one where there is none.
-fn hearing(alloc: Global, listener: &mut Option<Listener>) -> Result<Listener, NoMemory>
-    requires { RefusedNothing listener.old }
-    ensures heard { IfOk result (λ l. l ≡ record { heard = heard_by listener.old; refusal = None }) }
-    ensures gone { listener.new ≡ None }
-{
-    match listener.take() {
-        Some(hearing) => Ok(hearing),
-        None => Listener::new(alloc),
-    }
 }

@@ -1,5 +1,5 @@
 //! What goes out: the bytes that are spelled and not drained, and what is remembered of the messages that were spelled.
-ghost use Rattle.std.specs.Prelude.{◌≡◌, List, length, take, IfOk, OnOk, OnErr};
+ghost use Rattle.std.specs.Prelude.{◌≡◌, List, None, length, take, IfOk, OnOk, OnErr};
 ghost use Rattle.bridge_model.specs.Answers.{is_some_piece};
 ghost use Rattle.bridge_model.specs.Going.{spells, spells_for};
 ghost use Rattle.bridge_model.specs.Sides.{nothing_goes};
@@ -145,7 +145,7 @@ impl Outgoing {
         ensures { OnOk result (self.new ≡ spells registry.now (message_of message.now) self.old) }
     {
         let block = write(self.alloc, &mut self.speaker, registry, message)?;
-        self.ready.push(block.as_slice())?;
+        self.ready.push(block)?;
         Ok(())
     }
 }
@@ -164,11 +164,25 @@ fn write(
 {
     match speaker {
         Some(speaking) => speaking.write(registry, message),
-        None => {
-            let mut speaking = Speaker::new(alloc)?;
-            let block = speaking.write(registry, message)?;
-            *speaker = Some(speaking);
-            Ok(block)
-        }
+        None => write_first(alloc, speaker, registry, message),
     }
+}
+
+/// The same where there is no speaker: a new one is put there.
+fn write_first(
+    alloc: Global,
+    speaker: &mut Option<Speaker>,
+    registry: &Registry,
+    message: &Message,
+) -> Result<Vec<u8>, NoMemory>
+    requires sound { IsSound registry.now }
+    requires sayable { IsSayable registry.now (message_of message.now) }
+    requires none { speaker.old ≡ None }
+    ensures block { IfOk result (λ block. block.items ≡ spell_block 1 (message_spelling registry.now (message_of message.now) (spoken_by speaker.old))) }
+    ensures after { OnOk result (spoken_by speaker.new ≡ after_message registry.now (message_of message.now) (spoken_by speaker.old)) }
+{
+    let mut speaking = Speaker::new(alloc)?;
+    let block = speaking.write(registry, message)?;
+    *speaker = Some(speaking);
+    Ok(block)
 }

@@ -3,6 +3,7 @@ ghost use Rattle.std.specs.Prelude.{◌≡◌, ◌≤◌, [], ◌++◌, length, 
 
 use std::alloc::Global;
 use std::marker::Model;
+use std::mem;
 use uno_base::NoMemory;
 
 /// Bytes that go in at the back and out at the front. Those that went out stand in front of the others until as many went out as are left:
@@ -44,8 +45,32 @@ impl Ready {
         self.bytes.len() - self.front
     }
 
-    /// Puts bytes behind the others.
-    pub(crate) fn push(&mut self, block: &[u8]) -> Result<(), NoMemory>
+    /// Puts a block behind the others. Where there is no other it stays where it is.
+    pub(crate) fn push(&mut self, block: Vec<u8>) -> Result<(), NoMemory>
+        ensures { OnOk result (self.new ≡ self.old ++ block.items) }
+    {
+        if self.len() > 0 {
+            return self.push_copy(&block);
+        }
+        self.bytes = block;
+        self.front = 0;
+        Ok(())
+    }
+
+    /// Takes so many bytes from the front. All of them, where none went out before, stay where they are.
+    pub(crate) fn take(&mut self, count: usize) -> Result<Vec<u8>, NoMemory>
+        requires { count ≤ length self.old }
+        ensures taken { IfOk result (λ bytes. bytes.items ≡ take count self.old) }
+        ensures left { OnOk result (self.new ≡ drop count self.old) }
+    {
+        if self.front == 0 && count == self.bytes.len() {
+            return Ok(mem::replace(&mut self.bytes, Vec::new(self.alloc)));
+        }
+        self.take_copy(count)
+    }
+
+    /// Puts a copy of bytes behind the others.
+    fn push_copy(&mut self, block: &[u8]) -> Result<(), NoMemory>
         ensures { OnOk result (self.new ≡ self.old ++ block.now) }
     {
         if self.front >= self.bytes.len() - self.front {
@@ -55,8 +80,8 @@ impl Ready {
         Ok(())
     }
 
-    /// Takes so many bytes from the front.
-    pub(crate) fn take(&mut self, count: usize) -> Result<Vec<u8>, NoMemory>
+    /// Takes a copy of so many bytes from the front.
+    fn take_copy(&mut self, count: usize) -> Result<Vec<u8>, NoMemory>
         requires { count ≤ length self.old }
         ensures taken { IfOk result (λ bytes. bytes.items ≡ take count self.old) }
         ensures left { OnOk result (self.new ≡ drop count self.old) }

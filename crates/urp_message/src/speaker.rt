@@ -123,9 +123,18 @@ fn write_block(
     ensures after { OnOk result (spoken_of spoken.new ≡ after_message registry.now (message_of message.now) (spoken_of spoken.old)) }
     ensures carried { OnOk result (MessageSpellable (message_of message.now)) }
 {
-    let mut block = Vec::from_slice(alloc, NO_SIZE_ONE_MESSAGE)?;
+    let mut block = begun(alloc)?;
     put_message(alloc, registry, message, spoken, &mut block)?;
     put_size(&mut block);
+    Ok(block)
+}
+
+/// A block that has only its header, with room for a short body.
+fn begun(alloc: Global) -> Result<Vec<u8>, NoMemory>
+    ensures items { IfOk result (λ block. block.items ≡ 0 ∷ 0 ∷ 0 ∷ 0 ∷ 0 ∷ 0 ∷ 0 ∷ 1 ∷ []) }
+{
+    let mut block = Vec::with_capacity(alloc, FIRST_ROOM)?;
+    block.extend_from_slice(NO_SIZE_ONE_MESSAGE)?;
     Ok(block)
 }
 
@@ -144,3 +153,6 @@ fn put_size(block: &mut [u8])
 
 /// How many bytes stand in front of a block's body.
 const HEADER_SIZE: usize = 8;
+
+/// For how many bytes a block has room before it grows. A request or a reply with a few small values takes fewer.
+const FIRST_ROOM: usize = 64;

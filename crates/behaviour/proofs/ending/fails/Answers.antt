@@ -11,4 +11,4 @@ use Rattle.behaviour.proofs.ending.fails.Goals as goal
 pub returns : goal.returns
 returns c =
     given_too c.raises.result effect_of _ _
-    (ap (λ x. ends_with c.args.registry.now (running_of c.args.running) (raised (kd.exception runtime_exception_name) x)) c.in_ok-caused_value.ensures) c.raises.ensures
+    (ap (λ x. ends_with c.args.registry.now (running_of c.args.running.now) (raised (kd.exception runtime_exception_name) x)) c.in_ok-caused_value.ensures) c.raises.ensures
