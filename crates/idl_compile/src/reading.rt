@@ -40,7 +40,16 @@ fn tree_of(alloc: Global, number: u32, text: &[u8]) -> Result<Tree, CompileError
     ensures read { IfOk result (λ tree. IsRead number text.now (plain.tree_of tree)) }
     ensures refused { IfErr result (λ e. Tells e (IsUnread number text.now)) }
 {
+    keep_room(alloc, text.len());
     let tokens = lex(alloc, number, text)?;
     let tree = parse(alloc, tokens.as_slice())?;
     Ok(tree)
+}
+
+/// Asks for as much memory as the tokens of so many bytes have as a rule, and lets it go. An allocator that takes large blocks from the system
+/// one by one, and gives them back, may learn from it to keep them: what comes behind the tokens then stands where they stood.
+fn keep_room(alloc: Global, bytes: usize) {
+    if let Ok(room) = Vec::<u64>::with_capacity(alloc, bytes) {
+        drop(room);
+    }
 }

@@ -1,6 +1,7 @@
 -- The longest mark at the front of a text.
 use Rattle.std.proofs.Common.{◌≡◌, ℕ, zero, suc, ◌<◌, Bool, true, false, ◌==◌, ◌&&◌, List, [], ◌∷◌, ◌++◌, length, take, drop, None, Some, IsTrue, codes}
 use Rattle.std.proofs.Common.{◌⊎◌, inl, inr, refl, sym, ap, subst, ◌∙◌, arith}
+use Rattle.std.proofs.lemmas.Bool.{eqb-true, ne_eqb}
 use Rattle.std.proofs.lemmas.List.{take-append-drop}
 use Rattle.std.proofs.lemmas.Slice.Eq.{bytes_eq-Decides}
 use Rattle.std.specs.List.{list_all, list_any}
@@ -138,6 +139,36 @@ none_found text c cs is three two single =
     let colons : bytes_eq (take 2 (c ∷ cs)) (codes "::") ≡ false = subst (λ x. bytes_eq (take 2 x) (codes "::") ≡ false) is two in
     let all : IsLongestMark (c ∷ cs) 0 = record { found = none_here c cs dots colons single_is; within = omega arith; formed = none_formed } in
     subst (λ x. IsLongestMark x 0) (sym is) all
+
+-- a text that begins with `:`
+pub at_colon : (text : List ℕ) (c : ℕ) (cs : List ℕ) → text ≡ c ∷ cs → c ≡ 58 → text ≡ 58 ∷ drop 1 text
+at_colon text c cs is colon = subst (λ x. x ≡ 58 ∷ drop 1 x) (sym (is ∙ ap (λ b. b ∷ cs) colon)) refl
+
+pub colon_alone : (text : List ℕ) → text ≡ 58 ∷ drop 1 text → bytes_eq (take 2 text) (codes "::") ≡ false → IsLongestMark text 1
+unfolding is_single
+colon_alone text is two = one_found text 58 (drop 1 text) is (subst (λ x. bytes_eq (take 3 x) (codes "...") ≡ false) (sym is) refl) two refl
+
+-- a mark of one byte that is no `:`
+no_colons : (text : List ℕ) (c : ℕ) (cs : List ℕ) → text ≡ c ∷ cs → ¬ (c ≡ 58) → bytes_eq (take 2 text) (codes "::") ≡ false
+no_colons text c cs is other = subst (λ x. bytes_eq (take 2 x) (codes "::") ≡ false) (sym is) (rw (ne_eqb c 58 other) refl)
+
+dot_is_none : is_single 46 ≡ false
+unfolding is_single
+dot_is_none = refl
+
+no_dots : (text : List ℕ) (c : ℕ) (cs : List ℕ) → text ≡ c ∷ cs → is_single c ≡ true → bytes_eq (take 3 text) (codes "...") ≡ false
+no_dots text c cs is single = subst (λ x. bytes_eq (take 3 x) (codes "...") ≡ false) (sym is) (by_test (c == 46) refl)
+  where
+    by_test : (b : Bool) → (c == 46) ≡ b → bytes_eq (take 3 (c ∷ cs)) (codes "...") ≡ false
+    by_test false e = rw e refl
+    by_test true e = let bad : true ≡ false = sym single ∙ (ap is_single (eqb-true c 46 e) ∙ dot_is_none) in absurd cc
+
+pub single_found : (text : List ℕ) (c : ℕ) (cs : List ℕ) → text ≡ c ∷ cs → ¬ (c ≡ 58) → is_single c ≡ true → IsLongestMark text 1
+single_found text c cs is other single = one_found text c cs is (no_dots text c cs is single) (no_colons text c cs is other) single
+
+pub no_longest : (text : List ℕ) (c : ℕ) (cs : List ℕ) → text ≡ c ∷ cs → ¬ (c ≡ 58) → is_single c ≡ false → bytes_eq (take 3 text) (codes "...") ≡ false
+    → IsLongestMark text 0
+no_longest text c cs is other single three = none_found text c cs is three (no_colons text c cs is other) single
 
 -- ---- the mark as a piece
 

@@ -160,21 +160,18 @@ fn word_named(alloc: Global, word: &str) -> Result<Word, NoMemory>
 
 /// The slot of a word: by how many bytes it has, and some of them.
 fn word_slot(spelled: &[u8]) -> usize {
-    let length = spelled.len();
-    let bytes = [
-        byte_at(spelled, 0),
-        byte_at(spelled, length.saturating_sub(3)),
-        byte_at(spelled, length.saturating_sub(2)),
-        byte_at(spelled, length.saturating_sub(1)),
-    ];
-    let mixed = u32::from_le_bytes(bytes) ^ ((length % 256) as u32).wrapping_mul(PRIME);
+    let length = (spelled.len() % 256) as u32;
+    let mixed = u32::from_le_bytes(ends(spelled)) ^ length.wrapping_mul(PRIME);
     (mixed.wrapping_mul(MIX) >> WORD_SHIFT) as usize + MARKS
 }
 
-fn byte_at(bytes: &[u8], place: usize) -> u8 {
-    match bytes.get(place) {
-        Some(byte) => *byte,
-        None => 0,
+/// The first byte and the last ones.
+fn ends(spelled: &[u8]) -> [u8; 4] {
+    match spelled {
+        [first, .., third, second, last] => [*first, *third, *second, *last],
+        [first, .., last] => [*first, 0, 0, *last],
+        [only] => [*only, 0, 0, 0],
+        [] => [0, 0, 0, 0],
     }
 }
 

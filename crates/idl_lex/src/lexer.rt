@@ -15,6 +15,9 @@ use idl_trees::Word;
 use std::alloc::Global;
 use uno_base::NoMemory;
 
+/// A file has so many bytes to a token as a rule, or more.
+const USUAL_BYTES: usize = 4;
+
 /// All tokens of a file that is UTF-8 and not too long.
 pub(crate) fn tokens(
     alloc: Global,
@@ -27,7 +30,7 @@ pub(crate) fn tokens(
     ensures tokens { IfOk result (λ tokens. AreLexed file text.now (tokens_of tokens.items)) }
     ensures refused { IfErr result (λ e. IsRefused file text.now e) }
 {
-    let mut tokens = Vec::new(alloc);
+    let mut tokens = room(alloc, text.len())?;
     let mut left = behind_line_start(text);
     while !left.is_empty() {
         let found = piece(alloc, guesses, tokens.as_slice(), left)?;
@@ -42,6 +45,14 @@ pub(crate) fn tokens(
         add_word(&mut tokens, word, place, length)?;
         left = behind;
     }
+    Ok(tokens)
+}
+
+/// No tokens, and room for those that so many bytes have as a rule.
+fn room(alloc: Global, bytes: usize) -> Result<Vec<Token>, NoMemory>
+    ensures { IfOk result (λ tokens. tokens.items ≡ []) }
+{
+    let tokens = Vec::with_capacity(alloc, bytes / USUAL_BYTES)?;
     Ok(tokens)
 }
 

@@ -1,5 +1,5 @@
 //! The pieces of a file: white space, directives, comments and words.
-ghost use Rattle.std.specs.Prelude.{◌≡◌, ◌≤◌, None, Some, drop, length, option_map, IfOk, IsTrue};
+ghost use Rattle.std.specs.Prelude.{◌≡◌, ◌≤◌, ◌∷◌, None, Some, drop, length, option_map, IfOk, IsTrue};
 ghost use Rattle.std.specs.List.{list_all};
 ghost use Rattle.idl_text_model.specs.Numbers.{number_of_word};
 ghost use Rattle.idl_text_model.specs.Pieces.{is_in_line};
@@ -163,26 +163,40 @@ fn mark<'t>(
 fn mark_length(text: &[u8]) -> usize
     ensures { IsLongestMark text.now result }
 {
-    if begins(text, b"...") {
-        return 3;
-    }
-    if begins(text, b"::") {
-        return 2;
-    }
     let Some((first, _)) = text.split_first() else {
         return 0;
     };
+    if *first == b':' {
+        return colons(text);
+    }
     if is_single_mark(*first) {
         return 1;
+    }
+    if begins(text, b"...") {
+        return 3;
     }
     0
 }
 
-const SINGLE_MARKS: &[u8] = b"{}()[]<>:;,=+-*/%~&|^";
+/// How many bytes the mark has that begins with `:`.
+fn colons(text: &[u8]) -> usize
+    requires { text.now ≡ 58 ∷ drop 1 text.now }
+    ensures { IsLongestMark text.now result }
+{
+    if begins(text, b"::") {
+        return 2;
+    }
+    1
+}
 
 #[tactic(auto, unfolding(crate::specs::Lexing::is_single))]
 fn is_single_mark(byte: u8) -> bool
     ensures { result ≡ is_single byte }
 {
-    SINGLE_MARKS.iter().any(|mark| byte == *mark)
+    match byte {
+        b'%' | b'&' | b'(' | b')' | b'*' | b'+' | b',' | b'-' | b'/' => true,
+        b':' | b';' | b'<' | b'=' | b'>' | b'[' | b']' | b'^' => true,
+        b'{' | b'|' | b'}' | b'~' => true,
+        _ => false,
+    }
 }

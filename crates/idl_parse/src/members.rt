@@ -19,7 +19,7 @@ impl Rule for Fields {
     #[tactic(auto, unfolding(idl_model::specs::GrammarReading::fields))]
     fn read(parser: &mut Parser<'_>) -> Result<Fields, Stop> {
         let kind = parser.written_type()?;
-        let names = parser.separated()?;
+        let names = parser.separated(1)?;
         parser.mark(";")?;
         Ok(Fields { kind, names })
     }

@@ -91,7 +91,7 @@ impl<'t> Parser<'t> {
     {
         self.keyword("raises")?;
         self.mark("(")?;
-        let paths = self.separated()?;
+        let paths = self.separated(1)?;
         self.mark(")")?;
         Ok(paths)
     }

@@ -13,6 +13,9 @@ use crate::parser::Parser;
 use crate::stop::Stop;
 use idl_trees::{Id, Path};
 
+/// How many parameters most methods do not go beyond.
+const USUAL_PARAMETERS: usize = 3;
+
 /// A rule of the grammar that stands in lists: the plain tree of what it reads, and how it is read.
 pub(crate) trait Rule: Drop {
     ghost Plain: { Type 0 };
@@ -61,18 +64,18 @@ impl<'t> Parser<'t> {
             self.mark(")")?;
             return Ok(Vec::new(self.alloc));
         }
-        let all = self.separated()?;
+        let all = self.separated(USUAL_PARAMETERS)?;
         self.mark(")")?;
         Ok(all)
     }
 
-    /// R { "," R }
-    pub(crate) fn separated<R: Rule>(&mut self) -> Result<Vec<R>, Stop>
+    /// R { "," R }, with room for so many at first
+    pub(crate) fn separated<R: Rule>(&mut self, room: usize) -> Result<Vec<R>, Stop>
         ensures gives { Gives (λ all. map R.plain all.items) result self.new (separated (is_mark (codes ",")) R.reads (mark (codes ",")) self.old) }
         ensures shorter { OnOk result (length self.new < length self.old) }
     {
+        let mut all = Vec::with_capacity(self.alloc, room)?;
         let first = R::read(self)?;
-        let mut all = Vec::new(self.alloc);
         all.push(first)?;
         self.others(&mut all)?;
         Ok(all)

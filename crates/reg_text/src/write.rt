@@ -24,6 +24,9 @@ const BUILT_IN: [&str; 5] = [
     "com.sun.star.uno.XInterface",
 ];
 
+/// So many bytes are as a rule enough for the lines of an entity.
+const USUAL_ROOM: usize = 384;
+
 fn is_among(name: &str, words: &[&str]) -> bool
     ensures { result ≡ list_any (λ word. bytes_eq name.now word.now) words.now }
 {
@@ -191,8 +194,9 @@ fn push_entities(alloc: Global, text: &mut Vec<u8>, entities: &[Entity]) -> Resu
 pub fn write_registry(alloc: Global, registry: &Registry) -> Result<Vec<u8>, NoMemory>
     ensures { IfOk result (λ text. text.items ≡ registry_text registry.now) }
 {
-    let mut text = Vec::new(alloc);
+    let entities = registry.entities();
+    let mut text = Vec::with_capacity(alloc, entities.len().saturating_mul(USUAL_ROOM))?;
     push_last(&mut text, "unoreg 1")?;
-    push_entities(alloc, &mut text, registry.entities())?;
+    push_entities(alloc, &mut text, entities)?;
     Ok(text)
 }

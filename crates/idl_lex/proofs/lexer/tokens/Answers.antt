@@ -5,7 +5,7 @@ use Rattle.idl_lex.proofs.lexer.tokens.Goals as goal
 
 pub loop-left-init : goal.loop-left-init
 loop-left-init c =
-    lexing_starts c.args.file c.args.text.now c.behind_line_start-left.result.now (tokens_of c.new-tokens.result.items) (ap tokens_of c.new-tokens.ensures.items)
+    lexing_starts c.args.file c.args.text.now c.behind_line_start-left.result.now (tokens_of c.in_ok-tokens.tokens.items) (ap tokens_of c.in_ok-tokens.ensures)
     c.behind_line_start-left.ensures
 
 pub returns-in_default-clause-refused : goal.returns-in_default-clause-refused
