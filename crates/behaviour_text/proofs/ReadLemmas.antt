@@ -13,10 +13,10 @@ use Rattle.plan_reading_model.specs.TextReading.{comes, wrong}
 use Rattle.plan_model.specs.Forms.{is_line}
 use Rattle.plan_reading_model.proofs.LineLaws.{line_back}
 use Rattle.uno_model.specs.Entities.{Entity}
-use Rattle.behaviour_text.specs.Checks.{WrongBy}
+use Rattle.behaviour_text.specs.Reasons.{WrongBy}
 use Rattle.behaviour_text.specs.Reading.{Reads}
-use Rattle.behaviour_text.specs.declared.line_error.LineError.{LineError}
-use Rattle.behaviour_text.specs.declared.line_error.LineError.TheVariants as error
+use Rattle.plan_checks.specs.declared.line_error.LineError.{LineError}
+use Rattle.plan_checks.specs.declared.line_error.LineError.TheVariants as error
 use Rattle.plan_types.specs.declared.plan.Plan as rust
 use Rattle.behaviour_text.specs.declared.error.PlanError.{PlanError}
 

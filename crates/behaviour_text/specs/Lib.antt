@@ -1,15 +1,5 @@
-pub mod Called
-pub mod Checks
-pub mod Constructors
-pub mod Contexts
-pub mod Fits
-pub mod Indexes
-pub mod Lent
-pub mod LentBehaviours
 pub mod Nesting
-pub mod Parts
-pub mod Pieces
 pub mod Reading
+pub mod Reasons
+pub mod RootPieces
 pub mod Steps
-pub mod Typed
-pub mod Variables

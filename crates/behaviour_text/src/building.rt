@@ -13,15 +13,13 @@ ghost use Rattle.type_registry.specs.Functions.{function_of, lent_function};
 ghost use Rattle.uno_entities.specs.Entities.{field_of, param_of};
 ghost use Rattle.uno_entities.specs.TypeNames.{kind_of};
 ghost use Rattle.plan_lines.specs.Lines.{declared_of};
-ghost use Rattle.behaviour_text.specs.Contexts.{block_of, context_of, open_of};
+ghost use Rattle.plan_checks.specs.Contexts.{block_of, context_of, open_of};
 ghost use Rattle.behaviour_text.specs.Steps.{block_with_field, entered, with_behaviour, with_method, with_thread};
-ghost use Rattle.behaviour_text.specs.Variables.{scoped_of};
+ghost use Rattle.plan_checks.specs.Variables.{scoped_of};
 
-use crate::context::{Block, Context, OpenBehaviour, OpenMethod};
-use crate::fields::Fields;
-use crate::functions::declared_function;
-use crate::kinds::type_named;
-use crate::scope::{Scope, Scoped};
+use plan_checks::{
+    Block, Context, Fields, OpenBehaviour, OpenMethod, Scope, Scoped, declared_function, type_named,
+};
 use plan_lines::Declared;
 use plan_types::{Behaviour, Method, Offer, RootStatement};
 use std::alloc::Global;
@@ -29,7 +27,7 @@ use std::mem;
 use type_registry::Function;
 use uno_base::NoMemory;
 use uno_entities::copy_names;
-use uno_types::{Field, Name, Param, Registry, Way};
+use uno_types::{Field, Name, Param, Registry, TypeName, Way};
 
 /// The block of a behaviour begins.
 pub(crate) fn open_behaviour(
@@ -41,8 +39,23 @@ pub(crate) fn open_behaviour(
     ensures { OnOk result (context_of context.new ≡ opens_behaviour name.now faces.now (context_of context.old)) }
 {
     let behaviour = behaviour_of(alloc, name, faces)?;
-    context.block = Block::Behaviour(behaviour);
+    set_block(context, Block::Behaviour(behaviour));
     Ok(())
+}
+
+/// Another block is open from here on.
+fn set_block(context: &mut Context, block: Block)
+    ensures { context_of context.new ≡ record (context_of context.old) { block = block_of block } }
+{
+    context.block = block;
+}
+
+/// The same, with other variables.
+fn begin(context: &mut Context, block: Block, variables: Scope)
+    ensures { context_of context.new ≡ record (context_of context.old) { block = block_of block; variables = variables } }
+{
+    set_block(context, block);
+    context.variables = variables;
 }
 
 /// A behaviour of which nothing else is read.
@@ -69,11 +82,17 @@ pub(crate) fn add_field(
     requires { IsSound registry.now }
     ensures { OnOk result (context_of context.new ≡ with_field (context_of context.old).block declared.now.name (type_of_text registry.now declared.now.kind) (context_of context.old)) }
 {
-    let name = declared.name.copy()?;
     match type_named(alloc, registry, &declared.kind)? {
-        Some(kind) => push_field(alloc, &mut context.block, Field { name, kind }),
+        Some(kind) => push_named(alloc, &mut context.block, &declared.name, kind),
         None => Ok(()),
     }
+}
+
+fn push_named(alloc: Global, block: &mut Block, name: &Name, kind: TypeName) -> Result<(), NoMemory>
+    ensures { OnOk result (block_of block.new ≡ block_with_field (record { name = name.now; kind = kind_of kind }) (block_of block.old)) }
+{
+    let name = name.copy()?;
+    push_field(alloc, block, Field { name, kind })
 }
 
 fn push_field(alloc: Global, block: &mut Block, field: Field) -> Result<(), NoMemory>
@@ -171,15 +190,8 @@ fn enter(context: &mut Context, opened: OpenMethod, variables: Scope)
     ensures { context_of context.new ≡ entered (method_of opened.method) (function_of opened.function) variables (context_of context.old) }
 {
     match mem::replace(&mut context.block, Block::Top) {
-        Block::Behaviour(behaviour) => {
-            context.block = Block::Method(behaviour, opened);
-            context.variables = variables;
-        }
-        other => {
-            context.block = other;
-            drop(opened);
-            drop(variables);
-        }
+        Block::Behaviour(behaviour) => begin(context, Block::Method(behaviour, opened), variables),
+        other => set_block(context, other),
     }
 }
 
@@ -187,8 +199,7 @@ fn enter(context: &mut Context, opened: OpenMethod, variables: Scope)
 pub(crate) fn open_thread(alloc: Global, context: &mut Context)
     ensures { context_of context.new ≡ record (context_of context.old) { block = in_thread []; variables = [] } }
 {
-    context.block = Block::Thread(Vec::new(alloc));
-    context.variables = Scope::new(alloc);
+    begin(context, Block::Thread(Vec::new(alloc)), Scope::new(alloc));
 }
 
 /// The open block ends.
@@ -238,8 +249,7 @@ fn close_method(
     let OpenMethod { method, function } = opened;
     drop(function);
     let behaviour = with_method(behaviour, method)?;
-    context.block = Block::Behaviour(behaviour);
-    context.variables = Scope::new(alloc);
+    begin(context, Block::Behaviour(behaviour), Scope::new(alloc));
     Ok(())
 }
 

@@ -5,13 +5,12 @@ ghost use Rattle.plan_model.specs.Limits.{is_flat, is_back_flat, terms_are_flat,
 ghost use Rattle.plan_model.specs.Contexts.{behaviours_before};
 ghost use Rattle.plan_lines.specs.Lines.{line_of};
 ghost use Rattle.plan_lines.specs.Terms.{term_of};
-ghost use Rattle.behaviour_text.specs.Contexts.{block_of, context_of};
+ghost use Rattle.plan_checks.specs.Contexts.{block_of, context_of};
 
 mod nesting;
 
-use crate::behaviours::open_behaviour;
-use crate::context::{Block, Context};
 use nesting::{Levels, levels_of};
+use plan_checks::{Block, Context, open_behaviour};
 use plan_lines::{Line, Term};
 use std::alloc::Global;
 use uno_base::NoMemory;

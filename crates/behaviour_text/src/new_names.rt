@@ -7,10 +7,9 @@ ghost use Rattle.plan_model.specs.Plans.{manager_name, has_offers};
 ghost use Rattle.uno_model.specs.Sound.{all_differ, is_some_list};
 ghost use Rattle.plan_types.specs.Plans.{export_of, method_of, offer_of, plan_of};
 ghost use Rattle.plan_lines.specs.Lines.{declared_of, line_of};
-ghost use Rattle.behaviour_text.specs.Contexts.{block_of, context_of};
+ghost use Rattle.plan_checks.specs.Contexts.{block_of, context_of};
 
-use crate::behaviours::{is_behaviour_known, open_behaviour};
-use crate::context::Context;
+use plan_checks::{Context, is_behaviour_known, open_behaviour};
 use plan_lines::{Declared, Line};
 use plan_types::{Export, Method, Offer, Plan};
 use std::alloc::Global;

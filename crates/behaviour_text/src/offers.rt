@@ -3,11 +3,9 @@ ghost use Rattle.std.specs.Prelude.{◌≡◌, IfOk, OnOk};
 ghost use Rattle.plan_model.specs.Building.{with_service, with_singleton, with_export};
 ghost use Rattle.plan_model.specs.Contexts.{behaviour_number};
 ghost use Rattle.plan_types.specs.Plans.{offer_of, export_of};
-ghost use Rattle.behaviour_text.specs.Contexts.{context_of};
+ghost use Rattle.plan_checks.specs.Contexts.{context_of};
 
-use crate::behaviours::behaviour_number;
-use crate::context::Context;
-use crate::statements::number_of;
+use plan_checks::{Context, behaviour_number, number_of};
 use plan_types::{Export, Offer};
 use uno_base::NoMemory;
 use uno_types::{Name, Text};

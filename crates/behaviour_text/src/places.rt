@@ -9,11 +9,11 @@ ghost use Rattle.plan_types.specs.Statements.{statement_of};
 ghost use Rattle.plan_lines.specs.Lines.{line_of};
 ghost use Rattle.plan_lines.specs.Terms.{term_of, terms_of};
 ghost use Rattle.type_registry.specs.Functions.{function_of};
-ghost use Rattle.behaviour_text.specs.Contexts.{block_of};
+ghost use Rattle.plan_checks.specs.Contexts.{block_of};
 
 mod roots;
 
-use crate::context::{Block, OpenMethod};
+use plan_checks::{Block, OpenMethod};
 use plan_lines::{Line, Term};
 use plan_types::Statement;
 use roots::{are_root_arguments, is_root_word};

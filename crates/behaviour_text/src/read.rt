@@ -7,16 +7,14 @@ ghost use Rattle.plan_model.specs.declared.line_reason.LineReason.{LineReason};
 ghost use Rattle.uno_model.specs.Sound.{IsSound};
 ghost use Rattle.plan_reading_model.specs.TextReading.{comes};
 ghost use Rattle.plan_types.specs.Plans.{plan_of};
-ghost use Rattle.behaviour_text.specs.Contexts.{context_of};
+ghost use Rattle.plan_checks.specs.Contexts.{context_of};
 ghost use Rattle.behaviour_text.specs.Reading.{Reads, Stops};
 
 mod text;
 
 use crate::PlanError;
-use crate::context::{Block, Context};
-use crate::line_error::LineError;
-use crate::scope::Scope;
 use crate::step::step;
+use plan_checks::{Block, Context, LineError, Scope};
 use plan_lines::{Words, read_line};
 use plan_types::{LineReason, Plan};
 use std::alloc::Global;
@@ -50,15 +48,48 @@ fn read_lines(alloc: Global, registry: &Registry, bytes: &[u8]) -> Result<Plan, 
     ensures { Reads result (comes registry.now (1 + length (lines_of bytes.now)) opening (said_from 2 (lines_of bytes.now))) }
 {
     let words = Words::new(alloc, registry)?;
+    read_with(alloc, registry, &words, bytes)
+}
+
+/// The same, with what is looked up in each line.
+fn read_with(
+    alloc: Global,
+    registry: &Registry,
+    words: &Words<'_>,
+    bytes: &[u8],
+) -> Result<Plan, PlanError>
+    requires sound { IsSound registry.now }
+    requires same { words.now ≡ registry.now }
+    requires within { length bytes.now ≤ 4194304 }
+    ensures { Reads result (comes registry.now (1 + length (lines_of bytes.now)) opening (said_from 2 (lines_of bytes.now))) }
+{
     let mut context = opening(alloc);
+    let last = read_each(alloc, registry, words, &mut context, bytes)?;
+    at_end(last, context)
+}
+
+/// Reads each line, and gives the number of the last one.
+fn read_each(
+    alloc: Global,
+    registry: &Registry,
+    words: &Words<'_>,
+    context: &mut Context,
+    bytes: &[u8],
+) -> Result<u32, PlanError>
+    requires sound { IsSound registry.now }
+    requires same { words.now ≡ registry.now }
+    requires within { length bytes.now ≤ 4194304 }
+    ensures read { IfOk result (λ last. comes registry.now (1 + length (lines_of bytes.now)) (context_of context.old) (said_from 2 (lines_of bytes.now)) ≡ at_end last (context_of context.new)) }
+    ensures wrong { IfErr result (λ e. Stops e (comes registry.now (1 + length (lines_of bytes.now)) (context_of context.old) (said_from 2 (lines_of bytes.now)))) }
+{
     let mut rest = bytes;
     let mut number: u32 = 1;
     while let Some((line, behind)) = next_line(rest) {
         number += 1;
-        read_said(alloc, registry, &words, &mut context, number, line)?;
+        read_said(alloc, registry, words, context, number, line)?;
         rest = behind;
     }
-    at_end(number, context)
+    Ok(number)
 }
 
 /// The context in which nothing is read.

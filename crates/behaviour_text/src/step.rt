@@ -1,5 +1,5 @@
 //! A line behind those before it: the reason for which it is wrong, or what stands behind it.
-ghost use Rattle.std.specs.Prelude.{◌≡◌, false, true, is_some, Some, IsTrue, OnOk};
+ghost use Rattle.std.specs.Prelude.{◌≡◌, ◌∷◌, ◌++◌, [], false, true, is_some, map, Some, IsTrue, OnOk};
 ghost use Rattle.plan_model.specs.Building.{behind};
 ghost use Rattle.plan_model.specs.Fitting.{all_fits};
 ghost use Rattle.plan_model.specs.Forms.{is_line};
@@ -8,19 +8,17 @@ ghost use Rattle.plan_model.specs.TypedStatements as typed;
 ghost use Rattle.uno_model.specs.Sound.{IsSound};
 ghost use Rattle.plan_types.specs.Statements.{statement_of, root_statement_of};
 ghost use Rattle.plan_lines.specs.Lines.{line_of};
-ghost use Rattle.behaviour_text.specs.Checks.{Clears, before};
-ghost use Rattle.behaviour_text.specs.Contexts.{block_of, context_of};
-ghost use Rattle.behaviour_text.specs.Steps.{early_reason, late_reason, is_statement, is_thread, by_found, with_method_statement, with_thread_statement};
+ghost use Rattle.plan_checks.specs.Contexts.{block_of, context_of};
+ghost use Rattle.behaviour_text.specs.Reasons.{Clears};
+ghost use Rattle.behaviour_text.specs.Steps.{early_reason, late_reason, is_statement, is_thread, by_found, scoped_behind, with_method_statement, with_thread_statement};
 
 use crate::building::{add_field, close, open_behaviour, open_method, open_thread};
-use crate::checker::Checker;
-use crate::context::{Block, Context};
 use crate::limits::{plan_has_room, terms_are_flat};
-use crate::line_error::LineError;
 use crate::new_names::names_are_new;
 use crate::offers::{add_export, add_service, add_singleton};
 use crate::places::may_stand;
 use crate::variables::{scope_behind, scope_behind_root};
+use plan_checks::{Block, Checker, Context, LineError, Scope};
 use plan_lines::Line;
 use plan_types::{LineReason, RootStatement, Statement};
 use std::alloc::Global;
@@ -208,13 +206,28 @@ fn push_statement(
     ensures { OnOk result (context_of context.new ≡ with_method_statement (Some (statement_of statement)) (context_of context.old)) }
 {
     match &mut context.block {
-        Block::Method(_, opened) => {
-            scope_behind(alloc, &mut context.variables, &statement)?;
-            opened.method.body.push(statement)?;
-            Ok(())
-        }
+        Block::Method(_, opened) => push_behind(
+            alloc,
+            &mut context.variables,
+            &mut opened.method.body,
+            statement,
+        ),
         _ => Ok(()),
     }
+}
+
+fn push_behind(
+    alloc: Global,
+    variables: &mut Scope,
+    body: &mut Vec<Statement>,
+    statement: Statement,
+) -> Result<(), NoMemory>
+    ensures scoped { OnOk result (variables.new ≡ scoped_behind (statement_of statement) variables.old) }
+    ensures pushed { OnOk result (map statement_of body.new.items ≡ map statement_of body.old.items ++ statement_of statement ∷ []) }
+{
+    scope_behind(alloc, variables, &statement)?;
+    body.push(statement)?;
+    Ok(())
 }
 
 /// The other reasons of a statement of a root, and what stands behind it.

@@ -6,7 +6,7 @@ ghost use Rattle.uno_entities.specs.TypeNames.{kind_of};
 ghost use Rattle.uno_model.specs.Kinds as kd;
 ghost use Rattle.behaviour_text.specs.Steps.{scoped_more, scoped_less, scoped_result, scoped_behind, scoped_behind_root};
 
-use crate::scope::{Scope, Scoped};
+use plan_checks::{Scope, Scoped};
 use plan_types::{RootStatement, Statement};
 use std::alloc::Global;
 use uno_base::NoMemory;

@@ -5,7 +5,7 @@ ghost use Rattle.plan_model.specs.Forms.{is_root_word, is_root_term};
 ghost use Rattle.plan_types.specs.Expressions.{word_of};
 ghost use Rattle.plan_lines.specs.Pieces.{piece_of, pieces_of};
 ghost use Rattle.plan_lines.specs.Terms.{term_of};
-ghost use Rattle.behaviour_text.specs.Pieces.{is_root_piece};
+ghost use Rattle.behaviour_text.specs.RootPieces.{is_root_piece};
 
 use plan_lines::{Piece, Term};
 use plan_types::Word;

@@ -1,4 +1,4 @@
-use Rattle.behaviour_text.proofs.ParamLemmas.{param_next, param_end}
+use Rattle.behaviour_text.proofs.ParameterLemmas.{param_next, param_end}
 use Rattle.behaviour_text.proofs.building.parameters.Goals as goal
 
 pub loop-param-preserved : goal.loop-param-preserved

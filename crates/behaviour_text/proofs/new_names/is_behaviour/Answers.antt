@@ -2,8 +2,8 @@ use Rattle.std.proofs.Common.{◌∙◌}
 use Rattle.std.specs.Str.{bytes_eq}
 use Rattle.plan_model.specs.Contexts.{behaviours_before}
 use Rattle.plan_model.specs.Plans as plain
-use Rattle.behaviour_text.proofs.FindLemmas.{any_place}
-use Rattle.behaviour_text.specs.Contexts.{context_of}
+use Rattle.plan_checks.proofs.FindLemmas.{any_place}
+use Rattle.plan_checks.specs.Contexts.{context_of}
 use Rattle.behaviour_text.proofs.new_names.is_behaviour.Goals as goal
 
 pub returns : goal.returns

@@ -3,7 +3,7 @@ use Rattle.std.specs.Option.{option_map}
 use Rattle.plan_lines.specs.Lines.{line_of}
 use Rattle.plan_model.specs.PlanText.{said_from}
 use Rattle.behaviour_text.proofs.ReadLemmas.{skips, says, reads_none, reads_right, reads_wrong_by, well_formed, at_registry}
-use Rattle.behaviour_text.specs.Contexts.{context_of}
+use Rattle.plan_checks.specs.Contexts.{context_of}
 use Rattle.behaviour_text.proofs.read.read_said.Goals as goal
 
 pub returns-then-is_skipped-clause-on : goal.returns-then-is_skipped-clause-on

@@ -1,6 +1,6 @@
 use Rattle.std.proofs.Common.{sym}
 use Rattle.plan_lines.specs.Lines.{line_of}
-use Rattle.behaviour_text.specs.Contexts.{context_of}
+use Rattle.plan_checks.specs.Contexts.{context_of}
 use Rattle.behaviour_text.proofs.StepLemmas.{block_full, block_kept}
 use Rattle.behaviour_text.proofs.step.block_step.Goals as goal
 

@@ -1,7 +1,7 @@
 use Rattle.std.proofs.Common.{sym, ◌∙◌}
 use Rattle.plan_lines.specs.Lines.{line_of}
-use Rattle.behaviour_text.specs.Contexts.{context_of}
-use Rattle.behaviour_text.proofs.CheckLemmas.{clears_so, done_so}
+use Rattle.plan_checks.specs.Contexts.{context_of}
+use Rattle.behaviour_text.proofs.ReasonLemmas.{clears_so, done_so}
 use Rattle.behaviour_text.proofs.StepLemmas.{behind_in_method, behind_in_thread, late_in_method, late_in_thread, late_only}
 use Rattle.behaviour_text.proofs.step.step.Goals as goal
 

@@ -1,7 +1,7 @@
 use Rattle.std.proofs.Common.{ap, sym, ◌∙◌}
 use Rattle.std.specs.Prelude.{is_some}
 use Rattle.plan_lines.specs.Lines.{line_of}
-use Rattle.behaviour_text.specs.Contexts.{context_of}
+use Rattle.plan_checks.specs.Contexts.{context_of}
 use Rattle.behaviour_text.proofs.StepLemmas.{all_kept, no_room, too_deep}
 use Rattle.behaviour_text.proofs.step.thread_step.Goals as goal
 

@@ -1,4 +1,4 @@
-use Rattle.behaviour_text.specs.Pieces.{is_root_piece}
+use Rattle.behaviour_text.specs.RootPieces.{is_root_piece}
 use Rattle.plan_lines.specs.Pieces.{pieces_of}
 use Rattle.std.specs.List.{list_all}
 use Rattle.std.specs.Prelude.{drop, ◌≡◌}

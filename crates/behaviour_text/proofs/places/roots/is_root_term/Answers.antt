@@ -1,8 +1,9 @@
 use Rattle.std.proofs.Common.{ap, ◌∙◌}
 use Rattle.std.specs.List.{list_all}
 use Rattle.plan_lines.specs.Pieces.{pieces_of}
-use Rattle.behaviour_text.specs.Pieces.{is_root_piece}
-use Rattle.behaviour_text.proofs.PieceTests.{root_tests, term_passes}
+use Rattle.behaviour_text.specs.RootPieces.{is_root_piece}
+use Rattle.plan_checks.proofs.PieceTests.{term_passes}
+use Rattle.behaviour_text.proofs.RootTests.{root_tests}
 use Rattle.behaviour_text.proofs.places.roots.is_root_term.Goals as goal
 
 pub returns : goal.returns

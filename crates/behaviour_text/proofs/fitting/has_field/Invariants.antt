@@ -1,7 +1,0 @@
-use Rattle.behaviour_text.specs.Constructors.{is_among}
-use Rattle.std.specs.Prelude.{drop, map, ◌≡◌}
-use Rattle.uno_entities.specs.Entities.{field_of}
-use Rattle.behaviour_text.proofs.fitting.has_field.Given as goal
-
-abbrev pub invariant-loop-field : goal.invariant-loop-field
-invariant-loop-field l = is_among (map field_of (drop l.field-index l.fields)) (field_of l.param) ≡ is_among (map field_of l.fields) (field_of l.param)

@@ -1,6 +1,0 @@
-use Rattle.uno_model.specs.Kinds as kd
-use Rattle.behaviour_text.proofs.Truths.{other_told}
-use Rattle.behaviour_text.proofs.fitting.is_list_of_anys.Goals as goal
-
-pub returns : goal.returns
-returns c = other_told (kd.sequence kd.any) _ _ c.is_sequence_of_any.ensures

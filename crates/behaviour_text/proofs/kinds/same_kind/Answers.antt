@@ -1,5 +1,0 @@
-use Rattle.behaviour_text.proofs.Truths.{kind_told}
-use Rattle.behaviour_text.proofs.kinds.same_kind.Goals as goal
-
-pub returns : goal.returns
-returns c = kind_told _ _ _ c.is.ensures

@@ -1,6 +1,0 @@
-use Rattle.plan_types.specs.Expressions.{expression_of}
-use Rattle.behaviour_text.proofs.MakingLemmas.{elements_put}
-use Rattle.behaviour_text.proofs.typing.making.put_elements.Goals as goal
-
-pub returns : goal.returns
-returns c = elements_put expression_of c.args.made.now.items c.take_last.new.made.items _ c.in_ok-all.all.items _ _ _ c.in_ok-all.ensures.all c.in_ok-all.ensures.rest c.in_ok-sequence.ensures c.in_ok-push.ensures.items

@@ -1,0 +1,13 @@
+pub mod CalledLaws
+pub mod CheckLemmas
+pub mod FindLemmas
+pub mod FitLemmas
+pub mod FunctionLemmas
+pub mod HoldingLemmas
+pub mod IndexLemmas
+pub mod MakingLemmas
+pub mod ParamLemmas
+pub mod PartLemmas
+pub mod PieceTests
+pub mod ScopeLemmas
+pub mod Truths

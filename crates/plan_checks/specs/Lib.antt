@@ -1,0 +1,12 @@
+pub mod Called
+pub mod Checks
+pub mod Constructors
+pub mod Contexts
+pub mod Fits
+pub mod Indexes
+pub mod Lent
+pub mod LentBehaviours
+pub mod Parts
+pub mod Pieces
+pub mod Typed
+pub mod Variables
