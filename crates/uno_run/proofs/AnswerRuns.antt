@@ -5,6 +5,7 @@ use Rattle.bridge_model.specs.Settings.{Setting}
 use Rattle.command_words.specs.Names.{Text}
 use Rattle.uno_run.specs.Answer.{AnswerRun, EndsAnswering, EndsServing, FilesServed, HasServed, IsIdle, IsOf, IsOfFiles, OwnRun, Served}
 use Rattle.uno_run.specs.Lines.{has_own_line}
+use Rattle.uno_run.specs.Plans.{NoOwnEnd}
 use Rattle.uno_run.specs.Serving.{ServedOrNot}
 use Rattle.uno_run.specs.SettingUp.{NotSetUp}
 use Rattle.uno_run.specs.declared.status.Status.{Status}
@@ -47,6 +48,13 @@ no_words status ends e = subst EndsServing e ends
 
 pub none_no_words : (store : Option Stored) (types plan : Text) (before now : ℕ) (status : Status) → NotSetUp store types plan before now status → status ≡ Words → ⊥
 none_no_words store types plan before now status none e = subst (NotSetUp store types plan before now) e none
+
+-- of own texts
+pub own_no_words : (types plan : List ℕ) (status : Status) → NoOwnEnd types plan status → status ≡ Words → ⊥
+own_no_words types plan status none e = subst (NoOwnEnd types plan) e none
+
+pub own_lost : (types plan : List ℕ) (status : Status) → status ≡ NoMemory → NoOwnEnd types plan status
+own_lost types plan status lost = subst (NoOwnEnd types plan) (sym lost) tt
 
 -- the statuses where no endpoint was set up, and where one was
 none_only : (store : Option Stored) (types plan : Text) (before now : ℕ) (status : Status) → NotSetUp store types plan before now status → EndsAnswering status
@@ -95,13 +103,13 @@ module _ {I O : Type 0} (left : I → Option (List ℕ)) (reads : I → ℕ) (ta
   pub own_run : (g : Setting) (status : Status) → IsOf types plan tag g → ServedOrNot left reads taken writes g input_old input_new output_old output_new status
       → OwnRun left reads taken writes types plan tag input_old input_new output_old output_new status
   own_run g status is (inl served) = inl (record { setting = g; is_of = is; served = served })
-  own_run g status is (inr none) = inr none
+  own_run g status is (inr none) = inr (own_lost types plan status none.0, none.1)
 
   lost_own : (status : Status) → has_own_line status ≡ true → OwnRun left reads taken writes types plan tag input_old input_new output_old output_new status
       → OwnRun left reads taken writes types plan tag input_old input_new output_old output_new NoMemory
   lost_own status own (inl was) =
       inl (record { setting = was.setting; is_of = was.is_of; served = lost_served left reads taken writes was.setting input_old input_new output_old output_new status own was.served })
-  lost_own status own (inr none) = inr (refl, none.1)
+  lost_own status own (inr none) = inr (tt, none.1)
 
   pub kept_own : (result status : Status) → Kept result status → OwnRun left reads taken writes types plan tag input_old input_new output_old output_new status
       → OwnRun left reads taken writes types plan tag input_old input_new output_old output_new result

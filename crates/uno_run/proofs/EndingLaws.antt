@@ -24,6 +24,7 @@ use Rattle.command_words.specs.Names.{Text}
 use Rattle.uno_run.specs.Answer.{AnswerRun, FilesServed, IsIdle, IsOf, LacksPlan, OwnRun, RefusedPlan, Served, WasServed}
 use Rattle.uno_run.specs.Ending.{AreWell, EndsAs, IsUnhindered}
 use Rattle.uno_run.specs.Idl.{IsRefused, IsRegistryText, Refused, Tells}
+use Rattle.uno_run.specs.Plans.{IsPlan, IsRefusedPlan, IsShallow, NoOwnEnd, RefusedWith}
 use Rattle.uno_run.specs.declared.reason.RegistryReason.{RegistryReason}
 use Rattle.uno_run.specs.declared.status.Status.{Status}
 use Rattle.uno_run.specs.declared.status.Status.TheVariants.{Done, Words, BadUnoidl, BadRegistry, BadPlan, ReadFault, WriteFault, Broken, Cut, Full, NoFile, NoMemory}
@@ -157,10 +158,42 @@ same_registry text one other a b =
 pub one_verdict : (reg : List Entity) (text : List ℕ) (out other : Result Plan Wrong) → IsVerdict reg text out → IsVerdict reg text other → out ≡ other
 one_verdict reg text out other = texts_have_one reg text out other (says_one reg)
 
+-- what is accepted is not refused
+pub plan_not_refused : (registry : List Entity) (text : List ℕ) (plan : Plan) (line : ℕ) (why : LineReason) → IsPlan registry text plan → IsRefusedPlan registry text line why → ⊥
+plan_not_refused registry text plan line why is (inl wrong) =
+    let refused : Result Plan Wrong = Err (record { line = line; reason = why }) in
+    let both : ◌≡◌ {A = Result Plan Wrong} (Err (record { line = line; reason = why })) (Ok plan) = one_verdict registry text refused (Ok plan) wrong is.0 in
+    cc
+plan_not_refused registry text plan line why is (inr deep) =
+    let both : ◌≡◌ {A = Result Plan Wrong} (Ok plan) (Ok deep.plan) = one_verdict registry text (Ok plan) (Ok deep.plan) is.0 deep.is_text in
+    let same : plan ≡ deep.plan = cc in
+    deep.deep (subst (λ p. IsShallow registry p) same is.1)
+
+pub with_kept : (types text : List ℕ) (registry : List Entity) (plan : Plan) (line : ℕ) (why : LineReason) → IsRegistryText types registry → IsPlan registry text plan
+    → RefusedWith types text line why → ⊥
+with_kept types text registry plan line why is_text is_plan r =
+    let same = same_registry types r.registry registry r.is_text is_text in
+    plan_not_refused registry text plan line why is_plan (subst (λ x. IsRefusedPlan x text line why) same r.refused)
+
+-- so where own texts are accepted, memory alone can be wanting
+own_kept : (types plan tag : List ℕ) (g : Setting) → IsOf types plan tag g → (status : Status) → NoOwnEnd types plan status → status ≡ NoMemory
+own_kept types plan tag g is Done n = absurd n
+own_kept types plan tag g is Words n = absurd n
+own_kept types plan tag g is (BadUnoidl file byte reason) n = absurd n
+own_kept types plan tag g is (BadRegistry file line reason) n = absurd (not_refused types g.registry is.is_text line reason n.1)
+own_kept types plan tag g is (BadPlan file line why) n = absurd (with_kept types plan g.registry g.plan line why is.is_text is.is_plan n.1)
+own_kept types plan tag g is ReadFault n = absurd n
+own_kept types plan tag g is WriteFault n = absurd n
+own_kept types plan tag g is (Broken reason place) n = absurd n
+own_kept types plan tag g is Cut n = absurd n
+own_kept types plan tag g is Full n = absurd n
+own_kept types plan tag g is (NoFile file) n = absurd n
+own_kept types plan tag g is NoMemory n = refl
+
 one_setting : (types plan tag : List ℕ) (g h : Setting) → IsOf types plan tag g → IsOf types plan tag h → g ≡ h
 one_setting types plan tag g h a b =
     let same = same_registry types g.registry h.registry a.is_text b.is_text in
-    let both : ◌≡◌ {A = Result Plan Wrong} (Ok g.plan) (Ok h.plan) = one_verdict g.registry plan (Ok g.plan) (Ok h.plan) a.is_plan (subst (λ r. IsTextOf r plan h.plan) (sym same) b.is_plan) in
+    let both : ◌≡◌ {A = Result Plan Wrong} (Ok g.plan) (Ok h.plan) = one_verdict g.registry plan (Ok g.plan) (Ok h.plan) a.is_plan.0 (subst (λ r. IsTextOf r plan h.plan) (sym same) b.is_plan.0) in
     let planned : g.plan ≡ h.plan = cc in
     is_setting g h.tag h.registry h.plan (a.tagged ∙ sym b.tagged) same planned
 
@@ -181,7 +214,7 @@ module _ {I O : Type 0} (left : I → Option (List ℕ)) (reads : I → ℕ) (ta
       → OwnRun left reads taken writes types plan tag input_old input_new output_old output_new status
       → EndsAs g bytes told.side.cause status ⊎ (status ≡ NoMemory)
   own_ends types plan tag is (inl was) = was_ends types plan tag is was
-  own_ends types plan tag is (inr none) = inr none.0
+  own_ends types plan tag is (inr none) = inr (own_kept types plan tag g is status none.0)
 
 -- what is told of a file is one
 pub one_text : (store : Option Stored) (name : Text) (files : Stored) (one other : Option (List ℕ)) → store ≡ Some files
@@ -222,10 +255,8 @@ module _ {F I O : Type 0} (stored : F → Option Stored) (readings : F → ℕ) 
   plan_kept line why r =
       let typed = subst (λ t. IsRegistryText t r.registry) (same_types r.is_of.text r.is_of.told) r.is_of.is_text in
       let same = same_registry well.is_of.types_text r.registry g.registry typed well.is_of.is_of.is_text in
-      let wrong : Result Plan Wrong = Err (record { line = line; reason = why }) in
-      let refused = subst (λ t. IsVerdict g.registry t wrong) (same_plan r.plan_text r.plan_told) (subst (λ x. IsVerdict x r.plan_text wrong) same r.refused) in
-      let both : ◌≡◌ {A = Result Plan Wrong} (Err (record { line = line; reason = why })) (Ok g.plan) = one_verdict g.registry well.is_of.plan_text wrong (Ok g.plan) refused well.is_of.is_of.is_plan in
-      cc
+      let refused = subst (λ t. IsRefusedPlan g.registry t line why) (same_plan r.plan_text r.plan_told) (subst (λ x. IsRefusedPlan x r.plan_text line why) same r.refused) in
+      plan_not_refused g.registry well.is_of.plan_text g.plan line why well.is_of.is_of.is_plan refused
 
   no_file_lacks : (file : ℕ) → ((file ≡ 0) × Tells (stored files_old) types None) ⊎ ((file ≡ 1) × LacksPlan (stored files_old) types plan) → ⊥
   no_file_lacks file (inl first) = types_there first.1

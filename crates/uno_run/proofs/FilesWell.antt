@@ -1,17 +1,17 @@
 -- Files that have accepted texts are there, and none of them is refused.
-use Rattle.std.proofs.Common.{◌≡◌, ℕ, List, Option, None, Some, Result, Ok, Err, subst, ◌⊎◌, inl, inr}
+use Rattle.std.proofs.Common.{◌≡◌, ℕ, List, Option, None, Some, subst, ◌⊎◌, inl, inr}
 use Rattle.uno_io.specs.Files.{Stored}
 use Rattle.uno_model.specs.Entities.{Entity}
 use Rattle.command_words.specs.Names.{Text}
-use Rattle.plan_model.specs.Keeps.{IsTextOf, IsVerdict, Wrong}
 use Rattle.plan_model.specs.Plans.{Plan}
 use Rattle.plan_model.specs.declared.line_reason.LineReason.{LineReason}
 use Rattle.world_model.specs.Worlds.{Settings}
 use Rattle.uno_run.specs.Answer.{RefusedPlan}
 use Rattle.uno_run.specs.Idl.{IsRefused, IsRegistryText, Refused, Tells}
 use Rattle.uno_run.specs.Pair.{AreOfFiles, MissingOf, RefusedPlanOf}
+use Rattle.uno_run.specs.Plans.{IsPlan, IsRefusedPlan}
 use Rattle.uno_run.specs.declared.reason.RegistryReason.{RegistryReason}
-use Rattle.uno_run.proofs.EndingLaws.{one_text, one_verdict, same_registry}
+use Rattle.uno_run.proofs.EndingLaws.{one_text, plan_not_refused, same_registry}
 use Rattle.uno_run.proofs.IdlRuns.{not_refused}
 
 module _ (store : Option Stored) (files : Stored) (stores : store ≡ Some files) where
@@ -26,14 +26,12 @@ module _ (store : Option Stored) (files : Stored) (stores : store ≡ Some files
   registry_kept types text registry told is line reason r = not_refused text registry is line reason (subst (λ t. IsRefused t line reason) (same_text types r.text text r.told told) r.refused)
 
   plan_kept : (types plan : Text) (text plan_text : List ℕ) (registry : List Entity) (read : Plan) → Tells store types (Some text) → IsRegistryText text registry → Tells store plan (Some plan_text)
-      → IsTextOf registry plan_text read → (line : ℕ) (why : LineReason) → RefusedPlan store types plan line why → ⊥
+      → IsPlan registry plan_text read → (line : ℕ) (why : LineReason) → RefusedPlan store types plan line why → ⊥
   plan_kept types plan text plan_text registry read told is plan_told is_plan line why r =
       let typed = subst (λ t. IsRegistryText t r.registry) (same_text types r.is_of.text text r.is_of.told told) r.is_of.is_text in
       let same = same_registry text r.registry registry typed is in
-      let wrong : Result Plan Wrong = Err (record { line = line; reason = why }) in
-      let refused = subst (λ t. IsVerdict registry t wrong) (same_text plan r.plan_text plan_text r.plan_told plan_told) (subst (λ x. IsVerdict x r.plan_text wrong) same r.refused) in
-      let both : ◌≡◌ {A = Result Plan Wrong} (Err (record { line = line; reason = why })) (Ok read) = one_verdict registry plan_text wrong (Ok read) refused is_plan in
-      cc
+      let refused = subst (λ t. IsRefusedPlan registry t line why) (same_text plan r.plan_text plan_text r.plan_told plan_told) (subst (λ x. IsRefusedPlan x r.plan_text line why) same r.refused) in
+      plan_not_refused registry plan_text read line why is_plan refused
 
   -- so of the three files of a pair
   module _ (types plan_a plan_b : Text) (g : Settings) (are : AreOfFiles store types plan_a plan_b g) where

@@ -7,13 +7,13 @@ use Rattle.behaviour_text.specs.declared.error.PlanError.{PlanError}
 use Rattle.behaviour_text.specs.declared.error.PlanError.TheVariants as why
 use Rattle.bridge_model.specs.Settings.{Setting}
 use Rattle.command_words.specs.Names.{Text}
-use Rattle.plan_model.specs.Keeps.{IsTextOf, IsVerdict}
 use Rattle.plan_model.specs.declared.line_reason.LineReason.{LineReason}
 use Rattle.world_model.specs.Worlds.{Settings, of_a, of_b}
 use Rattle.uno_run.specs.Answer.{LacksPlan}
 use Rattle.uno_run.specs.Idl.{IsOfFile, IsRegistryText, Tells}
 use Rattle.uno_run.specs.Joining.{IsEndOf, IsEndWith, NoEnd, NotJoined, RefusedAt, refused_at}
 use Rattle.uno_run.specs.Pair.{AreOf, AreOfFiles, HasPlan, MissingOf}
+use Rattle.uno_run.specs.Plans.{IsPlan, IsRefusedPlan}
 use Rattle.uno_run.specs.Reading.{Unread}
 use Rattle.uno_run.specs.SettingUp.{NotSetUp}
 use Rattle.uno_run.specs.declared.status.Status.{Status}
@@ -26,8 +26,8 @@ pub are_of : (types plan_a plan_b : List ℕ) (registry : List Entity) (g : Sett
 are_of types plan_a plan_b registry g is_text a b =
     record {
       is_text = subst (IsRegistryText types) (sym a.same) is_text;
-      is_plan_a = subst (λ r. IsTextOf r plan_a g.a.plan) (sym a.same) a.is_plan;
-      is_plan_b = subst (λ r. IsTextOf r plan_b g.b.plan) (sym b.same) b.is_plan;
+      is_plan_a = subst (λ r. IsPlan r plan_a g.a.plan) (sym a.same) a.is_plan;
+      is_plan_b = subst (λ r. IsPlan r plan_b g.b.plan) (sym b.same) b.is_plan;
       tag_a = a.tagged;
       tag_b = b.tagged;
     }
@@ -149,6 +149,9 @@ lost_end store registry plan place before now status lost same = subst (NoEnd st
 
 -- the status of a refused text
 pub refused_so : {T : Type 0} (registry : List Entity) (text : List ℕ) (place : ℕ) (error : PlanError) (status : Status) (r : Result T PlanError) → status ≡ refused_at error place → r ≡ Err error
-    → ((line : ℕ) (reason : LineReason) → r ≡ Err (why.BadLine line reason) → IsVerdict registry text (Err (record { line = line; reason = reason }))) → RefusedAt registry text place status
+    → ((line : ℕ) (reason : LineReason) → r ≡ Err (why.BadLine line reason) → IsRefusedPlan registry text line reason) → RefusedAt registry text place status
 refused_so registry text place why.NoMemory status r so is wrong = subst (RefusedAt registry text place) (sym so) tt
 refused_so registry text place (why.BadLine line reason) status r so is wrong = subst (RefusedAt registry text place) (sym so) (refl, wrong line reason is)
+
+pub lost_at : (registry : List Entity) (text : List ℕ) (place : ℕ) (status : Status) → status ≡ NoMemory → RefusedAt registry text place status
+lost_at registry text place status lost = subst (RefusedAt registry text place) (sym lost) tt

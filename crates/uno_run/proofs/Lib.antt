@@ -17,5 +17,6 @@ pub mod Roots
 pub mod ServedRuns
 pub mod RoundLaws
 pub mod SettingUp
+pub mod ShallowEnds
 pub mod WordLaws
 pub mod WorldRuns

@@ -4,18 +4,18 @@ use Rattle.uno_io.specs.Files.{Stored}
 use Rattle.uno_model.specs.Entities.{Entity}
 use Rattle.bridge_model.specs.Settings.{Setting}
 use Rattle.command_words.specs.Names.{Text}
-use Rattle.plan_model.specs.Keeps.{IsTextOf}
 use Rattle.uno_run.specs.Answer.{IsOf, IsOfFiles}
 use Rattle.uno_run.specs.Idl.{IsOfFile, IsRegistryText, Tells}
+use Rattle.uno_run.specs.Plans.{IsPlan, NoOwnEnd}
 use Rattle.uno_run.specs.Reading.{Unread}
 use Rattle.uno_run.specs.SettingUp.{NotSetUp, RefusedRegistry, RefusedText}
 use Rattle.uno_run.specs.declared.status.Status.{Status}
 use Rattle.uno_run.specs.declared.status.Status.TheVariants.{Done, Words, BadUnoidl, BadRegistry, BadPlan, ReadFault, WriteFault, Broken, Cut, Full, NoFile, NoMemory}
 
 pub is_of : (types plan tag : List ℕ) (registry : List Entity) (g : Setting) → IsRegistryText types registry → g.tag ≡ tag → g.registry ≡ registry
-    → IsTextOf registry plan g.plan → IsOf types plan tag g
+    → IsPlan registry plan g.plan → IsOf types plan tag g
 is_of types plan tag registry g is_text tagged same is_plan =
-    record { is_text = subst (IsRegistryText types) (sym same) is_text; is_plan = subst (λ r. IsTextOf r plan g.plan) (sym same) is_plan; tagged = tagged }
+    record { is_text = subst (IsRegistryText types) (sym same) is_text; is_plan = subst (λ r. IsPlan r plan g.plan) (sym same) is_plan; tagged = tagged }
 
 -- a text that was read is not too long
 pub short_text : {T E : Type 0} (x : T) (e : E) (text : List ℕ) → (Ok x ≡ Err e) ↔ (4194304 < length text) → length text ≤ 4194304
@@ -94,3 +94,33 @@ pub both_files : (store : Option Stored) (types plan : Text) (tag text : List �
     → ((typed : List ℕ) → IsRegistryText typed registry → IsOf typed text tag g) → IsOfFiles store types plan tag g
 both_files store types plan tag text registry g first told is =
     record { types_text = first.text; plan_text = text; types_told = first.told; plan_told = told; is_of = is first.text first.is_text }
+
+-- ---- own texts
+
+pub own_types_refused : (types plan : List ℕ) (status : Status) → RefusedRegistry types status → NoOwnEnd types plan status
+own_types_refused types plan Done n = absurd n
+own_types_refused types plan Words n = absurd n
+own_types_refused types plan (BadUnoidl file byte reason) n = absurd n
+own_types_refused types plan (BadRegistry file line reason) n = n
+own_types_refused types plan (BadPlan file line why) n = absurd n
+own_types_refused types plan ReadFault n = absurd n
+own_types_refused types plan WriteFault n = absurd n
+own_types_refused types plan (Broken reason place) n = absurd n
+own_types_refused types plan Cut n = absurd n
+own_types_refused types plan Full n = absurd n
+own_types_refused types plan (NoFile file) n = absurd n
+own_types_refused types plan NoMemory n = tt
+
+pub own_plan_refused : (types plan : List ℕ) (registry : List Entity) → IsRegistryText types registry → (status : Status) → RefusedText registry plan status → NoOwnEnd types plan status
+own_plan_refused types plan registry is Done n = absurd n
+own_plan_refused types plan registry is Words n = absurd n
+own_plan_refused types plan registry is (BadUnoidl file byte reason) n = absurd n
+own_plan_refused types plan registry is (BadRegistry file line reason) n = absurd n
+own_plan_refused types plan registry is (BadPlan file line why) n = (n.0, record { registry = registry; is_text = is; refused = n.1 })
+own_plan_refused types plan registry is ReadFault n = absurd n
+own_plan_refused types plan registry is WriteFault n = absurd n
+own_plan_refused types plan registry is (Broken reason place) n = absurd n
+own_plan_refused types plan registry is Cut n = absurd n
+own_plan_refused types plan registry is Full n = absurd n
+own_plan_refused types plan registry is (NoFile file) n = absurd n
+own_plan_refused types plan registry is NoMemory n = tt

@@ -1,17 +1,17 @@
 -- The promise of `answer`: an endpoint of two texts over the input and the output, and what each status says.
-use Rattle.std.specs.Prelude.{◌≡◌, ◌≢◌, ◌⊎◌, ℕ, true, false, List, Option, None, Some, Err}
+use Rattle.std.specs.Prelude.{◌≡◌, ◌≢◌, ◌⊎◌, ℕ, true, false, List, Option, None, Some}
 use Rattle.std.specs.Io.KnownBytes.{IsAtEnd}
 use Rattle.uno_base.specs.Causes.{Rose}
 use Rattle.uno_io.specs.Files.{Stored}
 use Rattle.uno_model.specs.Entities.{Entity}
 use Rattle.urp_model.specs.declared.reason.Reason.{Reason}
-use Rattle.plan_model.specs.Keeps.{IsTextOf, IsVerdict}
 use Rattle.plan_model.specs.declared.line_reason.LineReason.{LineReason}
 use Rattle.bridge_model.specs.Settings.{Setting}
 use Rattle.bridge_model.specs.declared.cause.Cause.TheVariants as cause
 use Rattle.command_words.specs.Names.{Text}
 use Rattle.answering.specs.Answering.{AnsweredPart, AnsweredWhole, GoesOnTelling, InputEnded, WasRead}
 use Rattle.uno_run.specs.Idl.{IsOfFile, IsRegistryText, Refused, Tells}
+use Rattle.uno_run.specs.Plans.{IsPlan, IsRefusedPlan, NoOwnEnd}
 use Rattle.uno_run.specs.declared.reason.RegistryReason.{RegistryReason}
 use Rattle.uno_run.specs.declared.status.Status.{Status}
 use Rattle.uno_run.specs.declared.status.Status.TheVariants.{Done, BadRegistry, BadPlan, ReadFault, WriteFault, Broken, Cut, Full, NoFile, NoMemory}
@@ -19,7 +19,7 @@ use Rattle.uno_run.specs.declared.status.Status.TheVariants.{Done, BadRegistry, 
 -- the setting of an endpoint with this tag: the registry and the plan of two texts
 pub record IsOf (types plan tag : List ℕ) (g : Setting) : Type 0 where
   pub is_text : IsRegistryText types g.registry
-  pub is_plan : IsTextOf g.registry plan g.plan
+  pub is_plan : IsPlan g.registry plan g.plan
   pub tagged : g.tag ≡ tag
 
 -- the same of the texts that two files have, where the store tells its files
@@ -83,11 +83,11 @@ HasServed Full = Unit
 HasServed WriteFault = Unit
 HasServed status = ⊥
 
--- a run of `answer` alone, with texts of its own: an endpoint of them was served, or there was no memory for it
+-- a run of `answer` alone, with texts of its own: an endpoint of them was served, or there was none, for the reason that the status says
 abbrev pub OwnRun : {I O : Type 0} → (I → Option (List ℕ)) → (I → ℕ) → (O → Option (List ℕ)) → (O → ℕ) → (types plan tag : List ℕ) → I → I → O → O → Status → Type 0
 OwnRun left reads taken writes types plan tag input_old input_new output_old output_new status =
     WasServed left reads taken writes types plan tag input_old input_new output_old output_new status
-    ⊎ ((status ≡ NoMemory) × IsIdle input_old input_new output_old output_new)
+    ⊎ (NoOwnEnd types plan status × IsIdle input_old input_new output_old output_new)
 
 -- an endpoint of the texts of two files was
 pub record FilesServed {I O : Type 0} (left : I → Option (List ℕ)) (reads : I → ℕ) (taken : O → Option (List ℕ)) (writes : O → ℕ) (store : Option Stored) (types plan : Text) (tag : List ℕ)
@@ -96,13 +96,13 @@ pub record FilesServed {I O : Type 0} (left : I → Option (List ℕ)) (reads : 
   pub is_of : IsOfFiles store types plan tag setting
   pub served : Served left reads taken writes setting input_old input_new output_old output_new status
 
--- the first file is the text of a registry, and the second a text that is no plan in it, first at this line for this reason
+-- the first file is the text of a registry, and the second is refused as a plan in it, first at this line for this reason
 pub record RefusedPlan (store : Option Stored) (types plan : Text) (line : ℕ) (why : LineReason) : Type 0 where
   pub registry : List Entity
   pub is_of : IsOfFile store types registry
   pub plan_text : List ℕ
   pub plan_told : Tells store plan (Some plan_text)
-  pub refused : IsVerdict registry plan_text (Err (record { line = line; reason = why }))
+  pub refused : IsRefusedPlan registry plan_text line why
 
 -- the first file is the text of a registry, and the second is not there
 pub record LacksPlan (store : Option Stored) (types plan : Text) : Type 0 where

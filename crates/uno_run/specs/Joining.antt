@@ -1,5 +1,5 @@
 -- The steps of `pair` and `drill`: ends of plans in one registry, two of them joined, and what they come to.
-use Rattle.std.specs.Prelude.{◌≡◌, ℕ, List, [], Option, None, Some, Err}
+use Rattle.std.specs.Prelude.{◌≡◌, ℕ, List, [], Option, None, Some}
 use Rattle.uno_base.specs.Causes.{Rose}
 use Rattle.uno_io.specs.Files.{Stored}
 use Rattle.uno_model.specs.Entities.{Entity}
@@ -17,14 +17,15 @@ use Rattle.bridge_world.specs.declared.error.RunError.TheVariants as why
 use Rattle.command_words.specs.Names.{Text}
 use Rattle.world_model.specs.Moves.{Progress}
 use Rattle.world_model.specs.Pairs.{Pairing}
-use Rattle.plan_model.specs.Keeps.{IsTextOf, IsVerdict}
 use Rattle.plan_model.specs.declared.line_reason.LineReason.{LineReason}
 use Rattle.report_model.specs.Pairs.{EndsWell, ReachesLimit}
 use Rattle.world_laws.specs.Ready.{AreReady}
 use Rattle.world_model.specs.Worlds.{Settings}
-use Rattle.uno_run.specs.Drill.{DrillLimited}
-use Rattle.uno_run.specs.Idl.{Refused, Tells}
+use Rattle.uno_run.specs.Drill.{DrillLimited, RefusedDrillPlan}
+use Rattle.uno_run.specs.Idl.{IsRefused, Refused, Tells}
+use Rattle.uno_run.specs.Own.{own_types}
 use Rattle.uno_run.specs.Pair.{FilesLimited, MissingOf, RefusedPlanOf}
+use Rattle.uno_run.specs.Plans.{IsPlan, IsRefusedPlan}
 use Rattle.uno_run.specs.declared.status.Status.{Status}
 use Rattle.uno_run.specs.declared.status.Status.TheVariants.{BadRegistry, BadPlan, ReadFault, Full, NoFile, NoMemory}
 
@@ -32,7 +33,7 @@ use Rattle.uno_run.specs.declared.status.Status.TheVariants.{BadRegistry, BadPla
 
 -- with this tag, in this registry, of a plan's text
 pub record IsEndWith (registry : List Entity) (text tag : List ℕ) (g : Setting) : Type 0 where
-  pub is_plan : IsTextOf registry text g.plan
+  pub is_plan : IsPlan registry text g.plan
   pub same : g.registry ≡ registry
   pub tagged : g.tag ≡ tag
 
@@ -44,7 +45,7 @@ pub record IsEndOf (store : Option Stored) (registry : List Entity) (plan : Text
 
 -- the text, which is that of the file at a place, is refused, or memory is wanted
 abbrev pub RefusedAt : List Entity → List ℕ → (place : ℕ) → Status → Type 0
-RefusedAt registry text place (BadPlan file line why) = (file ≡ place) × IsVerdict registry text (Err (record { line = line; reason = why }))
+RefusedAt registry text place (BadPlan file line why) = (file ≡ place) × IsRefusedPlan registry text line why
 RefusedAt registry text place NoMemory = Unit
 RefusedAt registry text place _ = ⊥
 
@@ -55,7 +56,7 @@ refused_at (error.BadLine line why) place = BadPlan place line why
 pub record RefusedIn (store : Option Stored) (registry : List Entity) (plan : Text) (line : ℕ) (why : LineReason) : Type 0 where
   pub text : List ℕ
   pub told : Tells store plan (Some text)
-  pub refused : IsVerdict registry text (Err (record { line = line; reason = why }))
+  pub refused : IsRefusedPlan registry text line why
 
 -- the file at a place is refused, is not there or cannot be read, or memory is wanted
 abbrev pub NoEnd : Option Stored → List Entity → (plan : Text) → (place before now : ℕ) → Status → Type 0
@@ -117,7 +118,10 @@ abbrev pub NotReported : Option Stored → (types plan_a plan_b : Text) → (see
 NotReported store types plan_a plan_b seed cut before now Full = FilesLimited store types plan_a plan_b seed cut × (now ≡ before)
 NotReported store types plan_a plan_b seed cut before now status = NotJoined store types plan_a plan_b before now status
 
+-- one of its own texts is refused, an end reached a limit, or memory was wanted
 abbrev pub NotDrilled : (rounds seed : ℕ) → Status → Type 0
+NotDrilled rounds seed (BadRegistry file line reason) = (file ≡ 0) × IsRefused own_types line reason
+NotDrilled rounds seed (BadPlan file line why) = RefusedDrillPlan rounds seed file line why
 NotDrilled rounds seed Full = DrillLimited rounds seed
 NotDrilled rounds seed NoMemory = Unit
 NotDrilled rounds seed _ = ⊥

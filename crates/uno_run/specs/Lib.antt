@@ -8,6 +8,7 @@ pub mod Joining
 pub mod Lines
 pub mod Own
 pub mod Pair
+pub mod Plans
 pub mod Printing
 pub mod Promises
 pub mod Reading

@@ -1,5 +1,5 @@
--- The texts of the endpoint that `answer` alone sets up.
-use Rattle.std.specs.Prelude.{ℕ, List, codes}
+-- The texts of the endpoint that `answer` alone sets up, and how lines name the program's own texts.
+use Rattle.std.specs.Prelude.{ℕ, List, [], ◌∷◌, codes}
 
 -- the registry
 unfoldable pub own_types : List ℕ
@@ -8,3 +8,10 @@ own_types = codes "unoreg 1\nexception demo.Refused com.sun.star.uno.Exception\n
 -- and the plan: an object under the name `echo`, which doubles numbers
 unfoldable pub own_plan : List ℕ
 own_plan = codes "unoplan 1\nbehaviour Echo demo.XEcho\nmethod demo.XEcho twice\nreturn add($a,$a)\nend\nend\nexport \"echo\" Echo\n"
+
+-- the names that lines on own texts give them: those of `answer` alone, and those of `drill`
+abbrev pub own_names : List (List ℕ)
+own_names = codes "own registry" ∷ codes "own plan" ∷ []
+
+abbrev pub drill_names : List (List ℕ)
+drill_names = codes "own registry" ∷ codes "own plan of A" ∷ codes "own plan of B" ∷ []

@@ -5,7 +5,6 @@ use Rattle.uno_base.specs.Causes.{Rose}
 use Rattle.uno_io.specs.Files.{Stored}
 use Rattle.uno_io.specs.Fronts.{AppendsFront}
 use Rattle.uno_model.specs.Entities.{Entity}
-use Rattle.plan_model.specs.Keeps.{IsTextOf}
 use Rattle.plan_model.specs.Plans.{Plan}
 use Rattle.plan_model.specs.declared.line_reason.LineReason.{LineReason}
 use Rattle.world_model.specs.Pairs.{Pairing, IsPaired}
@@ -15,6 +14,7 @@ use Rattle.world_model.specs.Worlds.{Settings}
 use Rattle.command_words.specs.Names.{Text}
 use Rattle.uno_run.specs.Answer.{LacksPlan, RefusedPlan}
 use Rattle.uno_run.specs.Idl.{IsOfFile, IsRegistryText, Refused, Tells}
+use Rattle.uno_run.specs.Plans.{IsPlan}
 use Rattle.uno_run.specs.Promises.{KeepsPromise}
 use Rattle.uno_run.specs.declared.reason.RegistryReason.{RegistryReason}
 use Rattle.uno_run.specs.declared.status.Status.{Status}
@@ -25,8 +25,8 @@ use Rattle.uno_run.specs.declared.status.Status.TheVariants.{Done, BadRegistry, 
 -- the settings of two ends with the tags A and B: the registry of a text, and the plan of another for each
 pub record AreOf (types plan_a plan_b : List ℕ) (g : Settings) : Type 0 where
   pub is_text : IsRegistryText types g.registry
-  pub is_plan_a : IsTextOf g.registry plan_a g.a.plan
-  pub is_plan_b : IsTextOf g.registry plan_b g.b.plan
+  pub is_plan_a : IsPlan g.registry plan_a g.a.plan
+  pub is_plan_b : IsPlan g.registry plan_b g.b.plan
   pub tag_a : g.a.tag ≡ codes "A"
   pub tag_b : g.b.tag ≡ codes "B"
 
@@ -71,7 +71,7 @@ pub record HasPlan (store : Option Stored) (types plan : Text) : Type 0 where
   pub read : Plan
   pub plan_text : List ℕ
   pub plan_told : Tells store plan (Some plan_text)
-  pub is_plan : IsTextOf registry plan_text read
+  pub is_plan : IsPlan registry plan_text read
 
 -- the second file is refused; or it is a plan, and the third is refused
 abbrev pub RefusedPlanOf : Option Stored → (types plan_a plan_b : Text) → (file line : ℕ) → LineReason → Type 0

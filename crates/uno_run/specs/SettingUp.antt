@@ -1,14 +1,14 @@
 -- What a status says where no endpoint was set up.
-use Rattle.std.specs.Prelude.{◌≡◌, ◌⊎◌, ℕ, List, Option, None, Err}
+use Rattle.std.specs.Prelude.{◌≡◌, ◌⊎◌, ℕ, List, Option, None}
 use Rattle.uno_base.specs.Causes.{Rose}
 use Rattle.uno_io.specs.Files.{Stored}
 use Rattle.uno_model.specs.Entities.{Entity}
 use Rattle.behaviour_text.specs.declared.error.PlanError.{PlanError}
 use Rattle.behaviour_text.specs.declared.error.PlanError.TheVariants as error
 use Rattle.command_words.specs.Names.{Text}
-use Rattle.plan_model.specs.Keeps.{IsVerdict}
 use Rattle.uno_run.specs.Answer.{LacksPlan, RefusedPlan}
 use Rattle.uno_run.specs.Idl.{IsRefused, Refused, Tells}
+use Rattle.uno_run.specs.Plans.{IsRefusedPlan}
 use Rattle.uno_run.specs.declared.status.Status.{Status}
 use Rattle.uno_run.specs.declared.status.Status.TheVariants.{BadRegistry, BadPlan, ReadFault, NoFile, NoMemory}
 
@@ -22,7 +22,7 @@ RefusedRegistry text _ = ⊥
 
 -- of a plan, which is the second
 abbrev pub RefusedText : List Entity → List ℕ → Status → Type 0
-RefusedText registry text (BadPlan file line why) = (file ≡ 1) × IsVerdict registry text (Err (record { line = line; reason = why }))
+RefusedText registry text (BadPlan file line why) = (file ≡ 1) × IsRefusedPlan registry text line why
 RefusedText registry text NoMemory = Unit
 RefusedText registry text _ = ⊥
 

@@ -1,6 +1,7 @@
 -- What the command's words ask of a run.
 use Rattle.std.specs.Prelude.{◌≡◌, Bool, true, false, List, [], ◌∷◌, String, string_bytes, map, ℕ, Option, None, Some}
 use Rattle.command_words.specs.Names.{Text}
+use Rattle.uno_run.specs.Own.{own_names, drill_names}
 use Rattle.command_words.specs.Forms.{Order, order_of, answer, answer_plan, compile, drill, idl, pair}
 
 -- the words ask for `answer`, with no registry and no plan
@@ -37,10 +38,12 @@ is_served (Some (pair types plan_a plan_b seed cut None)) = true
 is_served (Some (drill rounds seed)) = true
 is_served _ = false
 
--- the files that a served command names, in order
+-- the names of the texts of a served command, in order: of the files that it names, or of the program's own texts
 abbrev pub files_of : Option Order → List Text
+files_of (Some answer) = own_names
 files_of (Some (answer_plan types plan)) = types ∷ plan ∷ []
 files_of (Some (compile files)) = files
 files_of (Some (idl types)) = types ∷ []
 files_of (Some (pair types plan_a plan_b seed cut None)) = types ∷ plan_a ∷ plan_b ∷ []
+files_of (Some (drill rounds seed)) = drill_names
 files_of _ = []

@@ -11,13 +11,13 @@ ghost use Rattle.uno_model.specs.Sound.{IsSound};
 ghost use Rattle.world_model.specs.Worlds.{of_a, of_b};
 ghost use Rattle.uno_run.specs.Drill.{AreOfDrill, DrillRun, Drilled};
 ghost use Rattle.uno_run.specs.Idl.{IsRegistryText};
-ghost use Rattle.uno_run.specs.Joining.{IsEndWith, IsFresh, NotDrilled, StopsSo, counts_seen};
+ghost use Rattle.uno_run.specs.Joining.{IsEndWith, IsFresh, NotDrilled, RefusedAt, StopsSo, counts_seen};
 ghost use Rattle.uno_run.specs.Own.{own_types};
 
 use crate::Status;
 use crate::drill_plans::{called_plan, calling_plan};
 use crate::idl::write_text;
-use crate::joining::{join, tagged_end};
+use crate::joining::{end_at_place, joined};
 use crate::own::own_types;
 use crate::running::run_through;
 use crate::setting_up::registry_in;
@@ -32,6 +32,11 @@ use uno_types::Registry;
 
 /// The most bytes that come in at once.
 const CUT: u32 = 65_536;
+
+/// The places of the texts of the plans, behind that of the registry.
+const CALLING: u32 = 1;
+
+const CALLED: u32 = 2;
 
 /// Lets two ends run so many rounds by plans of their own, and writes the summary.
 pub(crate) fn drill<O: Sink>(alloc: Global, rounds: u64, seed: u64, output: &mut O) -> Status
@@ -63,7 +68,7 @@ fn summary_of(alloc: Global, rounds: u32, seed: u64) -> Result<Vec<u8>, Status>
 {
     match world_of(alloc, rounds, seed) {
         Ok(world) => sum_up(alloc, world, rounds, seed),
-        Err(NoMemory) => Err(Status::NoMemory),
+        Err(status) => Err(status),
     }
 }
 
@@ -114,30 +119,32 @@ fn summary(
 
 // ---- the two ends
 
-/// Two ends of so many rounds. Their texts are accepted, so that memory alone can be wanting.
-fn world_of(alloc: Global, rounds: u32, seed: u64) -> Result<World, NoMemory>
+/// Two ends of so many rounds, or why their texts are refused.
+fn world_of(alloc: Global, rounds: u32, seed: u64) -> Result<World, Status>
     ensures are_of { IfOk result (λ w. AreOfDrill rounds seed (settings_of w)) }
     ensures fresh { IfOk result IsFresh }
+    ensures refused { IfErr result (NotDrilled rounds seed) }
 {
     match registry_in(alloc, own_types()) {
         Ok(registry) => world_in(alloc, registry, rounds, seed),
-        Err(_) => Err(NoMemory),
+        Err(status) => Err(status),
     }
 }
 
 /// The same in their registry.
-fn world_in(alloc: Global, registry: Registry, rounds: u32, seed: u64) -> Result<World, NoMemory>
+fn world_in(alloc: Global, registry: Registry, rounds: u32, seed: u64) -> Result<World, Status>
     requires sound { IsSound registry }
     requires names { NamesDiffer registry }
     requires is_text { IsRegistryText own_types registry }
     ensures are_of { IfOk result (λ w. AreOfDrill rounds seed (settings_of w)) }
     ensures fresh { IfOk result IsFresh }
+    ensures refused { IfErr result (NotDrilled rounds seed) }
 {
     match calling_end(alloc, &registry, rounds, seed) {
         Ok(a) => world_with(alloc, a, registry),
-        Err(NoMemory) => {
+        Err(status) => {
             drop(registry);
-            Err(NoMemory)
+            Err(status)
         }
     }
 }
@@ -148,46 +155,35 @@ fn calling_end(
     registry: &Registry,
     rounds: u32,
     seed: u64,
-) -> Result<Endpoint, NoMemory>
+) -> Result<Endpoint, Status>
     requires sound { IsSound registry.now }
     requires names { NamesDiffer registry.now }
     ensures is_of { IfOk result (λ e. IsEndWith registry.now (calling_plan rounds seed) (codes "A") (setting_at e)) }
     ensures opening { IfOk result (λ e. e ≡ opening_endpoint e.configured) }
+    ensures refused { IfErr result (RefusedAt registry.now (calling_plan rounds seed) 1) }
 {
     match calling_plan(alloc, rounds, seed) {
         Ok(plan) => copied_end(alloc, registry, plan.as_bytes()),
-        Err(NoMemory) => Err(NoMemory),
+        Err(NoMemory) => Err(Status::NoMemory),
     }
 }
 
 /// The end with the tag `A`, in an equal registry, of the text of a plan.
-fn copied_end(alloc: Global, registry: &Registry, plan: &[u8]) -> Result<Endpoint, NoMemory>
+fn copied_end(alloc: Global, registry: &Registry, plan: &[u8]) -> Result<Endpoint, Status>
     requires sound { IsSound registry.now }
     requires names { NamesDiffer registry.now }
     ensures is_of { IfOk result (λ e. IsEndWith registry.now plan.now (codes "A") (setting_at e)) }
     ensures opening { IfOk result (λ e. e ≡ opening_endpoint e.configured) }
+    ensures refused { IfErr result (RefusedAt registry.now plan.now 1) }
 {
     match registry.copy() {
-        Ok(registry) => end_of(alloc, registry, plan, "A"),
-        Err(NoMemory) => Err(NoMemory),
-    }
-}
-
-/// The end with this tag, in a registry, of the text of a plan.
-fn end_of(alloc: Global, registry: Registry, plan: &[u8], tag: &str) -> Result<Endpoint, NoMemory>
-    requires sound { IsSound registry }
-    requires names { NamesDiffer registry }
-    ensures is_of { IfOk result (λ e. IsEndWith registry plan.now tag.now (setting_at e)) }
-    ensures opening { IfOk result (λ e. e ≡ opening_endpoint e.configured) }
-{
-    match tagged_end(alloc, registry, plan, tag) {
-        Ok(end) => Ok(end),
-        Err(_) => Err(NoMemory),
+        Ok(registry) => end_at_place(alloc, registry, plan, CALLING, "A"),
+        Err(NoMemory) => Err(Status::NoMemory),
     }
 }
 
 /// That end, and the one that is called, are joined.
-fn world_with(alloc: Global, a: Endpoint, registry: Registry) -> Result<World, NoMemory>
+fn world_with(alloc: Global, a: Endpoint, registry: Registry) -> Result<World, Status>
     requires sound { IsSound registry }
     requires names { NamesDiffer registry }
     requires opening { a ≡ opening_endpoint a.configured }
@@ -196,12 +192,13 @@ fn world_with(alloc: Global, a: Endpoint, registry: Registry) -> Result<World, N
     ensures a { IfOk result (λ w. of_a (settings_of w) ≡ setting_at a) }
     ensures b { IfOk result (λ w. IsEndWith registry node_plan (codes "B") (of_b (settings_of w))) }
     ensures fresh { IfOk result IsFresh }
+    ensures refused { IfErr result (RefusedAt registry node_plan 2) }
 {
-    match end_of(alloc, registry, called_plan(), "B") {
-        Ok(b) => join(alloc, a, b),
-        Err(NoMemory) => {
+    match end_at_place(alloc, registry, called_plan(), CALLED, "B") {
+        Ok(b) => joined(alloc, a, b),
+        Err(status) => {
             a.close();
-            Err(NoMemory)
+            Err(status)
         }
     }
 }

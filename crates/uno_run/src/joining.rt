@@ -3,7 +3,6 @@ ghost use Rattle.std.specs.Prelude.{◌≡◌, ℕ, IfErr, IfOk, Err, codes};
 ghost use Rattle.bridge_endpoint.specs.Journals.{opening_endpoint, setting_at};
 ghost use Rattle.bridge_world.specs.Joined.{settings_of};
 ghost use Rattle.command_words.specs.Names.{Text};
-ghost use Rattle.plan_model.specs.Keeps.{IsVerdict};
 ghost use Rattle.plan_model.specs.declared.line_reason.LineReason.{LineReason};
 ghost use Rattle.plan_typing.specs.Effects.{NamesDiffer};
 ghost use Rattle.uno_model.specs.Sound.{IsSound};
@@ -11,13 +10,15 @@ ghost use Rattle.world_model.specs.Worlds.{of_a, of_b};
 ghost use Rattle.uno_run.specs.Idl.{IsOfFile};
 ghost use Rattle.uno_run.specs.Joining.{IsEndOf, IsEndWith, IsFresh, NoEnd, NotJoined, RefusedAt, refused_at};
 ghost use Rattle.uno_run.specs.Pair.{AreOfFiles};
+ghost use Rattle.uno_run.specs.Plans.{IsRefusedPlan};
 
 use crate::Status;
 use crate::files::text_of;
 use crate::setting_up::registry_of;
+use crate::shallow::shallow_end;
 use bridge_endpoint::Endpoint;
 use bridge_world::World;
-use endpoint_text::{PlanError, set_up};
+use endpoint_text::PlanError;
 use std::alloc::Global;
 use uno_base::NoMemory;
 use uno_io::Files;
@@ -121,7 +122,7 @@ fn world_with<F: Files>(
 }
 
 /// Two ends at which nothing has happened are joined.
-fn joined(alloc: Global, a: Endpoint, b: Endpoint) -> Result<World, Status>
+pub(crate) fn joined(alloc: Global, a: Endpoint, b: Endpoint) -> Result<World, Status>
     requires opening_a { a ≡ opening_endpoint a.configured }
     requires opening_b { b ≡ opening_endpoint b.configured }
     requires registry { (setting_at b).registry ≡ (setting_at a).registry }
@@ -139,7 +140,7 @@ fn joined(alloc: Global, a: Endpoint, b: Endpoint) -> Result<World, Status>
 }
 
 /// The same, or no memory for it.
-pub(crate) fn join(alloc: Global, a: Endpoint, b: Endpoint) -> Result<World, NoMemory>
+fn join(alloc: Global, a: Endpoint, b: Endpoint) -> Result<World, NoMemory>
     requires opening_a { a ≡ opening_endpoint a.configured }
     requires opening_b { b ≡ opening_endpoint b.configured }
     requires registry { (setting_at b).registry ≡ (setting_at a).registry }
@@ -179,7 +180,7 @@ fn end_of_file<F: Files>(
 }
 
 /// The same of its text.
-fn end_at_place(
+pub(crate) fn end_at_place(
     alloc: Global,
     registry: Registry,
     plan: &[u8],
@@ -213,7 +214,7 @@ fn refused_at(error: PlanError, place: u32) -> Status
 }
 
 /// The end with this tag, in a registry, of the text of a plan.
-pub(crate) fn tagged_end(
+fn tagged_end(
     alloc: Global,
     registry: Registry,
     plan: &[u8],
@@ -223,10 +224,10 @@ pub(crate) fn tagged_end(
     requires names { NamesDiffer registry }
     ensures is_of { IfOk result (λ e. IsEndWith registry plan.now tag.now (setting_at e)) }
     ensures opening { IfOk result (λ e. e ≡ opening_endpoint e.configured) }
-    ensures wrong { (line : ℕ) (why : LineReason) → result ≡ Err (PlanError.BadLine line why) → IsVerdict registry plan.now (Err (record { line = line; reason = why })) }
+    ensures wrong { (line : ℕ) (why : LineReason) → result ≡ Err (PlanError.BadLine line why) → IsRefusedPlan registry plan.now line why }
 {
     match Tag::read(alloc, tag) {
-        Ok(tag) => set_up(alloc, tag, registry, plan),
+        Ok(tag) => shallow_end(alloc, tag, registry, plan),
         Err(_) => {
             drop(registry);
             Err(PlanError::NoMemory)

@@ -15,6 +15,7 @@ mod reason;
 mod running;
 mod serving;
 mod setting_up;
+mod shallow;
 mod status;
 mod top;
 

@@ -1,7 +1,6 @@
 //! The endpoint of a run: that of two files, which are read and judged in the order of the words, or that of `answer` alone.
 ghost use Rattle.std.specs.Prelude.{◌≡◌, ℕ, List, [], IfOk, IfErr, Err};
 ghost use Rattle.bridge_endpoint.specs.Journals.{opening_endpoint, setting_at};
-ghost use Rattle.plan_model.specs.Keeps.{IsTextOf, IsVerdict};
 ghost use Rattle.plan_model.specs.declared.line_reason.LineReason.{LineReason};
 ghost use Rattle.plan_typing.specs.Effects.{NamesDiffer};
 ghost use Rattle.uno_model.specs.Sound.{IsSound};
@@ -9,13 +8,15 @@ ghost use Rattle.command_words.specs.Names.{Text};
 ghost use Rattle.uno_run.specs.Answer.{IsOf, IsOfFiles};
 ghost use Rattle.uno_run.specs.Idl.{IsOfFile, IsRegistryText};
 ghost use Rattle.uno_run.specs.Own.{own_plan, own_types};
+ghost use Rattle.uno_run.specs.Plans.{IsPlan, IsRefusedPlan, NoOwnEnd};
 ghost use Rattle.uno_run.specs.SettingUp.{NotSetUp, RefusedRegistry, RefusedText, plan_refused};
 
 use crate::Status;
 use crate::files::{refused, text_of};
 use crate::own::{own_plan, own_types};
+use crate::shallow::shallow_end;
 use bridge_endpoint::Endpoint;
-use endpoint_text::{PlanError, know_names, read_registry, set_up};
+use endpoint_text::{PlanError, know_names, read_registry};
 use std::alloc::Global;
 use uno_base::NoMemory;
 use uno_io::Files;
@@ -26,29 +27,28 @@ const TYPES: u32 = 0;
 
 const PLAN: u32 = 1;
 
-/// The endpoint of `answer` alone. Its texts are accepted, so that memory alone can be wanting.
-pub(crate) fn own_end(alloc: Global, tag: &Tag) -> Result<Endpoint, NoMemory>
+/// The endpoint of `answer` alone, or why its texts are refused.
+pub(crate) fn own_end(alloc: Global, tag: &Tag) -> Result<Endpoint, Status>
     ensures is_of { IfOk result (λ e. IsOf own_types own_plan tag.now (setting_at e)) }
     ensures opening { IfOk result (λ e. e.entries ≡ []) }
+    ensures refused { IfErr result (NoOwnEnd own_types own_plan) }
 {
     match registry_in(alloc, own_types()) {
         Ok(registry) => own_end_in(alloc, tag, registry),
-        Err(_) => Err(NoMemory),
+        Err(status) => Err(status),
     }
 }
 
 /// The same in its registry.
-fn own_end_in(alloc: Global, tag: &Tag, registry: Registry) -> Result<Endpoint, NoMemory>
+fn own_end_in(alloc: Global, tag: &Tag, registry: Registry) -> Result<Endpoint, Status>
     requires sound { IsSound registry }
     requires names { NamesDiffer registry }
     requires is_text { IsRegistryText own_types registry }
     ensures is_of { IfOk result (λ e. IsOf own_types own_plan tag.now (setting_at e)) }
     ensures opening { IfOk result (λ e. e.entries ≡ []) }
+    ensures refused { IfErr result (NoOwnEnd own_types own_plan) }
 {
-    match end_of(alloc, tag, registry, own_plan()) {
-        Ok(end) => Ok(end),
-        Err(_) => Err(NoMemory),
-    }
+    end_with(alloc, tag, registry, own_plan())
 }
 
 /// The endpoint of two files: the text of a registry, and that of a plan.
@@ -163,12 +163,12 @@ fn end_of(alloc: Global, tag: &Tag, registry: Registry, plan: &[u8]) -> Result<E
     requires names { NamesDiffer registry }
     ensures tag { IfOk result (λ e. (setting_at e).tag ≡ tag.now) }
     ensures registry { IfOk result (λ e. (setting_at e).registry ≡ registry) }
-    ensures plan { IfOk result (λ e. IsTextOf registry plan.now (setting_at e).plan) }
+    ensures plan { IfOk result (λ e. IsPlan registry plan.now (setting_at e).plan) }
     ensures opening { IfOk result (λ e. e ≡ opening_endpoint e.configured) }
-    ensures wrong { (line : ℕ) (why : LineReason) → result ≡ Err (PlanError.BadLine line why) → IsVerdict registry plan.now (Err (record { line = line; reason = why })) }
+    ensures wrong { (line : ℕ) (why : LineReason) → result ≡ Err (PlanError.BadLine line why) → IsRefusedPlan registry plan.now line why }
 {
     match tag.copy(alloc) {
-        Ok(tag) => set_up(alloc, tag, registry, plan),
+        Ok(tag) => shallow_end(alloc, tag, registry, plan),
         Err(NoMemory) => {
             drop(registry);
             Err(PlanError::NoMemory)

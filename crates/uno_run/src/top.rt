@@ -7,7 +7,7 @@ ghost use Rattle.uno_run.specs.Compile.{CompileRun};
 ghost use Rattle.uno_run.specs.Drill.{DrillRun};
 ghost use Rattle.uno_run.specs.Idl.{IdlRun};
 ghost use Rattle.uno_run.specs.Lines.{line_of, Printed};
-ghost use Rattle.uno_run.specs.Own.{own_plan, own_types};
+ghost use Rattle.uno_run.specs.Own.{drill_names, own_names, own_plan, own_types};
 ghost use Rattle.uno_run.specs.Pair.{PairRun};
 ghost use Rattle.uno_run.specs.Words.{IsAnswer, IsAnswerPlan, IsCompile, IsDrill, IsIdl, IsPair, files_of, is_served};
 
@@ -24,6 +24,15 @@ use std::alloc::Global;
 use uno_base::NoMemory;
 use uno_io::{Files, Sink, Source};
 use uno_types::Tag;
+
+/// The names that lines on the program's own texts give them.
+const REGISTRY: &str = "own registry";
+
+const PLAN: &str = "own plan";
+
+const PLAN_A: &str = "own plan of A";
+
+const PLAN_B: &str = "own plan of B";
 
 /// Does what the words ask, and says on `errors` in one line why it did no more. `rt` is what `main` is given.
 pub fn run<R, F: Files, I: Source, O: Sink, E: Sink>(
@@ -224,10 +233,10 @@ fn run_drill<O: Sink, E: Sink>(
     ensures run { DrillRun O.taken O.faults rounds seed output.old output.new result }
     ensures no_words { result ≢ Status.Words }
     ensures stays { (O.closed output.new ≡ O.closed output.old) × (E.closed errors.new ≡ E.closed errors.old) }
-    ensures line { Printed (E.faults errors.old) (E.faults errors.new) (E.taken errors.old) (E.taken errors.new) (line_of [] result) }
+    ensures line { Printed (E.faults errors.old) (E.faults errors.new) (E.taken errors.old) (E.taken errors.new) (line_of drill_names result) }
 {
     let status = drill(alloc, rounds, seed, output);
-    report(alloc, &[], status, errors)
+    report(alloc, &[REGISTRY, PLAN_A, PLAN_B], status, errors)
 }
 
 /// `answer` alone, with its line.
@@ -241,10 +250,10 @@ fn run_answer<I: Source, O: Sink, E: Sink>(
     ensures run { OwnRun I.left I.faults O.taken O.faults own_types own_plan tag.now input.old input.new output.old output.new result }
     ensures no_words { result ≢ Status.Words }
     ensures stays { (O.closed output.new ≡ O.closed output.old) × (E.closed errors.new ≡ E.closed errors.old) }
-    ensures line { Printed (E.faults errors.old) (E.faults errors.new) (E.taken errors.old) (E.taken errors.new) (line_of [] result) }
+    ensures line { Printed (E.faults errors.old) (E.faults errors.new) (E.taken errors.old) (E.taken errors.new) (line_of own_names result) }
 {
     let status = answer(alloc, tag, input, output);
-    report(alloc, &[], status, errors)
+    report(alloc, &[REGISTRY, PLAN], status, errors)
 }
 
 /// The same without it.
@@ -255,7 +264,7 @@ fn answer<I: Source, O: Sink>(alloc: Global, tag: &Tag, input: &mut I, output: &
 {
     match own_end(alloc, tag) {
         Ok(end) => serve(alloc, end, input, output),
-        Err(NoMemory) => Status::NoMemory,
+        Err(status) => status,
     }
 }
 

@@ -1,5 +1,5 @@
 use Rattle.std.proofs.Common.{refl, inr}
-use Rattle.uno_run.proofs.AnswerRuns.{no_words, own_run}
+use Rattle.uno_run.proofs.AnswerRuns.{no_words, own_no_words, own_run}
 use Rattle.uno_run.proofs.top.answer.Goals as goal
 
 pub returns-in-Ok-clause-run : goal.returns-in-Ok-clause-run
@@ -10,4 +10,7 @@ pub returns-in-Ok-clause-no_words : goal.returns-in-Ok-clause-no_words
 returns-in-Ok-clause-no_words g c = no_words c.serve.result c.serve.ensures.ends
 
 pub returns-in-Err-clause-run : goal.returns-in-Err-clause-run
-returns-in-Err-clause-run g c = inr (refl, (refl, refl))
+returns-in-Err-clause-run g c = inr (c.in-Err.ensures.refused, (refl, refl))
+
+pub returns-in-Err-clause-no_words : goal.returns-in-Err-clause-no_words
+returns-in-Err-clause-no_words g c = own_no_words _ _ _ c.in-Err.ensures.refused

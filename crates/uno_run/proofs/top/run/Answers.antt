@@ -1,5 +1,5 @@
 use Rattle.std.proofs.Common.{refl, sym, ◌∙◌, inr}
-use Rattle.uno_run.proofs.AnswerRuns.{idle_run}
+use Rattle.uno_run.proofs.AnswerRuns.{idle_run, own_lost}
 use Rattle.uno_run.proofs.CompileRuns as compile
 use Rattle.uno_run.proofs.DrillRuns as drill
 use Rattle.uno_run.proofs.Keeping.{for_memory}
@@ -13,7 +13,7 @@ pub returns-in-Ok-clause-answer_plan : goal.returns-in-Ok-clause-answer_plan
 returns-in-Ok-clause-answer_plan g c = λ types plan is. c.obey.ensures.answer_plan types plan (sym c.in-Ok.ensures ∙ is)
 
 pub returns-in-Err-NoMemory-clause-answer : goal.returns-in-Err-NoMemory-clause-answer
-returns-in-Err-NoMemory-clause-answer g c = λ is. (refl, inr (for_memory _ c.report-in-Err-NoMemory.ensures.kept, (refl, refl)))
+returns-in-Err-NoMemory-clause-answer g c = λ is. (refl, inr (own_lost _ _ _ (for_memory _ c.report-in-Err-NoMemory.ensures.kept), (refl, refl)))
 
 pub returns-in-Err-NoMemory-clause-answer_plan : goal.returns-in-Err-NoMemory-clause-answer_plan
 returns-in-Err-NoMemory-clause-answer_plan g c = λ types plan is.
